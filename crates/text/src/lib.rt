@@ -1,0 +1,1 @@
+// What every layer above speaks of: bytes, the characters of names, texts written over a buffer.
