@@ -1,0 +1,3 @@
+-- The laws of the packed field.
+pub mod Scan
+pub mod Signs

@@ -1,0 +1,17 @@
+// The packed field of document 01: a figure in base 40, given or missing, in 1 to 5 bytes.
+mod read;
+mod sign;
+mod table;
+mod write;
+
+// What a field or a record holds: a number, or that there is none.
+pub enum Figure {
+    Given(i32),
+    Missing,
+}
+
+// What reading a field gives: what it holds, or the refusal's code and its place in the field.
+pub enum Packed {
+    Is(Figure),
+    Refused(u8, usize),
+}
