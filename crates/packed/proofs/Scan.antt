@@ -5,16 +5,16 @@ use mathlib.Core.List.{List, [], _∷_}
 use Prim.Native.Nat.{ℕ, zero, suc, _+_, _-_, _*_, _^_, _≤_, _<_}
 use native.Mathlib.Omega.{arith}
 use native.Mathlib.Numerals.{add-one}
-use lib.Dec.{ltb}
+use lib.Dec.{ltb, lit<}
 use lib.ListN.{length, getD, take, drop, length-drop, drop-of-length-le}
 use lib.Seq.{drop-cons, take-all}
 use borrow.Author.Tests.{lt-ltb, le-ltb, eq-eqb, ne-eqb}
-use native.Mathlib.Nat.{add-zero, pow-suc}
+use native.Mathlib.Nat.{add-zero, pow-suc, pow-le-pow-right}
 use lib.Arith.{digits-lt}
 use borrow.Author.Tests.{ltb-true, eqb-true, le-leb}
 use lib.Dec.{eqb}
 use Rattle.text.proofs.Cases.{by-test, both-left, both-right}
-use Rattle.packed.specs.Packed.{trim, allSolidi, allDigits, worthOf, number, readPacked, spelt}
+use Rattle.packed.specs.Packed.{trim, allSolidi, allDigits, worthOf, number, readPacked, spelt, halfOf}
 use Rattle.packed.specs.Steps.{numberOf, otherField}
 use Rattle.packed.specs.declared.read.Number.the-variants.{Whole, Other}
 
@@ -139,3 +139,9 @@ whole-digits ds n e =
 -- the part of a slice from a place to its end
 pub tail : (l : List ℕ) (i : ℕ) → take (length l - i) (drop i l) ≡ drop i l
 tail l i = take-all (length l - i) (drop i l) (omega (arith, length-drop i l))
+
+-- no half is large
+pub half-small : (k : ℕ) → k ≤ 5 → halfOf k < 2 ^ 30
+unfolding halfOf
+half-small zero h = lit< tt
+half-small (suc k) h = omega (arith, pow-le-pow-right {n = 40} (lit< tt) {i = k} {j = 4} (omega arith))

@@ -110,12 +110,16 @@ unfoldable pub spell : ℕ → ℕ → List ℕ → List ℕ
 spell zero n ds = ds
 spell (suc k) n ds = spell k (n / 40) (digitOf (n % 40) ∷ ds)
 
--- x in k digits behind spaces, w bytes in all
-abbrev pub behindSpaces : ℕ → ℕ → ℤ → List ℕ
-behindSpaces w k x = replicate (w - k) 32 ++ spell k (above x (halfOf k)) []
+-- k digits of n behind spaces, w bytes in all
+abbrev pub behindSpaces : ℕ → ℕ → ℕ → List ℕ
+behindSpaces w k n = replicate (w - k) 32 ++ spell k n []
+
+-- x in k digits behind spaces
+abbrev pub spelling : ℕ → ℕ → ℤ → List ℕ
+spelling w k x = behindSpaces w k (above x (halfOf k))
 
 unfoldable pub fieldOf : ℕ → Figure → List ℕ
-fieldOf w (Given x) = behindSpaces w (fewest w (mag x)) x
+fieldOf w (Given x) = spelling w (fewest w (mag x)) x
 fieldOf w Missing = replicate w 47
 
 -- a figure that w digits hold, or a missing one

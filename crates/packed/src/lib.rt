@@ -1,8 +1,8 @@
 // The packed field of document 01: a figure in base 40, given or missing, in 1 to 5 bytes.
-mod read;
+pub mod read;
 mod sign;
-mod table;
-mod write;
+pub mod table;
+pub mod write;
 
 // What a field or a record holds: a number, or that there is none.
 pub enum Figure {

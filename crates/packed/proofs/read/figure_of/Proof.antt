@@ -5,22 +5,16 @@ use native.Mathlib.Omega.{arith}
 use Rattle.packed.specs.Packed.{spelt, halfOf, holds}
 use mathlib.Core.Path.{_≡_, refl, sym, _∙_, ap}
 use borrow.Author.Tests.{lt-ltb, le-ltb}
-use Prim.Native.Nat.{ℕ, zero, suc, _≤_, _<_, _*_, _^_, _-_}
+use Prim.Native.Nat.{_-_}
 use mir.Facts.{toZ-ofZ}
 use mir.Syntax.{w32}
 use borrow.Author.Needs.{sfits-of}
-use native.Mathlib.Nat.{pow-le-pow-right}
-use lib.Dec.{lit<}
+use Rattle.packed.proofs.Scan.{half-small}
 use lib.IntN.{subℕ}
 use lib.Signed.{mag}
 use lib.Dec.{ltb}
 
 -- [extra
-half-small : (k : ℕ) → k ≤ 5 → halfOf k < 2 ^ 31
-unfolding halfOf
-half-small zero h = lit< tt
-half-small (suc k) h = omega (arith, pow-le-pow-right {n = 40} (lit< tt) {i = k} {j = 4} (omega arith))
-
 figure : (c : tie.After-less) → c .less .result ≡ subℕ (c .before .before .args .n) (halfOf (c .before .before .args .k))
 figure c = c .less .ensures ∙ ap (subℕ (c .before .before .args .n)) (c .before .half .ensures)
 
@@ -41,7 +35,7 @@ half-requires : tie.Need-half-requires
 half-requires c κs = search needs
 
 less-requires : tie.Need-less-requires
-less-requires c κs = (c .before .pre .1, rw (c .half .ensures) (half-small _ (c .before .pre .0 .1)))
+less-requires c κs = (c .before .pre .1, rw (c .half .ensures) (omega (arith, half-small _ (c .before .pre .0 .1))))
 
 size-requires : tie.Need-size-requires
 size-requires c κs = search needs
