@@ -1,4 +1,6 @@
 -- The laws of the packed field.
+pub mod Digits
 pub mod Put
+pub mod RoundTrip
 pub mod Scan
 pub mod Signs

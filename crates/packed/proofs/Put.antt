@@ -106,4 +106,5 @@ writes x w room e =
       some = leb-true 1 w (both-left (leb 1 w) (leb w 5) (f .0));
       few = leb-true w 5 (both-right (leb 1 w) (leb w 5) (f .0));
       held = f .1;
-      fits = leb-true w room (f .2) }
+      fits = leb-true w room (f .2);
+    }

@@ -113,10 +113,10 @@ unfolding readPacked numberOf
 read-digits f n a b e =
     by-test (ltb 0 (length (trim f)) && allDigits (trim f))
     (λ (t : (ltb 0 (length (trim f)) && allDigits (trim f)) ≡ true).
-      let v : number 0 (trim f) ≡ n = whole-is (rw t at e) in
-      by-test (allSolidi f)
-      (λ (s : allSolidi f ≡ true). absurd (true-false (sym t ∙ solidi-none f s)))
-      (λ (s : allSolidi f ≡ false). rw (le-leb 1 (length f) a, le-leb (length f) 5 b, s, t, v)))
+    let v : number 0 (trim f) ≡ n = whole-is (rw t at e) in
+    by-test (allSolidi f)
+    (λ (s : allSolidi f ≡ true). absurd (true-false (sym t ∙ solidi-none f s)))
+    (λ (s : allSolidi f ≡ false). rw (le-leb 1 (length f) a, le-leb (length f) 5 b, s, t, v)))
     (λ (t : (ltb 0 (length (trim f)) && allDigits (trim f)) ≡ false). absurd (other-whole (rw t at e)))
 
 -- anything else is missing or refused
@@ -133,7 +133,7 @@ unfolding numberOf
 whole-digits ds n e =
     by-test (ltb 0 (length ds) && allDigits ds)
     (λ (t : (ltb 0 (length ds) && allDigits ds) ≡ true).
-      (both-right (ltb 0 (length ds)) (allDigits ds) t, whole-is (rw t at e), ltb-true 0 (length ds) (both-left (ltb 0 (length ds)) (allDigits ds) t)))
+    (both-right (ltb 0 (length ds)) (allDigits ds) t, whole-is (rw t at e), ltb-true 0 (length ds) (both-left (ltb 0 (length ds)) (allDigits ds) t)))
     (λ (t : (ltb 0 (length ds) && allDigits ds) ≡ false). absurd (other-whole (rw t at e)))
 
 -- the part of a slice from a place to its end

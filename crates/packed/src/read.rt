@@ -1,10 +1,9 @@
 // Reading a packed field.
+use crate::Figure;
+use crate::Packed;
 use crate::sign::less;
 use crate::sign::size;
 use crate::table::worth;
-use crate::Figure;
-use crate::Packed;
-
 ghost use mathlib.Core.Path.{_≡_};
 ghost use Prim.Native.Nat.{_≤_, _<_, _^_};
 ghost use lib.ListN.{length, drop};

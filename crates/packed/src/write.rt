@@ -1,10 +1,9 @@
 // Writing a packed field.
+use crate::Figure;
 use crate::read::half;
 use crate::sign::plus;
 use crate::sign::size;
 use crate::table::digit;
-use crate::Figure;
-
 ghost use mathlib.Core.Path.{_≡_};
 ghost use mathlib.Core.Bool.{true};
 ghost use mathlib.Core.List.{[]};
@@ -12,7 +11,17 @@ ghost use Prim.Native.Nat.{_≤_, _<_};
 ghost use lib.ListN.{length, replicate};
 ghost use lib.Signed.{mag};
 ghost use Rattle.packed.specs.Packed.{
-    digits, fewest, spell, behindSpaces, spelling, fieldOf, fitting, widthOk, halfOf, writeCode, written
+  digits,
+  fewest,
+  spell,
+  behindSpaces,
+  spelling,
+  fieldOf,
+  fitting,
+  widthOk,
+  halfOf,
+  writeCode,
+  written,
 };
 
 // The fewest digits, w at the most, that hold a figure of size m.

@@ -21,14 +21,16 @@ figure c = c .less .ensures ∙ ap (subℕ (c .before .before .args .n)) (c .bef
 -- the code's test is the definition's
 tested : (c : tie.After-half2)
     → ltb (c .before .size .result) (c .half2 .result)
-      ≡ ltb (mag (subℕ (c .before .before .before .before .args .n) (halfOf (c .before .before .before .before .args .k))))
-        (halfOf (c .before .before .before .before .args .k - 1))
+    ≡ ltb (mag (subℕ (c .before .before .before .before .args .n) (halfOf (c .before .before .before .before .args .k))))
+    (halfOf (c .before .before .before .before .args .k - 1))
 tested c =
-    rw
-    (c .before .size .ensures,
-    toZ-ofZ {w = w32} (sfits-of (c .before .before .less .ok)),
-    figure (c .before .before),
-    c .half2 .ensures)
+    rw (
+      c .before .size .ensures,
+      toZ-ofZ {w = w32} (sfits-of (c .before .before .less .ok)),
+      figure (c .before .before),
+      c .half2 .ensures,
+    )
+
 -- extra]
 
 half-requires : tie.Need-half-requires

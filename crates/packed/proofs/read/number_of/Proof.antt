@@ -28,6 +28,7 @@ room : (c : tie.In-loop Inv-loop μ-loop) → c .before .loop .n * 40 + 40 < 2 ^
 room c =
     let h : c .before .loop .i ≤ 4 = omega (arith, c .before .before .before .before .pre) in
     omega (arith, c .before .loop .inv .1, pow-le-pow-right {n = 40} (lit< tt) {i = c .before .loop .i} {j = 4} h)
+
 -- extra]
 
 returns : tie.Need-returns Inv-loop μ-loop
@@ -48,9 +49,10 @@ unfolding numberOf
 returns-2 c =
     let l = c .before .before .before .before in
     let w = rw (c .before .worth .ensures) at (c .if2 .taken) in
-    rw
-    (lt-ltb 0 (length (l .before .before .before .args .s .now)) (omega arith),
-    l .loop .inv .2 ∙ digits-stop _ _ (c .before .before .before .loop-test .taken) w)
+    rw (
+      lt-ltb 0 (length (l .before .before .before .args .s .now)) (omega arith),
+      l .loop .inv .2 ∙ digits-stop _ _ (c .before .before .before .loop-test .taken) w,
+    )
 
 mul-n : tie.Need-mul-n Inv-loop μ-loop
 mul-n c = record { fits = omega (arith, room (c .before .before .before)) }
@@ -72,20 +74,22 @@ loop-again c =
     let l = c .before .before .before .before .before in
     let t = c .before .before .before .before .loop-test .taken in
     let w = c .wide .ensures ∙ c .before .before .worth .ensures in
-    let d = rw (c .before .before .worth .ensures) at (c .before .if2 .left) in
-    (omega arith,
-    rw (add-one, pow-suc, w) (digits-lt (l .loop .inv .1) d),
-    l .loop .inv .2 ∙ digits-step _ _ t d,
-    rw w (l .loop .inv .3 ∙ number-step _ _ _ t))
+    let d = rw (c .before .before .worth .ensures) at (c .before .if2 .left) in (
+      omega arith,
+      rw (add-one, pow-suc, w) (digits-lt (l .loop .inv .1) d),
+      l .loop .inv .2 ∙ digits-step _ _ t d,
+      rw w (l .loop .inv .3 ∙ number-step _ _ _ t),
+    )
 
 returns-3 : tie.Need-returns-3 Inv-loop μ-loop
 unfolding numberOf
 returns-3 c =
     let l = c .before in
-    rw
-    (lt-ltb 0 (length (l .before .before .before .args .s .now)) (omega arith),
-    l .loop .inv .2 ∙ digits-end _ _ (c .loop-test .left),
-    l .loop .inv .3 ∙ number-end _ _ _ (c .loop-test .left))
+    rw (
+      lt-ltb 0 (length (l .before .before .before .args .s .now)) (omega arith),
+      l .loop .inv .2 ∙ digits-end _ _ (c .loop-test .left),
+      l .loop .inv .3 ∙ number-end _ _ _ (c .loop-test .left),
+    )
 
 pub number-of-spec : {M : Type 1} → statement M
 number-of-spec =

@@ -24,7 +24,7 @@ use Rattle.packed.specs.declared.read.Number.the-variants.{Whole, Other}
 -- what stands behind the spaces is the field trimmed
 left : (c : tie.After-behind-spaces)
     → let f = c .before .before .before .before .args .f .now in
-      length f - c .behind-spaces .result ≡ length (trim f)
+    length f - c .behind-spaces .result ≡ length (trim f)
 left c =
     let f = c .before .before .before .before .args .f .now in
     sym (length-drop (c .behind-spaces .result) f) ∙ ap length (c .behind-spaces .ensures .1)
@@ -39,6 +39,7 @@ seen c =
 found : (c : tie.After-run)
     → numberOf (trim (c .before .before .before .before .before .before .before .before .args .f .now)) ≡ Whole (c .run .given .0 .0)
 found c = sym (seen (c .before .before)) ∙ c .run .given .1
+
 -- extra]
 
 returns : tie.Need-returns
@@ -75,9 +76,10 @@ figure-of-requires c κs =
     let b = c .before .before .before .before .before in
     let f = b .before .before .before .before .args .f .now in
     let w = whole-digits (trim f) _ (found (c .before)) in
-    let e = left b in
-    ((omega arith, omega arith),
-    rw (sym (w .1)) (omega (arith, number-lt (trim f) 0 0 (lit< tt) (w .0), pow-le-pow-right {n = 40} (lit< tt) {i = 0 + length (trim f)} {j = 5} (omega arith))))
+    let e = left b in (
+      (omega arith, omega arith),
+      rw (sym (w .1)) (omega (arith, number-lt (trim f) 0 0 (lit< tt) (w .0), pow-le-pow-right {n = 40} (lit< tt) {i = 0 + length (trim f)} {j = 5} (omega arith))),
+    )
 
 enum-told : tie.Need-enum-told
 enum-told c = search needs

@@ -17,6 +17,7 @@ use lib.IntN.{_-ℤ_, subℕ}
 difference : (c : tie.Start) → toZ w32 (c .args .n) -ℤ toZ w32 (c .args .h) ≡ subℕ (c .args .n) (c .args .h)
 difference c =
     rw (toZ-pos w32 {n = c .args .n} (c .pre .0), toZ-pos w32 {n = c .args .h} (c .pre .1)) (sub-pos (c .args .n) (c .args .h))
+
 -- extra]
 
 cast-result : tie.Need-cast-result

@@ -22,6 +22,7 @@ sum c =
 
 small : (c : tie.Start) → SFits w32 (pos (above (c .args .x) (c .args .h)))
 small c = sfits-of (omega (arith, above-lt (c .args .x) (c .args .h) (c .pre .0), c .pre .1))
+
 -- extra]
 
 cast-result : tie.Need-cast-result

@@ -28,6 +28,7 @@ at-least c = let e = own (c .before) in e ∙ pos-size (c .before .args .x) (rw 
 
 small : (c : tie.Start) → SFits w32 (pos (mag (c .args .x)))
 small c = sfits-of (c .fits .x .sfits)
+
 -- extra]
 
 sub-result : tie.Need-sub-result

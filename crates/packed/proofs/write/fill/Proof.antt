@@ -31,10 +31,11 @@ loop-less c = search needs
 loop-again : tie.Need-loop-again Inv-loop μ-loop
 loop-again c =
     let l = c .before in
-    let o = l .before .args .out .now in
-    (omega arith,
-    rw (length-set (l .loop .out) (l .loop .i) (l .before .args .b)) (l .loop .inv .1),
-    rw (l .loop .inv .2) (fill-more (l .loop .i) _ o (omega arith)))
+    let o = l .before .args .out .now in (
+      omega arith,
+      rw (length-set (l .loop .out) (l .loop .i) (l .before .args .b)) (l .loop .inv .1),
+      rw (l .loop .inv .2) (fill-more (l .loop .i) _ o (omega arith)),
+    )
 
 same-length : tie.Need-same-length Inv-loop μ-loop
 same-length c = search needs

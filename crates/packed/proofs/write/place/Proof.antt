@@ -53,7 +53,7 @@ returns c =
     let back = c .before .before .spell-into in
     let h : g ≤ length l = omega arith in
     let p : front .last .0 ≡ replicate g 32 =
-      front .ensures ∙ ap (λ (n : ℕ). replicate n 32) (length-take-le g l h) in
+    front .ensures ∙ ap (λ (n : ℕ). replicate n 32) (length-take-le g l h) in
     let e : length (front .last .0) ≡ g = ap length p ∙ length-replicate g 32 in
     let k : length l - g ≡ a .k = omega (arith, s .pre .1) in
     let q : back .last .1 .0 ≡ spell (a .k) (a .n) [] = back .ensures ∙ rw (rest-length l (front .last .0) g h e ∙ k) in

@@ -24,6 +24,7 @@ holds-it : (c : tie.After-figure) → mag (c .figure .given .0 .0) < halfOf (len
 holds-it c =
     let s = c .before .before .before in
     ltb-true _ _ (rw (c .figure .given .1) at (s .pre .1 .1))
+
 -- extra]
 
 enum-known-figure : tie.Need-enum-known-figure

@@ -30,13 +30,14 @@ size-is c = c .size .ensures ∙ ap mag (own (c .before .before))
 -- the digits fit the part and hold the figure
 few : (c : tie.After-fewest-of)
     → let s = c .before .before .before in
-      (c .fewest-of .result ≤ length (s .args .out .now)) × (c .fewest-of .result ≤ 5) × (mag (s .args .x) < halfOf (c .fewest-of .result))
+    (c .fewest-of .result ≤ length (s .args .out .now)) × (c .fewest-of .result ≤ 5) × (mag (s .args .x) < halfOf (c .fewest-of .result))
 few c =
     let s = c .before .before .before in
     let w = length (s .args .out .now) in
     let m = mag (s .args .x) in
     let e : c .fewest-of .result ≡ fewest w m = c .fewest-of .ensures ∙ ap (fewest w) (size-is (c .before)) in
     rw e (fewest-le w m, omega (arith, fewest-le w m, s .pre .1 .0), fewest-holds w m (s .pre .1 .1))
+
 -- extra]
 
 size-requires : tie.Need-size-requires

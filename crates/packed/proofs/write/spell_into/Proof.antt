@@ -36,10 +36,11 @@ loop-less c = search needs
 
 loop-again : tie.Need-loop-again Inv-loop μ-loop
 loop-again c =
-    let l = c .before .before .before in
-    (rw (length-set (l .loop .out) (l .loop .i - 1) (c .digit .result)) (omega arith),
-    rw (length-set (l .loop .out) (l .loop .i - 1) (c .digit .result)) (l .loop .inv .1),
-    l .loop .inv .2 ∙ rw (c .digit .ensures, c .before .low .ensures) (spell-step _ _ _ (c .before .before .loop-test .taken) (l .loop .inv .0)))
+    let l = c .before .before .before in (
+      rw (length-set (l .loop .out) (l .loop .i - 1) (c .digit .result)) (omega arith),
+      rw (length-set (l .loop .out) (l .loop .i - 1) (c .digit .result)) (l .loop .inv .1),
+      l .loop .inv .2 ∙ rw (c .digit .ensures, c .before .low .ensures) (spell-step _ _ _ (c .before .before .loop-test .taken) (l .loop .inv .0)),
+    )
 
 same-length : tie.Need-same-length Inv-loop μ-loop
 same-length c = search needs

@@ -17,17 +17,18 @@ use borrow.Author.Tests.{eq-eqb, ne-eqb}
 -- [extra
 fine : (c : tie.Then1)
     → let a = c .before .before .before .args in
-      Writes (a .figure) (a .width) (length (a .out .now))
+    Writes (a .figure) (a .width) (length (a .out .now))
 fine c =
     let a = c .before .before .before .args in
     writes (a .figure) (a .width) (length (a .out .now)) (sym (c .before .code-of .ensures) ∙ c .if1 .taken)
 
 wide : (c : tie.Then1)
     → let a = c .before .before .before .args in
-      length (take (a .width) (a .out .now)) ≡ a .width
+    length (take (a .width) (a .out .now)) ≡ a .width
 wide c =
     let a = c .before .before .before .args in
     length-take-le (a .width) (a .out .now) (fine c .fits)
+
 -- extra]
 
 code-of-requires : tie.Need-code-of-requires
@@ -54,7 +55,7 @@ returns c =
     let a = t .before .before .before .args in
     let e = t .before .code-of .ensures in
     let p : c .before .before .put .last .1 .1 .0 ≡ fieldOf (a .width) (a .figure) =
-      c .before .before .put .ensures ∙ ap (λ (n : ℕ). fieldOf n (a .figure)) (wide t) in
+    c .before .before .put .ensures ∙ ap (λ (n : ℕ). fieldOf n (a .figure)) (wide t) in
     (e, rw (eq-eqb _ 0 (sym e ∙ t .if1 .taken)) (ap (λ (l : List ℕ). l ++ drop (a .width) (a .out .now)) p))
 
 returns-2 : tie.Need-returns-2
