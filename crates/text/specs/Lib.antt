@@ -1,1 +1,5 @@
+pub mod Checks
+pub mod Equal
+pub mod Names
+pub mod Over
 pub mod Table
