@@ -4,9 +4,12 @@ use native.Mathlib.Omega.{arith}
 use native.Mathlib.Nat.{add-assoc, add-zero, zero-add}
 use native.Mathlib.Numerals.{add-one}
 use mathlib.Core.Path.{_≡_, refl, sym, ap, _∙_}
+use mathlib.Core.Bool.{cond}
 use mathlib.Core.List.{List, [], _++_, append-assoc, append-nil}
 use lib.ListN.{length, getD, set, take, drop, length-append, length-drop, take-append-drop}
+use lib.Dec.{leb}
 use lib.Seq.{drop-drop, paste, paste-suc, sets, sets-eq, length-take-le, take-at, drop-at, take-take, take-add, drop-append-le, drop-length}
+use borrow.Author.Tests.{le-leb}
 use borrow.Rule.Slice.PartMut.{putMid}
 use Rattle.text.specs.Over.{over}
 use Rattle.text.proofs.Parts.{part-length}
@@ -97,3 +100,13 @@ pub then-part : (d D zs t u : List ℕ) (at p e : ℕ) → D ≡ over d at t →
 then-part d D zs t u at p e is starts fits ends wrote =
     let n : length D ≡ length d = length-then d D t at is (omega arith) in
     ap (putMid p (e - p) D) wrote ∙ part-over D p e 0 u (omega arith) (omega arith) ∙ rw (add-zero, is, starts) (over-over d at t u (omega arith))
+
+-- the same where `copy` wrote the next text
+pub then-copy : (d D zs t u : List ℕ) (at p e : ℕ) → D ≡ over d at t → p ≡ at + length t → p + length u ≤ e → e ≤ length d
+    → zs
+    ≡ cond (leb (length u) (length (take (e - p) (drop p D)))) (over (take (e - p) (drop p D)) 0 u) (take (e - p) (drop p D))
+    → putMid p (e - p) D zs ≡ over d at (t ++ u)
+then-copy d D zs t u at p e is starts fits ends wrote =
+    let n : length D ≡ length d = length-then d D t at is (omega arith) in
+    let room : length u ≤ length (take (e - p) (drop p D)) = rw (part-length D p e (omega arith)) (omega arith) in
+    then-part d D zs t u at p e is starts fits ends (rw (le-leb (length u) (length (take (e - p) (drop p D))) room) at wrote)

@@ -2,4 +2,5 @@ pub mod Checks
 pub mod Equal
 pub mod Names
 pub mod Over
+pub mod Parts
 pub mod Table
