@@ -1,11 +1,11 @@
 -- Parts of a text: `take n (drop at s)` is the n bytes from a place on.
 use mathlib.Core.Path.{_≡_, refl, sym, ap, _∙_}
-use mathlib.Core.List.{List, _∷_, _++_}
+use mathlib.Core.List.{List, _∷_, _++_, append-assoc}
 use Prim.Native.Nat.{ℕ, zero, suc, _+_, _-_, _≤_}
 use native.Mathlib.Omega.{arith}
 use native.Mathlib.Nat.{add-zero}
 use lib.ListN.{length, getD, take, drop, length-drop, take-append-drop}
-use lib.Seq.{drop-cons, drop-drop, length-take-le, take-all}
+use lib.Seq.{drop-cons, drop-drop, length-take-le, take-all, take-at, drop-at}
 use Rattle.text.specs.Parts.{part}
 use Rattle.text.specs.Table.{values}
 
@@ -31,3 +31,7 @@ part-bytes n at s h = ap (λ (k : ℕ). take n (drop k s)) (sym (add-zero at)) �
 -- all of a text, as a part that runs to its end
 pub part-whole : (s : List ℕ) → take (length s - 0) (drop 0 s) ≡ s
 part-whole s = take-all (length s - 0) s (omega arith)
+
+-- what stands in the middle of three texts, as a part of them
+pub part-middle : (x y z : List ℕ) (at n : ℕ) → length x ≡ at → length y ≡ n → part at n (x ++ y ++ z) ≡ y
+part-middle x y z at n starts long = rw (append-assoc x y z, drop-at x (y ++ z) at starts) (take-at y z n long)
