@@ -36,6 +36,7 @@ pub length-over : (d : List ℕ) (at : ℕ) (t : List ℕ) → at + length t ≤
 unfolding over
 length-over d at t h = simp (length-append, length-drop, length-take-le at d (omega arith)) (omega arith)
 
+-- and so does what a text was written over
 pub length-then : (d D t : List ℕ) (at : ℕ) → D ≡ over d at t → at + length t ≤ length d → length D ≡ length d
 length-then d D t at e h = ap length e ∙ length-over d at t h
 
@@ -49,22 +50,26 @@ pub over-whole : (d t : List ℕ) → length t ≡ length d → over d 0 t ≡ t
 unfolding over
 over-whole d t e = rw (zero-add, e, drop-length, append-nil t)
 
--- what stands before the text, in its place, and after it
+-- where a text fits
 module _ (d : List ℕ) (at : ℕ) (t : List ℕ) (h : at + length t ≤ length d) where
   head-length : length (take at d) ≡ at
   head-length = length-take-le at d (omega arith)
 
+  -- what stands before the text stays
   pub before-over : take at (over d at t) ≡ take at d
   unfolding over
   before-over = rw (append-assoc) (take-at (take at d) (t ++ drop (at + length t) d) at head-length)
 
+  -- from its place on there is the text, and then what was beyond it
   pub from-over : drop at (over d at t) ≡ t ++ drop (at + length t) d
   unfolding over
   from-over = rw (append-assoc) (drop-at (take at d) (t ++ drop (at + length t) d) at head-length)
 
+  -- the text is found in its place
   pub found-over : take (length t) (drop at (over d at t)) ≡ t
   found-over = rw from-over (take-at t (drop (at + length t) d) (length t) refl)
 
+  -- what stands beyond it stays
   pub after-over : drop (at + length t) (over d at t) ≡ drop (at + length t) d
   after-over =
       sym (drop-drop (length t) at (over d at t)) ∙ ap (drop (length t)) from-over ∙ drop-at t (drop (at + length t) d) (length t) refl
