@@ -1,3 +1,8 @@
 -- The laws that the layers above cite.
 pub mod Cases
+pub mod Checks
+pub mod Equal
+pub mod Names
+pub mod Over
+pub mod Parts
 pub mod Table

@@ -1,1 +1,6 @@
+pub mod Checks
+pub mod Equal
+pub mod Names
+pub mod Over
+pub mod Parts
 pub mod Table

@@ -1,1 +1,66 @@
 // What every layer above speaks of: bytes, the characters of names, texts written over a buffer.
+ghost use mathlib.Core.Path.{_≡_};
+ghost use mathlib.Core.Bool.{cond};
+ghost use lib.ListN.{length};
+ghost use lib.Dec.{leb};
+ghost use Rattle.text.specs.Names.{allowed, allAllowed};
+ghost use Rattle.text.specs.Equal.{sameBytes};
+ghost use Rattle.text.specs.Over.{over};
+
+// What a check finds: all fine, or a refusal with its code and its place.
+pub enum Seen {
+    Fine,
+    Bad(u8, usize),
+}
+
+// Airfield and designator bytes are `A`-`Z` or `0`-`9`.
+pub fn is_allowed(b: u8) -> bool
+    ensures { λ r. ⌜ r ≡ allowed b ⌝ }
+{
+    (b'A' <= b) & (b <= b'Z') | (b'0' <= b) & (b <= b'9')
+}
+
+// Whether every byte is one that a name may have. The answers are gathered and the loop has one way out, so it runs many bytes at a time.
+pub fn all_allowed(s: &[u8]) -> bool
+    ensures { λ r. ⌜ r ≡ allAllowed (now (s .entry)) ⌝ }
+{
+    let mut fine = true;
+    let mut i = 0;
+    while i < s.len() {
+        fine = fine & is_allowed(s[i]);
+        i += 1;
+    }
+    fine
+}
+
+// Whether two texts are the same bytes. Gathered, as above.
+pub fn same(a: &[u8], b: &[u8]) -> bool
+    ensures { λ r. ⌜ r ≡ sameBytes (now (a .entry)) (now (b .entry)) ⌝ }
+{
+    if a.len() != b.len() {
+        return false;
+    }
+    let mut fine = true;
+    let mut i = 0;
+    while i < a.len() {
+        fine = fine & (a[i] == b[i]);
+        i += 1;
+    }
+    fine
+}
+
+// Writes `s` over the start of `d`; where it has no room there, `d` stays as it is.
+pub fn copy(d: &mut [u8], s: &[u8])
+    ensures { λ _. ⌜
+        now (d .exit)
+        ≡ cond (leb (length (now (s .entry))) (length (now (d .entry)))) (over (now (d .entry)) 0 (now (s .entry))) (now (d .entry))
+        ⌝ }
+{
+    if s.len() <= d.len() {
+        let mut i = 0;
+        while i < s.len() {
+            d[i] = s[i];
+            i += 1;
+        }
+    }
+}
