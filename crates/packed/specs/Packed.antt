@@ -93,6 +93,11 @@ readPacked f =
     (Refused 4 (fault f))))
     (Refused 1 0)
 
+-- where a refusal points, 0 where there is none
+abbrev pub placeOf : Packed → ℕ
+placeOf (Is x) = 0
+placeOf (Refused code place) = place
+
 -- ---- Writing
 
 -- the fewest digits, k at the most, that hold a figure of that size

@@ -1,0 +1,23 @@
+use borrow.Author.Needs.{needs}
+use Rattle.desk.proofs.packed_calls.esk_packed_read.Statement.{statement}
+use Rattle.desk.proofs.packed_calls.esk_packed_read.Tie as tie
+use mathlib.Core.Path.{_≡_, sym, _∙_, ap}
+use Rattle.packed.specs.Packed.{placeOf, readPacked}
+use Rattle.packed.proofs.Scan.{refusal-place}
+use Rattle.desk.specs.Numbers.{packedNumbers}
+
+worth-table-requires : tie.Need-worth-table-requires
+worth-table-requires c κs = search needs
+
+read-requires : tie.Need-read-requires
+read-requires c κs = search needs
+
+packed-answer-requires : tie.Need-packed-answer-requires
+packed-answer-requires c κs = rw (c .read .ensures) (refusal-place _)
+
+returns : tie.Need-returns
+returns c = c .packed-answer .ensures ∙ ap packedNumbers (c .before .read .ensures)
+
+pub esk-packed-read-spec : {M : Type 1} → statement M
+esk-packed-read-spec =
+    tie.close (tie.spec worth-table-requires read-requires packed-answer-requires returns)

@@ -1,0 +1,46 @@
+use borrow.Author.Needs.{needs}
+use Rattle.desk.proofs.packed_calls.esk_packed_write.Statement.{statement}
+use Rattle.desk.proofs.packed_calls.esk_packed_write.Tie as tie
+use Rattle.desk.proofs.packed_calls.esk_packed_write.Reads as reads
+use Rattle.desk.proofs.packed_calls.esk_packed_write.Lts as lts
+use Rattle.desk.proofs.packed_calls.figure_from.Reads as figure-from-reads
+use Rattle.desk.proofs.packed_calls.write_answer.Reads as write-answer-reads
+use Rattle.packed.proofs.table.digit_table.Reads as digit-table-reads
+use Rattle.packed.proofs.write.write.Reads as write-reads
+use mathlib.Core.Path.{_≡_, sym, _∙_, ap}
+use Prim.Native.Nat.{ℕ}
+use Rattle.packed.specs.Packed.{writeCode, written}
+use Rattle.packed.proofs.Put.{writes}
+use Rattle.desk.specs.Numbers.{figureOf, writeAnswer}
+
+digit-table-requires : tie.Need-digit-table-requires
+digit-table-requires c κs = search needs
+
+figure-from-requires : tie.Need-figure-from-requires
+figure-from-requires c κs = search needs
+
+write-requires : tie.Need-write-requires
+write-requires c κs = search needs
+
+write-answer-requires : tie.Need-write-answer-requires
+write-answer-requires c κs = λ e. writes _ _ _ (sym (c .before .before .write .ensures .0) ∙ e) .few
+
+same-length : tie.Need-same-length
+same-length c = search needs
+
+returns : tie.Need-returns
+returns c =
+    let w = c .before .before .before .write .ensures in
+    let f = c .before .before .before .before .before .figure-from .ensures in
+    (c .write-answer .ensures ∙ rw (w .0, f), w .1 ∙ rw f)
+
+pub esk-packed-write-spec : {M : Type 1} → statement M
+esk-packed-write-spec =
+    tie.close
+    (tie.spec
+    digit-table-requires
+    figure-from-requires
+    write-requires
+    write-answer-requires
+    same-length
+    returns)

@@ -1,0 +1,39 @@
+-- Document 01's numbers for each case of an answer, as the C host gets them.
+use mathlib.Core.Bool.{cond}
+use Prim.Native.Nat.{ℕ, _+_}
+use lib.Dec.{eqb}
+use lib.IntN.{ℤ, pos}
+use Rattle.packed.specs.declared.Figure.{Figure}
+use Rattle.packed.specs.declared.Figure.the-variants.{Given, Missing}
+use Rattle.packed.specs.declared.Packed.{Packed}
+use Rattle.packed.specs.declared.Packed.the-variants.{Is, Refused}
+use Rattle.desk.specs.declared.Answer.{Answer}
+use Rattle.desk.specs.declared.HostFigure.{HostFigure}
+use Rattle.desk.specs.declared.PackedAnswer.{PackedAnswer}
+
+-- ---- Answers that carry a code, a place and a length
+
+abbrev pub accepted : ℕ → Answer
+accepted n = record { place = 0; length = n; code = 0; text = 0 }
+
+abbrev pub refusal : ℕ → ℕ → Answer
+refusal c p = record { place = p; length = 0; code = c; text = 0 }
+
+-- ---- Packed figures
+
+-- a figure from C: any other `given` than 0 is given
+abbrev pub figureOf : HostFigure → Figure
+figureOf f = cond (eqb (f .given) 0) Missing (Given (f .number))
+
+abbrev pub hostFigure : Figure → HostFigure
+hostFigure (Given x) = record { number = x; given = 1 }
+hostFigure Missing = record { number = pos 0; given = 0 }
+
+abbrev pub packedNumbers : Packed → PackedAnswer
+packedNumbers (Is (Given x)) = record { number = x; place = 0; code = 0; given = 1 }
+packedNumbers (Is Missing) = record { number = pos 0; place = 0; code = 0; given = 0 }
+packedNumbers (Refused c p) = record { number = pos 0; place = p; code = c; given = 0 }
+
+-- a lone field's writing: its length is the width
+abbrev pub writeAnswer : ℕ → ℕ → Answer
+writeAnswer c w = cond (eqb c 0) (accepted w) (refusal c 0)

@@ -1,0 +1,112 @@
+// Packed figures for C.
+use crate::Answer;
+use crate::HostFigure;
+use crate::PackedAnswer;
+use packed::Figure;
+use packed::Packed;
+use packed::read::read;
+use packed::table::digit_table;
+use packed::table::worth_table;
+use packed::write::write;
+ghost use mathlib.Core.Path.{_≡_};
+ghost use Prim.Native.Nat.{_≤_};
+ghost use lib.ListN.{length};
+ghost use lib.IntN.{pos};
+ghost use Rattle.packed.specs.Packed.{readPacked, placeOf, writeCode, written};
+ghost use Rattle.desk.specs.Numbers.{packedNumbers, figureOf, writeAnswer};
+
+// A place in a field is small.
+fn narrow(place: usize) -> u16
+    requires { ⌜ place ≤ 5 ⌝ }
+    ensures { λ r. ⌜ r ≡ place ⌝ }
+{
+    place as u16
+}
+
+fn given_answer(number: i32) -> PackedAnswer
+    ensures { λ r. ⌜ r ≡ record { number = number; place = 0; code = 0; given = 1 } ⌝ }
+{
+    PackedAnswer {
+        number,
+        place: 0,
+        code: 0,
+        given: 1,
+    }
+}
+
+fn bare_answer(code: u8, place: u16) -> PackedAnswer
+    ensures { λ r. ⌜ r ≡ record { number = pos 0; place = place; code = code; given = 0 } ⌝ }
+{
+    PackedAnswer {
+        number: 0,
+        place,
+        code,
+        given: 0,
+    }
+}
+
+fn figure_answer(figure: Figure) -> PackedAnswer
+    ensures { λ r. ⌜ r ≡ packedNumbers (Packed.Is figure) ⌝ }
+{
+    match figure {
+        Figure::Given(x) => given_answer(x),
+        Figure::Missing => bare_answer(0, 0),
+    }
+}
+
+fn packed_answer(p: Packed) -> PackedAnswer
+    requires { ⌜ placeOf p ≤ 5 ⌝ }
+    ensures { λ r. ⌜ r ≡ packedNumbers p ⌝ }
+{
+    match p {
+        Packed::Is(figure) => figure_answer(figure),
+        Packed::Refused(code, place) => bare_answer(code, narrow(place)),
+    }
+}
+
+#[no_mangle]
+pub extern "C" fn esk_packed_read(field: &[u8]) -> PackedAnswer
+    ensures { λ r. ⌜ r ≡ packedNumbers (readPacked (now (field .entry))) ⌝ }
+{
+    let t = worth_table();
+    packed_answer(read(&t, field))
+}
+
+fn figure_from(f: HostFigure) -> Figure
+    ensures { λ r. ⌜ r ≡ figureOf f ⌝ }
+{
+    if f.given == 0 {
+        return Figure::Missing;
+    }
+    Figure::Given(f.number)
+}
+
+fn write_answer(code: u8, width: usize) -> Answer
+    requires { ⌜ (code ≡ 0 → width ≤ 5) ⌝ }
+    ensures { λ r. ⌜ r ≡ writeAnswer code width ⌝ }
+{
+    if code == 0 {
+        return Answer {
+            place: 0,
+            length: narrow(width),
+            code: 0,
+            text: 0,
+        };
+    }
+    Answer {
+        place: 0,
+        length: 0,
+        code,
+        text: 0,
+    }
+}
+
+#[no_mangle]
+pub extern "C" fn esk_packed_write(figure: HostFigure, width: usize, out: &mut [u8]) -> Answer
+    ensures { λ r. ⌜ (r ≡ writeAnswer (writeCode (figureOf figure) width (length (now (out .entry)))) width)
+        × (now (out .exit) ≡ written (figureOf figure) width (now (out .entry))) ⌝ }
+{
+    let t = digit_table();
+    let code = write(&t, figure_from(figure), width, out);
+    write_answer(code, width)
+}
