@@ -1,0 +1,18 @@
+// The uplink command of document 01, 22 to 835 bytes.
+use section::Settings;
+
+// What a command carries: flags 0, 1 or 9 (no change), the sections that it names, all others zero; the downlink digit;
+// and for each section number from 2 on, that number where the section is named, else 0.
+#[repr(C)]
+pub struct Command {
+    pub settings: Settings,
+    pub downlink: u8,
+    pub named: [u8; 8],
+}
+
+// What reading gives: the command, or the refusal's code and place beside the one empty command.
+pub struct Got {
+    pub code: u8,
+    pub place: usize,
+    pub command: Command,
+}
