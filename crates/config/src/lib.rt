@@ -1,0 +1,11 @@
+// The onboard configuration that a command changes.
+use section::Settings;
+
+// What applying a command gives: the downlink digit that it asks for and the settings afterwards, or the refusal's code
+// and place beside the one empty digit and settings.
+pub struct Applied {
+    pub code: u8,
+    pub place: usize,
+    pub downlink: u8,
+    pub settings: Settings,
+}

@@ -1,0 +1,67 @@
+-- Document 01, "Joining takes each flag and section from the second text where it sets one, else from the first; the
+-- larger downlink digit is kept."
+use mathlib.Core.Bool.{Bool, cond}
+use mathlib.Core.List.{List, [], _∷_, _++_}
+use Prim.Native.Nat.{ℕ, _+_, max}
+use lib.Dec.{leb, eqb}
+use lib.ListN.{length, getD}
+use Rattle.text.specs.Parts.{part}
+use Rattle.text.specs.Over.{over}
+use Rattle.text.specs.declared.Seen.{Seen}
+use Rattle.text.specs.declared.Seen.the-variants.{Fine, Bad}
+use Rattle.section.specs.Layout.{layoutOf, itemsSize}
+use Rattle.command.specs.Text.{awr04, numbers, isNamed, checkCommand}
+
+-- ---- The parts of an accepted text
+
+-- the bytes of section j with its delimiter: found by walking over the named ones before it, none where it isn't named
+unfoldable pub bytesFrom : List ℕ → List ℕ → ℕ → ℕ → List ℕ
+bytesFrom [] s at j = []
+bytesFrom (k ∷ ks) s at j =
+    cond (isNamed s k)
+    (cond (eqb j k) (part at (itemsSize (layoutOf k) s at) s) (bytesFrom ks s (at + itemsSize (layoutOf k) s at) j))
+    (bytesFrom ks s at j)
+
+abbrev pub bytesOf : List ℕ → ℕ → List ℕ
+bytesOf s k = bytesFrom numbers s 22 k
+
+-- ---- The join
+
+-- from the second where it sets one, else from the first: a flag `9` sets none, an indicator `0` names none
+unfoldable pub choose : ℕ → List ℕ → List ℕ → List ℕ
+choose none [] gs = []
+choose none (f ∷ fs) [] = []
+choose none (f ∷ fs) (g ∷ gs) = cond (eqb g none) f g ∷ choose none fs gs
+
+abbrev pub joinSection : List ℕ → List ℕ → ℕ → List ℕ
+joinSection a b k = cond (isNamed b k) (bytesOf b k) (bytesOf a k)
+
+unfoldable pub joinSections : List ℕ → List ℕ → List ℕ → List ℕ
+joinSections [] a b = []
+joinSections (k ∷ ks) a b = joinSection a b k ++ joinSections ks a b
+
+unfoldable pub joinText : List ℕ → List ℕ → List ℕ
+joinText a b =
+    awr04
+    ++ (choose 57 (part 5 7 a) (part 5 7 b)
+    ++ (max (getD a 12 0) (getD b 12 0)
+    ∷ (choose 48 (part 13 8 a) (part 13 8 b) ++ 47 ∷ joinSections numbers a b)))
+
+-- ---- The answer: the first text's refusals, the second's, then room
+
+pub data Joined : Type 0 where
+  Joins : List ℕ → Joined  -- the text
+  Refuses : ℕ → ℕ → ℕ → Joined  -- code, place, which text
+
+abbrev pub bySeen : Seen → Seen → List ℕ → ℕ → Joined
+bySeen (Bad c p) y t room = Refuses c p 1
+bySeen Fine (Bad c p) t room = Refuses c p 2
+bySeen Fine Fine t room = cond (leb (length t) room) (Joins t) (Refuses 2 0 0)
+
+unfoldable pub join : List ℕ → List ℕ → ℕ → Joined
+join a b room = bySeen (checkCommand a) (checkCommand b) (joinText a b) room
+
+-- what the buffer holds afterwards
+abbrev pub joinedOver : Joined → List ℕ → List ℕ
+joinedOver (Joins t) out = over out 0 t
+joinedOver (Refuses c p n) out = out

@@ -1,0 +1,1 @@
+// Two commands joined into one.
