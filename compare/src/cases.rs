@@ -1,10 +1,29 @@
-//! One case each: both programs on one input, every member of both answers and every byte that was lent.
+//! One case each: what to ask the proved calls, and their replies held against the second program, every member of both
+//! answers and every byte that was lent.
 
-use crate::ours;
+use crate::asked::Replies;
+use crate::meet;
+use crate::ours::{self, bytes_of};
 use crate::second::record::BYTES;
 use crate::second::{packed, report, write, Refusal};
 use crate::tell::{self, BREAK};
-use crate::{figures, meet};
+
+pub enum Case {
+    /// A lone packed field.
+    PackedRead(Vec<u8>),
+    PackedWrite {
+        figure: ours::Figure,
+        width: usize,
+        room: usize,
+    },
+    /// A report's text: checked, read, and where it is accepted its record written back.
+    Report(Vec<u8>),
+    /// A record of the header, written into a room; where it is written, its text read back.
+    Record {
+        record: Box<ours::Report>,
+        room: usize,
+    },
+}
 
 /// How a case came out on both sides: the code, with a missing figure told apart from a given one.
 #[derive(Clone, Copy, Debug, PartialEq, Eq)]
@@ -24,7 +43,7 @@ pub struct Mismatch {
     pub words: String,
 }
 
-type Case = Result<Outcome, Box<Mismatch>>;
+pub type Held = Result<Outcome, Box<Mismatch>>;
 
 fn outcome<T>(answer: &Result<T, Refusal>) -> Outcome {
     match answer {
@@ -33,169 +52,139 @@ fn outcome<T>(answer: &Result<T, Refusal>) -> Outcome {
     }
 }
 
-pub fn hex(bytes: &[u8]) -> String {
-    bytes.iter().map(|byte| format!("{byte:02x}")).collect()
-}
-
-fn shown(bytes: &[u8]) -> String {
-    format!("{} bytes \"{}\"{BREAK}hex {}", bytes.len(), bytes.escape_ascii(), hex(bytes))
-}
-
-pub fn packed_read(field: &[u8]) -> Case {
-    let second = packed::read(field);
-    let want = meet::packed(second);
-    let got = ours::packed_read(field);
-    if got != want {
-        return Err(Box::new(Mismatch {
-            call: "esk_packed_read",
-            input: shown(field),
-            ours: format!("{got:?}"),
-            second: format!("{want:?}"),
-            words: format!("packed-read {}", hex_word(field)),
-        }));
-    }
-    Ok(if second == Ok(None) { Outcome::Missing } else { outcome(&second) })
-}
-
-/// The empty byte string as a word of a command line.
-fn hex_word(bytes: &[u8]) -> String {
-    if bytes.is_empty() {
-        "-".to_string()
-    } else {
-        hex(bytes)
-    }
-}
-
-/// Bytes of a buffer that is lent, with a guard on both sides; all of it is compared afterwards.
+/// A lent buffer has a guard on both sides; all of it is compared afterwards.
 const GUARD: usize = 8;
 
-fn pattern(bytes: &mut [u8]) {
-    for (index, byte) in bytes.iter_mut().enumerate() {
-        *byte = (index as u8).wrapping_mul(37) ^ 0xa5;
-    }
+/// What the second program leaves in an arena of the same room and pattern as host/test/answer.c lends.
+fn arena<T>(room: usize, call: impl FnOnce(&mut [u8]) -> T) -> (T, Vec<u8>) {
+    let mut arena: Vec<u8> = (0..room + 2 * GUARD).map(|index| (index * 37) as u8 ^ 0xa5).collect();
+    let answer = call(&mut arena[GUARD..GUARD + room]);
+    (answer, arena)
 }
 
-pub fn packed_write(figure: ours::Figure, width: usize, room: usize) -> Case {
-    let mut arena = [0; 64];
-    pattern(&mut arena);
-    let mut other = arena;
-    let second = packed::write(meet::meant(figure), width, &mut other[GUARD..GUARD + room]);
-    let want = meet::answer(second);
-    let got = ours::packed_write(figure, width, &mut arena[GUARD..GUARD + room]);
-    if got != want || arena != other {
-        return Err(Box::new(Mismatch {
-            call: "esk_packed_write",
-            input: format!("{figure:?} width {width} room {room}"),
-            ours: format!("{got:?}{BREAK}lent {}", shown(&arena[..2 * GUARD + room])),
-            second: format!("{want:?}{BREAK}lent {}", shown(&other[..2 * GUARD + room])),
-            words: format!("packed-write {} {} {width} {room}", figure.number, figure.given),
-        }));
-    }
-    Ok(outcome(&second))
-}
-
-/// Check, read, and where the text is accepted also that its record writes back the same bytes.
-pub fn report_text(text: &[u8]) -> Case {
-    let second = report::read(text);
-    let refused = second.as_ref().err().copied();
-    let mismatch = |call, ours: String, second: String| {
-        let words = format!("report {}", hex_word(text));
-        Err(Box::new(Mismatch { call, input: shown(text), ours, second, words }))
-    };
-    let checked = report::check(text);
-    if checked.err() != refused {
-        return mismatch("the second program's check", format!("{checked:?}"), format!("its read: {second:?}"));
-    }
-    let want = meet::answer(checked.map(|()| 0));
-    let got = ours::report_check(text);
-    if got != want {
-        return mismatch("esk_report_check", format!("{got:?}"), format!("{want:?}"));
-    }
-    let want = meet::got(&second);
-    let got = ours::report_read(text);
-    if got != want {
-        let [ours, second] = got_words(&got, &want);
-        return mismatch("esk_report_read", ours, second);
-    }
-    if refused.is_none() {
-        let mut back = [0; BYTES];
-        let answer = ours::report_write(got.report, &mut back);
-        let want = meet::answer(Ok(BYTES));
-        if answer != want || back != *text {
-            let ours = format!("{answer:?}{BREAK}lent {}", shown(&back));
-            return mismatch(
-                "esk_report_write of what esk_report_read answered",
-                ours,
-                format!("{want:?} and the text"),
-            );
+impl Case {
+    /// The question in the bytes that host/test/answer.c reads.
+    pub fn question(&self, into: &mut Vec<u8>) {
+        let number = |number: usize| (number as u16).to_le_bytes();
+        match self {
+            Case::PackedRead(bytes) | Case::Report(bytes) => {
+                into.push(if matches!(self, Case::Report(_)) { 3 } else { 1 });
+                into.extend(number(bytes.len()));
+                into.extend(bytes);
+            }
+            Case::PackedWrite { figure, width, room } => {
+                into.push(2);
+                into.extend(bytes_of(figure));
+                into.extend((*width as u64).to_le_bytes());
+                into.extend(number(*room));
+            }
+            Case::Record { record, room } => {
+                into.push(4);
+                into.extend(bytes_of(&**record));
+                into.extend(number(*room));
+            }
         }
     }
-    Ok(outcome(&second))
-}
 
-/// Two answers of esk_report_read in words: of the records only the lines that differ.
-fn got_words(got: &ours::ReportGot, want: &ours::ReportGot) -> [String; 2] {
-    [(got, want), (want, got)].map(|(one, other)| {
-        let differing = tell::differing(&one.report, &other.report);
-        format!("{:?}{BREAK}{differing}", one.answer)
-    })
-}
-
-/// The longest room that a record case lends.
-pub const MOST_ROOM: usize = 256;
-
-/// A record of the header, its litter included, written into a room; where it is written, read back as well.
-pub fn record(record: &ours::Report, room: usize) -> Case {
-    let meant = meet::meant_record(record);
-    let mut arena = [0; MOST_ROOM + 2 * GUARD];
-    pattern(&mut arena);
-    let mut other = arena;
-    let second = write::write(&meant, &mut other[GUARD..GUARD + room]);
-    let want = meet::answer(second);
-    let got = ours::report_write(*record, &mut arena[GUARD..GUARD + room]);
-    let mismatch = |call, ours, second| {
-        let bytes = hex(&record.to_bytes());
-        let words = format!("record {bytes} {room}");
-        let input = format!("room {room}, record{BREAK}{}", tell::record(record).join(BREAK));
-        Err(Box::new(Mismatch { call, input, ours, second, words }))
-    };
-    if got != want || arena != other {
-        let ours = format!("{got:?}{BREAK}lent {}", shown(&arena[..2 * GUARD + room]));
-        let second = format!("{want:?}{BREAK}lent {}", shown(&other[..2 * GUARD + room]));
-        return mismatch("esk_report_write", ours, second);
-    }
-    if second.is_ok() {
-        let text = &arena[GUARD..GUARD + BYTES];
-        let back = ours::report_read(text);
-        let clean = meet::got(&Ok(meant));
-        if back != clean {
-            let [ours, second] = got_words(&back, &clean);
-            return mismatch("esk_report_read of what was written", ours, second);
-        }
-        if report::read(text) != Ok(meant) {
-            let second = format!("{:?}", report::read(text));
-            return mismatch("the second program's read of what was written", format!("{back:?}"), second);
+    /// Takes the replies to this case and holds them against the second program.
+    pub fn hold(&self, replies: &mut Replies) -> Held {
+        match self {
+            Case::PackedRead(field) => self.packed_read(field, replies),
+            Case::PackedWrite { figure, width, room } => self.packed_write(*figure, *width, *room, replies),
+            Case::Report(text) => self.report(text, replies),
+            Case::Record { record, room } => self.record(record, *room, replies),
         }
     }
-    Ok(outcome(&second))
-}
 
-/// A printed packed field of document 01 against the second program alone.
-pub fn printed(field: &[u8], figure: figures::Printed) -> Case {
-    let want = match figure {
-        figures::Printed::Figure(number) => Ok(Some(number)),
-        figures::Printed::Missing => Ok(None),
-        figures::Printed::Code(code) => Err(Refusal { code, place: 0 }),
-    };
-    let got = packed::read(field);
-    if got != want {
-        return Err(Box::new(Mismatch {
-            call: "the second program and document 01's printed figure",
-            input: shown(field),
-            ours: format!("document 01: {want:?}"),
-            second: format!("{got:?}"),
-            words: "printed".to_string(),
-        }));
+    pub fn mismatch<T>(&self, call: &'static str, ours: String, second: String) -> Result<T, Box<Mismatch>> {
+        Err(Box::new(Mismatch { call, input: tell::input(self), ours, second, words: tell::words(self) }))
     }
-    packed_read(field)
+
+    fn packed_read(&self, field: &[u8], replies: &mut Replies) -> Held {
+        let second = packed::read(field);
+        let want = meet::packed(second);
+        let got: ours::Packed = replies.one();
+        if got != want {
+            return self.mismatch("esk_packed_read", format!("{got:?}"), format!("{want:?}"));
+        }
+        Ok(if second == Ok(None) { Outcome::Missing } else { outcome(&second) })
+    }
+
+    fn packed_write(&self, figure: ours::Figure, width: usize, room: usize, replies: &mut Replies) -> Held {
+        let (second, left) = arena(room, |out| packed::write(meet::meant(figure), width, out));
+        self.written("esk_packed_write", &second, &left, replies)?;
+        Ok(outcome(&second))
+    }
+
+    fn report(&self, text: &[u8], replies: &mut Replies) -> Held {
+        let second = report::read(text);
+        let checked = report::check(text);
+        if checked.err() != second.as_ref().err().copied() {
+            let (ours, second) = (format!("check: {checked:?}"), format!("read: {second:?}"));
+            return self.mismatch("the second program's own check and read", ours, second);
+        }
+        let want = meet::answer(checked.map(|()| 0));
+        let got: ours::Answer = replies.one();
+        if got != want {
+            return self.mismatch("esk_report_check", format!("{got:?}"), format!("{want:?}"));
+        }
+        self.read("esk_report_read", &second, replies)?;
+        if second.is_ok() {
+            let (_, mut left) = arena(BYTES, |_| ());
+            left[GUARD..GUARD + BYTES].copy_from_slice(text);
+            self.written("esk_report_write of the record that esk_report_read gave", &Ok(BYTES), &left, replies)?;
+        }
+        Ok(outcome(&second))
+    }
+
+    fn record(&self, record: &ours::Report, room: usize, replies: &mut Replies) -> Held {
+        let meant = meet::meant_record(record);
+        let (second, left) = arena(room, |out| write::write(&meant, out));
+        self.written("esk_report_write", &second, &left, replies)?;
+        if second.is_ok() {
+            self.read("esk_report_read of what was written", &Ok(meant), replies)?;
+            let back = report::read(&left[GUARD..GUARD + BYTES]);
+            if back != Ok(meant) {
+                let (ours, second) = (format!("the record: {meant:?}"), format!("read back: {back:?}"));
+                return self.mismatch("the second program's read of what it wrote", ours, second);
+            }
+        }
+        Ok(outcome(&second))
+    }
+
+    /// The answer of a writer and all that it left in and round the room that it was lent.
+    fn written(
+        &self,
+        call: &'static str,
+        second: &Result<usize, Refusal>,
+        left: &[u8],
+        replies: &mut Replies,
+    ) -> Result<(), Box<Mismatch>> {
+        let want = meet::answer(*second);
+        let got: ours::Answer = replies.one();
+        let ours = replies.take(left.len());
+        if got != want || ours != left {
+            let words = |answer, left| format!("{answer:?}{BREAK}lent {}", tell::bytes(left));
+            return self.mismatch(call, words(got, ours), words(want, left));
+        }
+        Ok(())
+    }
+
+    /// The answer of the reader, every member of its record; of the records only the lines that differ are told.
+    fn read(
+        &self,
+        call: &'static str,
+        second: &Result<crate::second::record::Report, Refusal>,
+        replies: &mut Replies,
+    ) -> Result<(), Box<Mismatch>> {
+        let want = meet::got(second);
+        let got: ours::ReportGot = replies.one();
+        if got != want {
+            let words = |one: &ours::ReportGot, other: &ours::ReportGot| {
+                format!("{:?}{BREAK}{}", one.answer, tell::differing(&one.report, &other.report))
+            };
+            return self.mismatch(call, words(&got, &want), words(&want, &got));
+        }
+        Ok(())
+    }
 }

@@ -18,7 +18,7 @@ pub fn packed(answer: Result<Option<i32>, Refusal>) -> ours::Packed {
 pub fn answer(answer: Result<usize, Refusal>) -> ours::Answer {
     match answer {
         Ok(length) => ours::Answer { length: length as u16, ..Default::default() },
-        Err(Refusal { code, place }) => ours::Answer { code, place: place as u32, ..Default::default() },
+        Err(Refusal { code, place }) => ours::Answer { code, place, ..Default::default() },
     }
 }
 

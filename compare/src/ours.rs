@@ -1,4 +1,4 @@
-//! The proved calls, as host/eskelvor.h declares them, and safe ways to call them.
+//! The structs of host/eskelvor.h, as it lays them out.
 
 use std::mem::{offset_of, size_of};
 
@@ -62,8 +62,6 @@ pub struct ReportGot {
     pub report: Report,
 }
 
-pub const REPORT_RECORD: usize = 624;
-
 // The header promises sizes without padding; where a size is the sum of its members, so are the offsets.
 const _: () = {
     assert!(size_of::<Answer>() == 8 && offset_of!(Answer, length) == 4);
@@ -77,74 +75,29 @@ const _: () = {
     assert!(offset_of!(Observation, wind_direction) == 40 && offset_of!(Observation, wind_speed) == 48);
     assert!(offset_of!(Observation, gust) == 56 && offset_of!(Observation, kind) == 72);
     assert!(offset_of!(Observation, quality) == 73 && offset_of!(Observation, present) == 74);
-    assert!(size_of::<Report>() == REPORT_RECORD && offset_of!(Report, arrival) == 4);
+    assert!(size_of::<Report>() == 624 && offset_of!(Report, arrival) == 4);
     assert!(offset_of!(Report, designator) == 8 && offset_of!(Report, spare) == 14);
     assert!(offset_of!(Report, first) == 16 && offset_of!(Report, later) == 92);
     assert!(size_of::<ReportGot>() == 632 && offset_of!(ReportGot, report) == 8);
 };
 
-extern "C" {
-    fn esk_packed_read(field: *const u8, length: usize) -> Packed;
-    fn esk_packed_write(figure: Figure, width: usize, out: *mut u8, room: usize) -> Answer;
-    fn esk_report_check(text: *const u8, length: usize) -> Answer;
-    fn esk_report_read(text: *const u8, length: usize) -> ReportGot;
-    fn esk_report_write(report: Report, out: *mut u8, room: usize) -> Answer;
+/// A struct of the header, as bytes: all members are numbers, and there is no padding.
+///
+/// # Safety
+/// Only for structs in which every sequence of bytes is a value and no byte is padding.
+pub unsafe trait Plain: Copy {}
+unsafe impl Plain for Answer {}
+unsafe impl Plain for Figure {}
+unsafe impl Plain for Packed {}
+unsafe impl Plain for Report {}
+unsafe impl Plain for ReportGot {}
+
+pub fn bytes_of<T: Plain>(of: &T) -> &[u8] {
+    unsafe { std::slice::from_raw_parts((of as *const T).cast(), size_of::<T>()) }
 }
 
-/// An empty byte string is lent as NULL, which the header allows; an empty slice's own pointer is no address in C.
-#[inline(always)]
-fn lent(bytes: &[u8]) -> *const u8 {
-    if bytes.is_empty() {
-        std::ptr::null()
-    } else {
-        bytes.as_ptr()
-    }
-}
-
-#[inline(always)]
-fn lent_mut(bytes: &mut [u8]) -> *mut u8 {
-    if bytes.is_empty() {
-        std::ptr::null_mut()
-    } else {
-        bytes.as_mut_ptr()
-    }
-}
-
-// Each call is lent a slice's own bytes and its own length, and the header says that it keeps nothing.
-
-#[inline(always)]
-pub fn packed_read(field: &[u8]) -> Packed {
-    unsafe { esk_packed_read(lent(field), field.len()) }
-}
-
-#[inline(always)]
-pub fn packed_write(figure: Figure, width: usize, out: &mut [u8]) -> Answer {
-    unsafe { esk_packed_write(figure, width, lent_mut(out), out.len()) }
-}
-
-#[inline(always)]
-pub fn report_check(text: &[u8]) -> Answer {
-    unsafe { esk_report_check(lent(text), text.len()) }
-}
-
-#[inline(always)]
-pub fn report_read(text: &[u8]) -> ReportGot {
-    unsafe { esk_report_read(lent(text), text.len()) }
-}
-
-#[inline(always)]
-pub fn report_write(report: Report, out: &mut [u8]) -> Answer {
-    unsafe { esk_report_write(report, lent_mut(out), out.len()) }
-}
-
-impl Report {
-    /// The record's bytes, to print it and to repeat a case.
-    pub fn to_bytes(&self) -> [u8; REPORT_RECORD] {
-        // All members are numbers, and there is no padding.
-        unsafe { std::mem::transmute(*self) }
-    }
-
-    pub fn from_bytes(bytes: [u8; REPORT_RECORD]) -> Report {
-        unsafe { std::mem::transmute(bytes) }
-    }
+/// The struct whose bytes these are; as many as it has.
+pub fn of_bytes<T: Plain>(bytes: &[u8]) -> T {
+    assert_eq!(bytes.len(), size_of::<T>());
+    unsafe { bytes.as_ptr().cast::<T>().read_unaligned() }
 }

@@ -1,6 +1,44 @@
-//! Records in words, for a mismatch: one line for the names and one for each observation.
+//! A mismatch in words: its input, records line by line, and the words that repeat the case.
 
-use crate::ours::{Figure, Observation, Report};
+use crate::cases::Case;
+use crate::ours::{bytes_of, Figure, Observation, Report};
+
+/// A new line under the first one of a mismatch's part.
+pub const BREAK: &str = "\n             ";
+
+fn hex(bytes: &[u8]) -> String {
+    if bytes.is_empty() {
+        return "-".to_string();
+    }
+    bytes.iter().map(|byte| format!("{byte:02x}")).collect()
+}
+
+/// Bytes as they read, and in hex.
+pub fn bytes(bytes: &[u8]) -> String {
+    format!("{} bytes \"{}\"{BREAK}hex {}", bytes.len(), bytes.escape_ascii(), hex(bytes))
+}
+
+/// What a case hands to the calls.
+pub fn input(case: &Case) -> String {
+    match case {
+        Case::PackedRead(field) => bytes(field),
+        Case::PackedWrite { figure, width, room } => format!("{figure:?}, width {width}, room {room}"),
+        Case::Report(text) => bytes(text),
+        Case::Record { record: of, room } => format!("room {room}, record{BREAK}{}", record(of).join(BREAK)),
+    }
+}
+
+/// The words behind `case` on the comparison's command line that repeat it.
+pub fn words(case: &Case) -> String {
+    match case {
+        Case::PackedRead(field) => format!("packed-read {}", hex(field)),
+        Case::PackedWrite { figure, width, room } => {
+            format!("packed-write {} {} {width} {room}", figure.number, figure.given)
+        }
+        Case::Report(text) => format!("report {}", hex(text)),
+        Case::Record { record, room } => format!("record {} {room}", hex(bytes_of(&**record))),
+    }
+}
 
 fn figure(of: &Figure) -> String {
     match of {
@@ -53,6 +91,3 @@ pub fn differing(of: &Report, other: &Report) -> String {
     let lines: Vec<String> = pairs.filter(|(one, two)| one != two).map(|(one, _)| one).collect();
     lines.join(BREAK)
 }
-
-/// A new line under the first one of a mismatch's part.
-pub const BREAK: &str = "\n             ";

@@ -21,10 +21,10 @@ pub const DISAGREE: u8 = 7;
 #[derive(Clone, Copy, Debug, PartialEq, Eq)]
 pub struct Refusal {
     pub code: u8,
-    pub place: usize,
+    pub place: u32,
 }
 
 #[inline(always)]
 pub fn refuse<T>(code: u8, place: usize) -> Result<T, Refusal> {
-    Err(Refusal { code, place })
+    Err(Refusal { code, place: place as u32 })
 }

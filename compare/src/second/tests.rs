@@ -4,7 +4,7 @@ use super::record::{Report, BYTES};
 use super::{packed, report, write, Refusal};
 use crate::figures::{Printed, PACKED, REPORT};
 
-fn code(code: u8, place: usize) -> Refusal {
+fn code(code: u8, place: u32) -> Refusal {
     Refusal { code, place }
 }
 

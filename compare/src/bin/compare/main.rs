@@ -5,10 +5,12 @@
 //! compare case packed-write NUMBER GIVEN WIDTH ROOM
 //! compare case report HEX                         one report's text
 //! compare case record HEX ROOM                    one record, 624 bytes as the header lays them out
-//! compare case printed                            document 01's printed figures
+//!
+//! It runs in the repository's root, and asks the proved calls through host/tool (`make compare ARGS=..`).
 
 mod one;
 mod packed;
+mod queue;
 mod records;
 mod reports;
 mod run;
@@ -17,7 +19,7 @@ use run::{Options, Run};
 use std::process::exit;
 
 const USAGE: &str = "compare [--seed N] [--long] [--only FAMILY] | compare case packed-read HEX | \
-case packed-write NUMBER GIVEN WIDTH ROOM | case report HEX | case record HEX ROOM | case printed";
+case packed-write NUMBER GIVEN WIDTH ROOM | case report HEX | case record HEX ROOM";
 
 fn main() {
     let words: Vec<String> = std::env::args().skip(1).collect();
@@ -25,7 +27,7 @@ fn main() {
         exit(one::case(&words[1..]).unwrap_or_else(|why| usage(&why)));
     }
     let options = options(&words).unwrap_or_else(|why| usage(&why));
-    let mut run = Run::new(options);
+    let mut run = Run::new(options).unwrap_or_else(|why| usage(&why));
     packed::families(&mut run);
     reports::families(&mut run);
     records::families(&mut run);

@@ -1,7 +1,8 @@
 //! Families of records: written by both programs, compared byte for byte in and round the room, and read back.
 
-use crate::run::Run;
-use desk_compare::cases::record;
+use crate::queue::Queue;
+use crate::run::{Done, Run};
+use desk_compare::cases::Case;
 use desk_compare::make;
 use desk_compare::meet;
 use desk_compare::ours::{Figure, Observation, Report};
@@ -13,19 +14,19 @@ const ROOMS: [usize; 6] = [0, 1, 219, 220, 221, 230];
 
 pub fn families(run: &mut Run) {
     let turns = run.turns(60_000);
-    run.family("record-allowed", "random allowed records x rooms 0 to 230", |random, tally| {
+    run.family("record-allowed", "random allowed records x rooms 0 to 230", |random, queue| {
         for _ in 0..turns {
             let mut allowed = meet::record(&make::record(random));
             if random.percent(70) {
                 make::litter(random, &mut allowed);
             }
             for room in ROOMS {
-                tally.count(record(&allowed, room)?);
+                write(queue, &allowed, room)?;
             }
         }
         Ok(())
     });
-    run.family("record-edges", "every figure of a record at and past its edges x rooms", |random, tally| {
+    run.family("record-edges", "every figure of a record at and past its edges x rooms", |random, queue| {
         let full = meet::record(&make::record_of(random, 7, 0));
         for index in 0..8 {
             let fields = if index == 0 { FIRST_FIELDS } else { LATER_FIELDS };
@@ -33,27 +34,27 @@ pub fn families(run: &mut Run) {
                 for figure in edges(field) {
                     let mut changed = full;
                     *make::figures(observation(&mut changed, index))[place] = figure;
-                    tally.count(record(&changed, 220)?);
-                    tally.count(record(&changed, 0)?);
+                    write(queue, &changed, 220)?;
+                    write(queue, &changed, 0)?;
                 }
             }
         }
         Ok(())
     });
-    run.family("record-bytes", "every byte as each name, kind and quality byte x rooms", |random, tally| {
+    run.family("record-bytes", "every byte as each name, kind and quality byte x rooms", |random, queue| {
         let full = meet::record(&make::record_of(random, 7, 0));
         for byte in 0..=255 {
             for place in 0..14 + 16 {
                 let mut changed = full;
                 *named_byte(&mut changed, place) = byte;
-                tally.count(record(&changed, 230)?);
-                tally.count(record(&changed, 219)?);
+                write(queue, &changed, 230)?;
+                write(queue, &changed, 219)?;
             }
         }
         Ok(())
     });
     let turns = run.turns(100_000);
-    run.family("record-damaged", "random records, one to four members not allowed, x rooms", |random, tally| {
+    run.family("record-damaged", "random records, one to four members not allowed, x rooms", |random, queue| {
         for _ in 0..turns {
             let mut damaged = meet::record(&make::record(random));
             if random.percent(50) {
@@ -63,11 +64,15 @@ pub fn families(run: &mut Run) {
                 damage(random, &mut damaged);
             }
             for room in ROOMS {
-                tally.count(record(&damaged, room)?);
+                write(queue, &damaged, room)?;
             }
         }
         Ok(())
     });
+}
+
+fn write(queue: &mut Queue, record: &Report, room: usize) -> Done {
+    queue.case(Case::Record { record: Box::new(*record), room })
 }
 
 fn edges(field: &Field) -> [Figure; 9] {

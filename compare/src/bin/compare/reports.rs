@@ -1,66 +1,66 @@
 //! Families of report texts: check and read are compared, and an accepted one is written back.
 
-use crate::run::{Run, Tally};
-use desk_compare::cases::{report_text, Mismatch};
+use crate::queue::Queue;
+use crate::run::{Done, Run};
+use desk_compare::cases::Case;
 use desk_compare::figures::REPORT;
 use desk_compare::make;
 use desk_compare::random::Random;
 use desk_compare::second::packed;
 use desk_compare::second::record::*;
 
-type Done = Result<(), Box<Mismatch>>;
 type Text = [u8; BYTES];
 
 pub fn families(run: &mut Run) {
-    run.family("report-printed", "document 01's printed report", |_, tally| {
-        tally.count(report_text(REPORT)?);
+    run.family("report-printed", "document 01's printed report", |_, queue| {
+        queue.case(Case::Report(REPORT.to_vec()))?;
         Ok(())
     });
-    run.family("report-substitution", "every byte of 6 reports made every other", |random, tally| {
-        shapes(random).iter().try_for_each(|text| substitutions(text, tally))
+    run.family("report-substitution", "every byte of 6 reports made every other", |random, queue| {
+        shapes(random).iter().try_for_each(|text| substitutions(text, queue))
     });
-    run.family("report-length", "every truncation and extensions to 700 bytes of 6 reports", |random, tally| {
-        shapes(random).iter().try_for_each(|text| lengths(text, tally))
+    run.family("report-length", "every truncation and extensions to 700 bytes of 6 reports", |random, queue| {
+        shapes(random).iter().try_for_each(|text| lengths(text, queue))
     });
     run.family(
         "report-field-edges",
         "every field at, inside and outside its edges, and in other spellings",
-        |random, tally| shapes(random)[1..3].iter().try_for_each(|text| field_edges(text, random, tally)),
+        |random, queue| shapes(random)[1..3].iter().try_for_each(|text| field_edges(text, random, queue)),
     );
-    run.family("report-absent", "every pattern of absent parts, its kinds and inner bytes changed", |random, tally| {
-        (0..128).try_for_each(|pattern| absent(&shapes(random)[1], pattern, random, tally))
+    run.family("report-absent", "every pattern of absent parts, its kinds and inner bytes changed", |random, queue| {
+        (0..128).try_for_each(|pattern| absent(&shapes(random)[1], pattern, random, queue))
     });
     run.family(
         "report-wind",
         "every pairing of missing, given and wrong winds in every observation",
-        |random, tally| winds(&shapes(random)[1], tally),
+        |random, queue| winds(&shapes(random)[1], queue),
     );
     let turns = run.turns(150_000);
-    run.family("report-valid", "random valid reports", |random, tally| {
+    run.family("report-valid", "random valid reports", |random, queue| {
         for _ in 0..turns {
             let report = make::record(random);
-            tally.count(report_text(&make::text(&report))?);
+            queue.case(Case::Report(make::text(&report).to_vec()))?;
         }
         Ok(())
     });
     let turns = run.turns(400_000);
-    run.family("report-damaged", "random reports, one to five damages each", |random, tally| {
+    run.family("report-damaged", "random reports, one to five damages each", |random, queue| {
         for _ in 0..turns {
             let report = make::record(random);
             let mut text = make::text(&report).to_vec();
             for _ in 0..1 + random.below(5) {
                 damage(random, &mut text);
             }
-            tally.count(report_text(&text)?);
+            queue.case(Case::Report(text.to_vec()))?;
         }
         Ok(())
     });
     let turns = run.turns(20_000);
-    run.family("report-noise", "any bytes of any length up to 440", |random, tally| {
+    run.family("report-noise", "any bytes of any length up to 440", |random, queue| {
         for _ in 0..turns {
             let length = if random.percent(50) { BYTES } else { random.below(441) };
             let text: Vec<u8> = (0..length).map(|_| make::odd_byte(random)).collect();
-            tally.count(report_text(&text)?);
+            queue.case(Case::Report(text.to_vec()))?;
         }
         Ok(())
     });
@@ -72,26 +72,26 @@ fn shapes(random: &mut Random) -> [Text; 6] {
     [*REPORT, shape(7, 0), shape(7, 40), shape(4, 30), shape(1, 0), shape(7, 100)]
 }
 
-fn substitutions(text: &Text, tally: &mut Tally) -> Done {
+fn substitutions(text: &Text, queue: &mut Queue) -> Done {
     for at in 0..BYTES {
         let mut changed = *text;
         for byte in 0..=255 {
             changed[at] = byte;
-            tally.count(report_text(&changed)?);
+            queue.case(Case::Report(changed.to_vec()))?;
         }
     }
     Ok(())
 }
 
-fn lengths(text: &Text, tally: &mut Tally) -> Done {
+fn lengths(text: &Text, queue: &mut Queue) -> Done {
     let mut long = text.to_vec();
     long.extend_from_slice(text);
     long.resize(700, b'/');
     for length in 0..=long.len() {
-        tally.count(report_text(&long[..length])?);
+        queue.case(Case::Report(long[..length].to_vec()))?;
     }
     for start in 1..BYTES {
-        tally.count(report_text(&long[start..start + BYTES])?);
+        queue.case(Case::Report(long[start..start + BYTES].to_vec()))?;
     }
     Ok(())
 }
@@ -110,47 +110,47 @@ fn fields() -> Vec<(usize, Field)> {
     all
 }
 
-fn field_edges(text: &Text, random: &mut Random, tally: &mut Tally) -> Done {
+fn field_edges(text: &Text, random: &mut Random, queue: &mut Queue) -> Done {
     for (place, field) in fields() {
         let mut changed = *text;
         let half = make::half(field.bytes);
         let edges = [field.low - 1, field.low, field.low + 1, field.high - 1, field.high, field.high + 1];
         for figure in edges.into_iter().chain([-half, -1, 0, 1, half - 1]).filter(|n| (-half..half).contains(n)) {
             packed::put(Some(figure), &mut changed[place..place + field.bytes]);
-            tally.count(report_text(&changed)?);
+            queue.case(Case::Report(changed.to_vec()))?;
         }
         for _ in 0..200 {
             let spelling = make::packed_field_of(random, field.bytes);
             changed[place..place + field.bytes].copy_from_slice(&spelling);
-            tally.count(report_text(&changed)?);
+            queue.case(Case::Report(changed.to_vec()))?;
         }
     }
     Ok(())
 }
 
 /// A full report whose parts named in the pattern are absent; then one part's kind or inner byte is another.
-fn absent(text: &Text, pattern: usize, random: &mut Random, tally: &mut Tally) -> Done {
+fn absent(text: &Text, pattern: usize, random: &mut Random, queue: &mut Queue) -> Done {
     let mut text = *text;
     for (index, at) in LATER_AT.into_iter().enumerate() {
         if pattern >> index & 1 == 1 {
             text[at..at + LATER].fill(b'/');
         }
     }
-    tally.count(report_text(&text)?);
+    queue.case(Case::Report(text.to_vec()))?;
     for at in LATER_AT {
         for byte in *b"ADRWUE/Xa0 \0\xff" {
             let mut changed = text;
             changed[at] = byte;
-            tally.count(report_text(&changed)?);
+            queue.case(Case::Report(changed.to_vec()))?;
             changed[at + 1 + random.below(LATER - 1)] = make::odd_byte(random);
-            tally.count(report_text(&changed)?);
+            queue.case(Case::Report(changed.to_vec()))?;
         }
     }
     Ok(())
 }
 
 /// Direction and speed, each missing, given at both edges, not allowed, too long, or out of its range.
-fn winds(text: &Text, tally: &mut Tally) -> Done {
+fn winds(text: &Text, queue: &mut Queue) -> Done {
     let winds: [&[u8; 2]; 10] = [b"//", b" K", b"T0", b"..", b"T1", b" J", b"K5", b"/5", b"  ", b"J."];
     for (place, _) in fields().chunks(9).map(|fields| fields[5]) {
         for direction in winds {
@@ -158,7 +158,7 @@ fn winds(text: &Text, tally: &mut Tally) -> Done {
                 let mut changed = *text;
                 changed[place..place + 2].copy_from_slice(direction);
                 changed[place + 2..place + 4].copy_from_slice(speed);
-                tally.count(report_text(&changed)?);
+                queue.case(Case::Report(changed.to_vec()))?;
             }
         }
     }

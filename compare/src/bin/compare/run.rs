@@ -1,6 +1,7 @@
 //! A run: its families, what each compared, and the first mismatch.
 
-use desk_compare::cases::{Mismatch, Outcome};
+use crate::queue::Queue;
+use desk_compare::cases::{Case, Mismatch};
 use desk_compare::random::Random;
 use std::process::exit;
 use std::time::Instant;
@@ -13,21 +14,17 @@ pub struct Options {
 
 pub struct Run {
     options: Options,
+    queue: Queue,
     began: Instant,
     total: u64,
     families: u64,
 }
 
-/// What one family compared, by outcome: accepted, missing, then codes 1 to 7.
-pub struct Tally {
-    counts: [u64; 9],
-}
-
-const LABELS: [&str; 9] = ["accepted", "missing", "code 1", "code 2", "code 3", "code 4", "code 5", "code 6", "code 7"];
+pub type Done = Result<(), Box<Mismatch>>;
 
 impl Run {
-    pub fn new(options: Options) -> Run {
-        Run { options, began: Instant::now(), total: 0, families: 0 }
+    pub fn new(options: Options) -> Result<Run, String> {
+        Ok(Run { options, queue: Queue::start()?, began: Instant::now(), total: 0, families: 0 })
     }
 
     /// So many turns, or twenty times as many in a long run.
@@ -40,34 +37,28 @@ impl Run {
     }
 
     /// Runs a family, unless another one alone was asked for, and prints one line on it.
-    pub fn family(
-        &mut self,
-        name: &str,
-        says: &str,
-        body: impl FnOnce(&mut Random, &mut Tally) -> Result<(), Box<Mismatch>>,
-    ) {
+    pub fn family(&mut self, name: &str, says: &str, body: impl FnOnce(&mut Random, &mut Queue) -> Done) {
         if self.options.only.as_deref().is_some_and(|only| only != name) {
             return;
         }
         let mut random = Random::new(self.options.seed, name);
-        let mut tally = Tally { counts: [0; 9] };
-        if let Err(mismatch) = body(&mut random, &mut tally) {
-            self.tell(name, &mismatch, tally.total());
+        let done = body(&mut random, &mut self.queue).and_then(|()| self.queue.finish());
+        let tally = self.queue.tally();
+        if let Err(mismatch) = done {
+            println!("MISMATCH in {name}, after {} cases alike: {}", tally.total(), mismatch.call);
+            tell(&mismatch);
+            self.repeat(name, &mismatch);
+            exit(1);
         }
-        println!("{name}: {says}: {}", tally.line());
+        println!("{name}: {says}: {tally}");
         self.total += tally.total();
         self.families += 1;
     }
 
-    fn tell(&self, name: &str, mismatch: &Mismatch, before: u64) -> ! {
-        println!("MISMATCH in {name}, after {before} cases alike: {}", mismatch.call);
-        println!("  input    : {}", mismatch.input);
-        println!("  ours     : {}", mismatch.ours);
-        println!("  second   : {}", mismatch.second);
-        println!("  this case: make compare ARGS='case {}'", mismatch.words);
+    fn repeat(&self, name: &str, mismatch: &Mismatch) {
         let long = if self.options.long { " --long" } else { "" };
+        println!("  this case: make compare ARGS='case {}'", mismatch.words);
         println!("  the run  : make compare ARGS='--seed {}{long} --only {name}'", self.options.seed);
-        exit(1);
     }
 
     pub fn end(&self) {
@@ -83,23 +74,26 @@ impl Run {
     }
 }
 
-impl Tally {
-    pub fn count(&mut self, outcome: Outcome) {
-        let at = match outcome {
-            Outcome::Accepted => 0,
-            Outcome::Missing => 1,
-            Outcome::Refused(code) => 1 + usize::from(code),
-        };
-        self.counts[at] += 1;
-    }
+pub fn tell(mismatch: &Mismatch) {
+    println!("  input    : {}", mismatch.input);
+    println!("  ours     : {}", mismatch.ours);
+    println!("  second   : {}", mismatch.second);
+}
 
-    fn total(&self) -> u64 {
-        self.counts.iter().sum()
-    }
-
-    fn line(&self) -> String {
-        let counts = self.counts.iter().zip(LABELS).filter(|(count, _)| **count > 0);
-        let parts: Vec<String> = counts.map(|(count, label)| format!("{count} {label}")).collect();
-        format!("{} alike ({})", self.total(), parts.join(", "))
-    }
+/// One case by itself.
+pub fn one(case: Case) -> Result<i32, String> {
+    let mut queue = Queue::start()?;
+    let held = queue.case(case).and_then(|()| queue.finish());
+    let tally = queue.tally();
+    Ok(match held {
+        Ok(()) => {
+            println!("{tally}");
+            0
+        }
+        Err(mismatch) => {
+            println!("MISMATCH: {}", mismatch.call);
+            tell(&mismatch);
+            1
+        }
+    })
 }
