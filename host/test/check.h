@@ -36,7 +36,7 @@ typedef struct lent {
     size_t length;
 } lent;
 
-/* Lends a copy of the bytes (of a pattern, where from is NULL). The empty string is lent as NULL where `null` is set. */
+/* Lends a copy of the bytes, or a pattern where from is NULL. The empty string is lent as NULL where `null` is set. */
 static uint8_t *lend(lent *l, const void *from, size_t length, int null)
 {
     for (size_t i = 0; i < sizeof l->now; i++)
@@ -48,16 +48,10 @@ static uint8_t *lend(lent *l, const void *from, size_t length, int null)
     return length == 0 && null ? NULL : l->now + GUARD;
 }
 
-/* The first `length` of the bytes lent are now the text, and all else is as it was. */
+/* The first `length` of the bytes lent are now the text, and all else is as it was: with length 0, untouched. */
 static int is_written(lent *l, const void *text, size_t length)
 {
     memcpy(l->was + GUARD, text, length);
-    checks++;
-    return memcmp(l->now, l->was, sizeof l->now) == 0;
-}
-
-static int is_untouched(lent *l)
-{
     checks++;
     return memcmp(l->now, l->was, sizeof l->now) == 0;
 }
@@ -85,13 +79,13 @@ static void wrong_bytes(const lent *l)
     exit(1);
 }
 
-#define HOLD(what)                                                      \
-    do {                                                                \
-        checks++;                                                       \
-        if (!(what)) {                                                  \
+#define HOLD(what)                                                            \
+    do {                                                                      \
+        checks++;                                                             \
+        if (!(what)) {                                                        \
             fprintf(stderr, "FAILED after %lu checks: %s\n", checks, #what); \
-            exit(1);                                                    \
-        }                                                               \
+            exit(1);                                                          \
+        }                                                                     \
     } while (0)
 
 #endif

@@ -85,7 +85,7 @@ static void read_all(int null)
                     (unsigned)got.place, (unsigned)got.given, (long)got.number);
             exit(1);
         }
-        if (!is_untouched(&field)) {
+        if (!is_written(&field, "", 0)) {
             fail("lent for reading", "esk_packed_read", (const uint8_t *)c->field, c->length);
             wrong_bytes(&field);
         }

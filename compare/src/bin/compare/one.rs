@@ -40,7 +40,7 @@ fn bytes(word: &str) -> Result<Vec<u8>, String> {
         return Ok(Vec::new());
     }
     let wrong = || format!("no bytes in hex, at most 65535: {word}");
-    if word.len() % 2 != 0 || !word.is_ascii() || word.len() / 2 > usize::from(u16::MAX) {
+    if !word.len().is_multiple_of(2) || !word.is_ascii() || word.len() / 2 > usize::from(u16::MAX) {
         return Err(wrong());
     }
     let pairs = (0..word.len()).step_by(2).map(|at| u8::from_str_radix(&word[at..at + 2], 16));

@@ -96,7 +96,7 @@ fn named_byte(report: &mut Report, place: usize) -> &mut u8 {
         8..=13 => &mut report.designator[place - 8],
         _ => {
             let of = observation(report, (place - 14) / 2);
-            if place % 2 == 0 {
+            if place.is_multiple_of(2) {
                 &mut of.kind
             } else {
                 &mut of.quality
