@@ -47,7 +47,7 @@ fn window(pass: &mut impl FnMut()) -> f64 {
 /// One pass of a call over its inputs.
 fn pass<I, A>(inputs: &[I], mut call: impl FnMut(&I) -> A) {
     for input in inputs {
-        black_box(call(black_box(input)));
+        black_box(&call(black_box(input)));
     }
 }
 
