@@ -6,22 +6,24 @@
 
 export CARGO_TARGET_DIR := $(CURDIR)/target/compare
 
-.PHONY: all archive test compare bench clean
+archive := target/staticlib/libdesk.a
 
-all: archive
+.PHONY: all test compare bench clean
 
-archive:
+all: $(archive)
+
+$(archive): crates.txt $(shell find crates -type f)
 	rt staticlib desk
 
 test:
 	.ci/run
 
-compare: archive
+compare: $(archive)
 	@host/tool build answer host/test/answer.c
 	@cd compare && cargo build --release --offline --locked --quiet
 	@target/compare/release/compare $(ARGS)
 
-bench: archive
+bench: $(archive)
 	@cd compare && cargo build --release --offline --locked --quiet
 	@target/compare/release/bench
 
