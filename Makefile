@@ -1,0 +1,31 @@
+# make            the proved archive, target/staticlib/libdesk.a
+# make test       the gate: every test, the comparison and every proof
+# make compare    the archive and the second program on the same inputs; ARGS='--seed 2 --long' and the like
+# make bench      ns per call, ours and the second program's (x86-64)
+# make clean      removes all that was built
+
+export CARGO_TARGET_DIR := $(CURDIR)/target/compare
+
+archive := target/staticlib/libdesk.a
+
+.PHONY: all test compare bench clean
+
+all: $(archive)
+
+$(archive): crates.txt $(shell find crates -type f)
+	rt staticlib desk
+
+test:
+	.ci/run
+
+compare: $(archive)
+	@host/tool build answer host/test/answer.c
+	@cd compare && cargo build --release --offline --locked --quiet
+	@target/compare/release/compare $(ARGS)
+
+bench: $(archive)
+	@cd compare && cargo build --release --offline --locked --quiet
+	@target/compare/release/bench
+
+clean:
+	rm -rf target

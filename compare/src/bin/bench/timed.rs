@@ -1,0 +1,167 @@
+//! The rows of the benchmark: both programs on the same inputs, in alternating windows.
+
+use desk_compare::random::Random;
+use desk_compare::second::record::{Observation, Report, BYTES};
+use desk_compare::second::{packed, report, write, Refusal};
+use desk_compare::{linked, make, meet, ours};
+use std::hint::black_box;
+use std::time::Instant;
+
+/// Inputs of a row; windows of each program in it.
+const INPUTS: usize = 256;
+const WINDOWS: usize = 3000;
+
+const METHOD: &str = "\
+method: one process, one thread; both programs take the same inputs in the same order, each through a call that is
+not inlined. A window is one pass over a row's inputs; the windows of the two programs alternate, and each figure is
+the best window of 3000, divided by its calls. Buffers are lent as the call before left them, not cleared. Answers go
+through black_box. ratio = ours / second: below 1.00 ours is the quicker.
+";
+
+pub fn rows() {
+    println!("{METHOD}");
+    println!(
+        "{:<44} {:>9} {:>9} {:>7} {:>10} {:>10}",
+        "row", "ours ns", "second ns", "ratio", "ours MB/s", "second MB/s"
+    );
+    packed_rows();
+    report_rows();
+}
+
+/// Nanoseconds of the best window of each program.
+fn best(mut ours: impl FnMut(), mut second: impl FnMut()) -> [f64; 2] {
+    let mut best = [f64::MAX; 2];
+    for _ in 0..WINDOWS {
+        best[0] = best[0].min(window(&mut ours));
+        best[1] = best[1].min(window(&mut second));
+    }
+    best
+}
+
+fn window(pass: &mut impl FnMut()) -> f64 {
+    let began = Instant::now();
+    pass();
+    began.elapsed().as_nanos() as f64
+}
+
+/// One pass of a call over its inputs.
+fn pass<I, A>(inputs: &[I], mut call: impl FnMut(&I) -> A) {
+    for input in inputs {
+        black_box(&call(black_box(input)));
+    }
+}
+
+/// Prints a row; `bytes` is the text of one call where its rate means something.
+fn row(name: &str, calls: usize, bytes: Option<usize>, windows: [f64; 2]) {
+    let [ours, second] = windows.map(|window| window / calls as f64);
+    let rate = |ns: f64| bytes.map_or(String::new(), |bytes| format!("{:.0}", bytes as f64 / ns * 1000.0));
+    println!("{name:<44} {ours:>9.2} {second:>9.2} {:>7.2} {:>10} {:>10}", ours / second, rate(ours), rate(second));
+}
+
+// The second program's calls, kept apart from the loops that time them as the archive's are.
+
+#[inline(never)]
+fn second_packed_read(field: &[u8]) -> Result<Option<i32>, Refusal> {
+    packed::read(field)
+}
+
+#[inline(never)]
+fn second_packed_write(figure: Option<i32>, width: usize, out: &mut [u8]) -> Result<usize, Refusal> {
+    packed::write(figure, width, out)
+}
+
+#[inline(never)]
+fn second_check(text: &[u8]) -> Result<(), Refusal> {
+    report::check(text)
+}
+
+#[inline(never)]
+fn second_read(text: &[u8]) -> Result<Report, Refusal> {
+    report::read(text)
+}
+
+#[inline(never)]
+fn second_write(record: &Report, out: &mut [u8]) -> Result<usize, Refusal> {
+    write::write(record, out)
+}
+
+/// Fields as they stand in reports: of 2, 3 and 5 bytes, one in ten missing.
+fn packed_fields(random: &mut Random) -> Vec<(Option<i32>, Vec<u8>)> {
+    let field = |_| {
+        let width = random.of(&[2, 2, 2, 2, 3, 3, 3, 5]);
+        let figure = (!random.percent(10)).then(|| make::figure_of_digits(random, width));
+        let mut field = vec![0; width];
+        packed::put(figure, &mut field);
+        (figure, field)
+    };
+    (0..INPUTS).map(field).collect()
+}
+
+fn packed_rows() {
+    let fields = packed_fields(&mut Random::new(1, "bench-packed"));
+    let windows = best(
+        || pass(&fields, |(_, field)| linked::packed_read(field)),
+        || pass(&fields, |(_, field)| second_packed_read(field)),
+    );
+    row("packed read (256 valid fields)", INPUTS, None, windows);
+    let figures: Vec<_> = fields.iter().map(|(figure, field)| (*figure, field.len())).collect();
+    let raw: Vec<_> = figures.iter().map(|(figure, width)| (meet::figure(*figure), *width)).collect();
+    let (mut one, mut other) = ([0; 8], [0; 8]);
+    let windows = best(
+        || pass(&raw, |(figure, width)| linked::packed_write(*figure, *width, black_box(&mut one))),
+        || pass(&figures, |(figure, width)| second_packed_write(*figure, *width, black_box(&mut other))),
+    );
+    row("packed write (256 figures)", INPUTS, None, windows);
+}
+
+/// An observation as aircraft send them; `lost` figures in a hundred are missing.
+fn typical_observation(random: &mut Random, spans: [(i32, i32); 3]) -> Observation {
+    let mut figure = |(low, high): (i32, i32), lost| (!random.percent(lost)).then(|| random.between(low, high));
+    let [latitude, longitude, time] = spans.map(|span| figure(span, 2));
+    let wind_direction = figure((0, 360), 3);
+    let wind_speed = figure((0, 160), 0).filter(|_| wind_direction.is_some());
+    Observation {
+        kind: b'R',
+        latitude,
+        longitude,
+        time,
+        altitude: figure((0, 4100), 1),
+        temperature: figure((-650, 350), 2),
+        wind_direction,
+        wind_speed,
+        gust: figure((0, 30), 20),
+        vapour: figure((0, 20_000), 80),
+        quality: b'9',
+    }
+}
+
+/// A report as aircraft send them: mostly eight observations, small changes, gust often and vapour mostly missing.
+fn typical(random: &mut Random) -> Report {
+    let present = if random.percent(75) { 7 } else { random.below(8) };
+    let first = typical_observation(random, [(-5400, 5400), (-10_800, 10_800), (0, 2_678_399)]);
+    let later = |index| (index < present).then(|| typical_observation(random, [(-60, 60), (-60, 60), (20, 480)]));
+    Report { departure: *b"YMML", arrival: *b"YPAD", designator: *b"AU0137", first, later: std::array::from_fn(later) }
+}
+
+fn report_rows() {
+    let mut random = Random::new(1, "bench-report");
+    let records: Vec<Report> = (0..INPUTS).map(|_| typical(&mut random)).collect();
+    let texts: Vec<[u8; BYTES]> = records.iter().map(make::text).collect();
+    let full = [make::text(&make::record_of(&mut random, 7, 0)); 64];
+    check_row("report check (256 typical reports)", &texts);
+    check_row("report check (one report, all figures given)", &full);
+    let windows = best(|| pass(&texts, |text| linked::report_read(text)), || pass(&texts, |text| second_read(text)));
+    row("report read (256 typical reports)", INPUTS, Some(BYTES), windows);
+    let raw: Vec<ours::Report> = records.iter().map(meet::record).collect();
+    let (mut one, mut other) = ([0; 256], [0; 256]);
+    let windows = best(
+        || pass(&raw, |record| linked::report_write(*record, black_box(&mut one))),
+        || pass(&records, |record| second_write(record, black_box(&mut other))),
+    );
+    row("report write (256 typical records)", INPUTS, Some(BYTES), windows);
+}
+
+fn check_row(name: &str, texts: &[[u8; BYTES]]) {
+    let windows = best(|| pass(texts, |text| linked::report_check(text)), || pass(texts, |text| second_check(text)));
+    row(name, texts.len(), Some(BYTES), windows);
+}

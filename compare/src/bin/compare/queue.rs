@@ -1,0 +1,127 @@
+//! Cases on their way to the proved calls: gathered into batches, one batch asked while the next is gathered.
+
+use crate::run::Done;
+use desk_compare::asked::{Asked, Replies};
+use desk_compare::cases::{Case, Outcome};
+use std::fmt;
+use std::process::exit;
+
+/// Bytes of questions that make a batch.
+const BATCH: usize = 1 << 18;
+
+pub struct Queue {
+    asked: Asked,
+    /// Cases that are gathered, and their questions.
+    cases: Vec<Case>,
+    questions: Vec<u8>,
+    /// Cases that are asked and not answered.
+    under_way: Vec<Case>,
+    tally: Tally,
+}
+
+impl Queue {
+    pub fn start() -> Result<Queue, String> {
+        let asked = Asked::start()?;
+        let (cases, questions, under_way) = (Vec::new(), Vec::new(), Vec::new());
+        Ok(Queue { asked, cases, questions, under_way, tally: Tally::default() })
+    }
+
+    /// Puts a case in. A mismatch may be that of an earlier case.
+    pub fn case(&mut self, case: Case) -> Done {
+        case.question(&mut self.questions);
+        self.cases.push(case);
+        if self.questions.len() >= BATCH {
+            self.turn()?;
+        }
+        Ok(())
+    }
+
+    /// Waits until all cases are held against their answers.
+    pub fn finish(&mut self) -> Done {
+        self.turn()?;
+        self.turn()
+    }
+
+    /// What was found alike since the last time.
+    pub fn tally(&mut self) -> Tally {
+        std::mem::take(&mut self.tally)
+    }
+
+    /// Holds the cases under way against their answers, and asks those that were gathered.
+    fn turn(&mut self) -> Done {
+        if !self.under_way.is_empty() {
+            let Ok(replies) = self.asked.replies() else {
+                return self.fatal_case();
+            };
+            hold(&self.under_way, &replies, &mut self.tally)?;
+        }
+        self.under_way = std::mem::take(&mut self.cases);
+        let questions = std::mem::take(&mut self.questions);
+        if !self.under_way.is_empty() && self.asked.ask(&questions).is_err() {
+            return self.fatal_case();
+        }
+        Ok(())
+    }
+
+    /// The program that makes the calls ended in a batch: asks its cases one by one, to find which ended it.
+    fn fatal_case(&mut self) -> Done {
+        for case in &self.under_way {
+            let mut asked = start_again();
+            let mut question = Vec::new();
+            case.question(&mut question);
+            match asked.ask(&question).and_then(|()| asked.replies()) {
+                Ok(replies) => hold(std::slice::from_ref(case), &replies, &mut self.tally)?,
+                Err(why) => return case.mismatch("a call", why, "an answer".to_string()),
+            }
+        }
+        println!("the program that calls ours ended in a batch, and in none of its cases alone");
+        exit(1);
+    }
+}
+
+fn start_again() -> Asked {
+    Asked::start().unwrap_or_else(|why| {
+        println!("{why}");
+        exit(2);
+    })
+}
+
+fn hold(cases: &[Case], replies: &[u8], tally: &mut Tally) -> Done {
+    let mut replies = Replies::new(replies);
+    for case in cases {
+        tally.count(case.hold(&mut replies)?);
+    }
+    assert!(replies.is_empty(), "every byte of the replies belongs to a case");
+    Ok(())
+}
+
+/// What was compared, by outcome: accepted, missing, then codes 1 to 7.
+#[derive(Default)]
+pub struct Tally {
+    counts: [u64; 9],
+}
+
+const LABELS: [&str; 9] = ["accepted", "missing", "code 1", "code 2", "code 3", "code 4", "code 5", "code 6", "code 7"];
+
+impl Tally {
+    fn count(&mut self, outcome: Outcome) {
+        let at = match outcome {
+            Outcome::Accepted => 0,
+            Outcome::Missing => 1,
+            Outcome::Refused(code) => 1 + usize::from(code),
+        };
+        self.counts[at] += 1;
+    }
+
+    pub fn total(&self) -> u64 {
+        self.counts.iter().sum()
+    }
+}
+
+impl fmt::Display for Tally {
+    fn fmt(&self, to: &mut fmt::Formatter) -> fmt::Result {
+        let counts = self.counts.iter().zip(LABELS).filter(|(count, _)| **count > 0);
+        let parts: Vec<String> = counts.map(|(count, label)| format!("{count} {label}")).collect();
+        write!(to, "{} alike ({})", self.total(), parts.join(", "))
+    }
+}

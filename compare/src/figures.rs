@@ -1,0 +1,33 @@
+//! Document 01, "Figures to hold against the code", as far as packed figures and reports go.
+
+/// What a printed packed field stands for.
+#[derive(Clone, Copy, Debug, PartialEq, Eq)]
+pub enum Printed {
+    Figure(i32),
+    Missing,
+    Code(u8),
+}
+
+use Printed::{Code, Figure, Missing};
+
+pub const PACKED: [(&[u8], Printed); 12] = [
+    (b"INZ", Figure(-2245)),
+    (b"LAE", Figure(2014)),
+    (b"D5", Figure(-275)),
+    (b" U", Figure(10)),
+    (b" UK", Figure(420)),
+    (b" YZ9F", Figure(952_375)),
+    (b"  K", Figure(0)),
+    (b"KK", Figure(20)),
+    (b"JJ", Figure(-21)),
+    (b"K5", Code(6)),
+    (b"//", Missing),
+    (b"/5", Code(4)),
+];
+
+/// The printed report: one observation, no gust or vapour.
+pub const REPORT: &[u8; 220] = b"ABCDEFGH\r\nAMDAR3XY0001\r\n\
+A  K  K    K  K K K K/////////////////////////////\r\n\
+//////////////////////////////////////////////\r\n\
+//////////////////////////////////////////////\r\n\
+//////////////////////////////////////////////\r\n";

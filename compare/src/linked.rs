@@ -1,0 +1,39 @@
+//! The proved calls, linked into this program: for the benchmark, on x86-64 alone, which the archive is for.
+
+use crate::ours::{Answer, Figure, Packed, Report, ReportGot};
+
+extern "C" {
+    fn esk_packed_read(field: *const u8, length: usize) -> Packed;
+    fn esk_packed_write(figure: Figure, width: usize, out: *mut u8, room: usize) -> Answer;
+    fn esk_report_check(text: *const u8, length: usize) -> Answer;
+    fn esk_report_read(text: *const u8, length: usize) -> ReportGot;
+    fn esk_report_write(report: Report, out: *mut u8, room: usize) -> Answer;
+}
+
+// Each call is lent a slice's own bytes and its own length, and the header says that it keeps nothing. An empty slice's
+// pointer is one that no call reads.
+
+#[inline(always)]
+pub fn packed_read(field: &[u8]) -> Packed {
+    unsafe { esk_packed_read(field.as_ptr(), field.len()) }
+}
+
+#[inline(always)]
+pub fn packed_write(figure: Figure, width: usize, out: &mut [u8]) -> Answer {
+    unsafe { esk_packed_write(figure, width, out.as_mut_ptr(), out.len()) }
+}
+
+#[inline(always)]
+pub fn report_check(text: &[u8]) -> Answer {
+    unsafe { esk_report_check(text.as_ptr(), text.len()) }
+}
+
+#[inline(always)]
+pub fn report_read(text: &[u8]) -> ReportGot {
+    unsafe { esk_report_read(text.as_ptr(), text.len()) }
+}
+
+#[inline(always)]
+pub fn report_write(report: Report, out: &mut [u8]) -> Answer {
+    unsafe { esk_report_write(report, out.as_mut_ptr(), out.len()) }
+}

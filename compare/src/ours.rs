@@ -1,0 +1,103 @@
+//! The structs of host/eskelvor.h, as it lays them out.
+
+use std::mem::{offset_of, size_of};
+
+#[repr(C)]
+#[derive(Clone, Copy, Debug, Default, PartialEq, Eq)]
+pub struct Answer {
+    pub place: u32,
+    pub length: u16,
+    pub code: u8,
+    pub text: u8,
+}
+
+#[repr(C)]
+#[derive(Clone, Copy, Debug, Default, PartialEq, Eq)]
+pub struct Figure {
+    pub number: i32,
+    pub given: u32,
+}
+
+#[repr(C)]
+#[derive(Clone, Copy, Debug, Default, PartialEq, Eq)]
+pub struct Packed {
+    pub number: i32,
+    pub place: u16,
+    pub code: u8,
+    pub given: u8,
+}
+
+#[repr(C)]
+#[derive(Clone, Copy, Debug, Default, PartialEq, Eq)]
+pub struct Observation {
+    pub latitude: Figure,
+    pub longitude: Figure,
+    pub time: Figure,
+    pub altitude: Figure,
+    pub temperature: Figure,
+    pub wind_direction: Figure,
+    pub wind_speed: Figure,
+    pub gust: Figure,
+    pub vapour: Figure,
+    pub kind: u8,
+    pub quality: u8,
+    pub present: u16,
+}
+
+#[repr(C)]
+#[derive(Clone, Copy, Debug, Default, PartialEq, Eq)]
+pub struct Report {
+    pub departure: [u8; 4],
+    pub arrival: [u8; 4],
+    pub designator: [u8; 6],
+    pub spare: [u8; 2],
+    pub first: Observation,
+    pub later: [Observation; 7],
+}
+
+#[repr(C)]
+#[derive(Clone, Copy, Debug, Default, PartialEq, Eq)]
+pub struct ReportGot {
+    pub answer: Answer,
+    pub report: Report,
+}
+
+// The header promises sizes without padding; where a size is the sum of its members, so are the offsets.
+const _: () = {
+    assert!(size_of::<Answer>() == 8 && offset_of!(Answer, length) == 4);
+    assert!(offset_of!(Answer, code) == 6 && offset_of!(Answer, text) == 7);
+    assert!(size_of::<Figure>() == 8 && offset_of!(Figure, given) == 4);
+    assert!(size_of::<Packed>() == 8 && offset_of!(Packed, place) == 4);
+    assert!(offset_of!(Packed, code) == 6 && offset_of!(Packed, given) == 7);
+    assert!(size_of::<Observation>() == 76 && offset_of!(Observation, vapour) == 64);
+    assert!(offset_of!(Observation, longitude) == 8 && offset_of!(Observation, time) == 16);
+    assert!(offset_of!(Observation, altitude) == 24 && offset_of!(Observation, temperature) == 32);
+    assert!(offset_of!(Observation, wind_direction) == 40 && offset_of!(Observation, wind_speed) == 48);
+    assert!(offset_of!(Observation, gust) == 56 && offset_of!(Observation, kind) == 72);
+    assert!(offset_of!(Observation, quality) == 73 && offset_of!(Observation, present) == 74);
+    assert!(size_of::<Report>() == 624 && offset_of!(Report, arrival) == 4);
+    assert!(offset_of!(Report, designator) == 8 && offset_of!(Report, spare) == 14);
+    assert!(offset_of!(Report, first) == 16 && offset_of!(Report, later) == 92);
+    assert!(size_of::<ReportGot>() == 632 && offset_of!(ReportGot, report) == 8);
+};
+
+/// A struct of the header, as bytes: all members are numbers, and there is no padding.
+///
+/// # Safety
+/// Only for structs in which every sequence of bytes is a value and no byte is padding.
+pub unsafe trait Plain: Copy {}
+unsafe impl Plain for Answer {}
+unsafe impl Plain for Figure {}
+unsafe impl Plain for Packed {}
+unsafe impl Plain for Report {}
+unsafe impl Plain for ReportGot {}
+
+pub fn bytes_of<T: Plain>(of: &T) -> &[u8] {
+    unsafe { std::slice::from_raw_parts((of as *const T).cast(), size_of::<T>()) }
+}
+
+/// The struct whose bytes these are; as many as it has.
+pub fn of_bytes<T: Plain>(bytes: &[u8]) -> T {
+    assert_eq!(bytes.len(), size_of::<T>());
+    unsafe { bytes.as_ptr().cast::<T>().read_unaligned() }
+}

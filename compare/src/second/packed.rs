@@ -1,0 +1,112 @@
+//! Packed figures: base 40, most significant digit first, less 20·40^(k-1) for k digits.
+
+use super::{refuse, Refusal, BYTE, LENGTH, RANGE, ROOM, SPELLING};
+
+/// The forty digits in the order of their worth; the last four are those of section 3.1 of source document 001.
+static DIGITS: [u8; 40] = *b"0123456789ABCDEFGHIJKLMNOPQRSTUVWXYZ:,-.";
+
+/// The worth of a byte that is no digit: above every digit's, and told by its top bit.
+const NONE: u8 = 0x80;
+
+/// "One table of 256 entries gives every byte its worth."
+static WORTH: [u8; 256] = worths();
+
+const fn worths() -> [u8; 256] {
+    let digits = b"0123456789ABCDEFGHIJKLMNOPQRSTUVWXYZ:,-.";
+    let mut table = [NONE; 256];
+    let mut worth = 0;
+    while worth < 40 {
+        table[digits[worth] as usize] = worth as u8;
+        worth += 1;
+    }
+    table
+}
+
+/// `HALF[k]` is 20·40^(k-1): k digits hold the figures from -HALF[k] up to, not including, HALF[k].
+const HALF: [i32; 6] = [0, 20, 800, 32_000, 1_280_000, 51_200_000];
+
+#[inline(always)]
+fn fits(figure: i32, digits: usize) -> bool {
+    -HALF[digits] <= figure && figure < HALF[digits]
+}
+
+/// Reads a lone field; a missing figure is `None`. Every refusal of a lone field stands at place 0.
+pub fn read(field: &[u8]) -> Result<Option<i32>, Refusal> {
+    if field.is_empty() || field.len() > 5 {
+        return refuse(LENGTH, 0);
+    }
+    match figure(field) {
+        Ok(figure) => Ok(figure),
+        Err(code) => refuse(code, 0),
+    }
+}
+
+/// The figure of a field of 1 to 5 bytes, or the code that refuses it: 4 before 6.
+#[inline(always)]
+pub fn figure(field: &[u8]) -> Result<Option<i32>, u8> {
+    let mut spaces = 0;
+    while spaces < field.len() && field[spaces] == b' ' {
+        spaces += 1;
+    }
+    let digits = field.len() - spaces;
+    let mut sum = 0u32;
+    for &byte in &field[spaces..] {
+        let worth = WORTH[byte as usize];
+        if worth == NONE {
+            return without_digits(field);
+        }
+        sum = sum * 40 + u32::from(worth);
+    }
+    if digits == 0 {
+        return Err(BYTE);
+    }
+    let figure = sum as i32 - HALF[digits];
+    if fits(figure, digits - 1) {
+        return Err(SPELLING);
+    }
+    Ok(Some(figure))
+}
+
+/// A field wholly `/` is a missing figure; any other field with a byte that is no digit is refused.
+#[inline(always)]
+fn without_digits(field: &[u8]) -> Result<Option<i32>, u8> {
+    if field.iter().all(|&byte| byte == b'/') {
+        Ok(None)
+    } else {
+        Err(BYTE)
+    }
+}
+
+/// Writes a figure, or a missing one, at the start of `out`: code 1 for the width, then 5, then 2.
+pub fn write(figure: Option<i32>, width: usize, out: &mut [u8]) -> Result<usize, Refusal> {
+    if width == 0 || width > 5 {
+        return refuse(LENGTH, 0);
+    }
+    if figure.is_some_and(|figure| !fits(figure, width)) {
+        return refuse(RANGE, 0);
+    }
+    if out.len() < width {
+        return refuse(ROOM, 0);
+    }
+    put(figure, &mut out[..width]);
+    Ok(width)
+}
+
+/// Spells a figure that fits into a field: the fewest digits that hold it, behind spaces; a missing one as solidi.
+#[inline(always)]
+pub fn put(figure: Option<i32>, field: &mut [u8]) {
+    let Some(figure) = figure else {
+        return field.fill(b'/');
+    };
+    let mut digits = 1;
+    while !fits(figure, digits) {
+        digits += 1;
+    }
+    let mut rest = (figure + HALF[digits]) as u32;
+    let spaces = field.len() - digits;
+    field[..spaces].fill(b' ');
+    for byte in field[spaces..].iter_mut().rev() {
+        *byte = DIGITS[(rest % 40) as usize];
+        rest /= 40;
+    }
+}
