@@ -1,0 +1,109 @@
+-- Document 01, "The waiting board", as a value: for each slot who waits for what.
+use mathlib.Core.Bool.{Bool, true, false, cond, not, _&&_, _||_}
+use mathlib.Core.List.{List, [], _∷_}
+use Prim.Native.Nat.{ℕ, zero, suc}
+use lib.Dec.{leb, eqb}
+use lib.ListN.{length, getD, set}
+use Rattle.text.specs.Names.{allAllowed}
+use Rattle.text.specs.Equal.{sameBytes}
+use Rattle.text.specs.declared.Seen.{Seen}
+use Rattle.text.specs.declared.Seen.the-variants.{Fine, Bad}
+use Rattle.command.specs.Text.{checkCommand}
+use Rattle.config.specs.Config.{isFine}
+use Rattle.join.specs.Join.{joinText}
+
+-- a designator is six allowed bytes
+abbrev pub isDesignator : List ℕ → Bool
+isDesignator d = eqb (length d) 6 && allAllowed d
+
+-- ---- Places: a place is free where no text waits; whom it then names is of no account
+
+pub record Place : Type 0 where
+  pub who : List ℕ
+  pub text : List ℕ
+
+abbrev pub nowhere : Place
+nowhere = record { who = []; text = [] }
+
+abbrev pub isNone : List ℕ → Bool
+isNone [] = true
+isNone (b ∷ bs) = false
+
+unfoldable pub isFree : Place → Bool
+isFree x = isNone (x .text)
+
+unfoldable pub isFor : List ℕ → Place → Bool
+isFor d x = not (isFree x) && sameBytes d (x .who)
+
+-- whether some place passes a test, and which is the first that does
+unfoldable pub any : (Place → Bool) → List Place → Bool
+any test [] = false
+any test (x ∷ b) = test x || any test b
+
+unfoldable pub lowest : (Place → Bool) → List Place → ℕ
+lowest test [] = zero
+lowest test (x ∷ b) = cond (test x) zero (suc (lowest test b))
+
+-- the text that waits for an aircraft; nothing where none does
+unfoldable pub waiting : List ℕ → List Place → List ℕ
+waiting d b = getD b (lowest (isFor d) b) nowhere .text
+
+-- ---- Valid: used designators well formed and different, used texts accepted
+
+abbrev pub isSound : Place → List Place → Bool
+isSound x rest =
+    isFree x || (isDesignator (x .who) && (isFine (checkCommand (x .text)) && isNone (waiting (x .who) rest)))
+
+unfoldable pub isValid : List Place → Bool
+isValid [] = true
+isValid (x ∷ b) = isSound x b && isValid b
+
+-- ---- What a call does to the board
+
+pub data Move : Type 0 where
+  Stay : ℕ → ℕ → Move  -- nothing: code and place of the refusal
+  Put : ℕ → List ℕ → List ℕ → Move  -- slot i then holds the text t for the aircraft d
+  Free : ℕ → List ℕ → Move  -- slot i is freed and its text t handed over
+
+abbrev pub onSeen : Seen → Move → Move
+onSeen Fine m = m
+onSeen (Bad code place) m = Stay code place
+
+-- join onto that aircraft's text, or use the lowest free slot, or 9
+abbrev pub placed : List Place → List ℕ → List ℕ → Move
+placed b d t =
+    cond (any (isFor d) b) (Put (lowest (isFor d) b) d (joinText (waiting d b) t))
+    (cond (any isFree b) (Put (lowest isFree b) d t)
+    (Stay 9 0))
+
+-- adding: 10, designator (4), the command's own refusals
+unfoldable pub add : List Place → List ℕ → List ℕ → Move
+add b d t =
+    cond (isValid b) (cond (isDesignator d) (onSeen (checkCommand t) (placed b d t)) (Stay 4 0)) (Stay 10 0)
+
+-- taking: 10, 4, 11, 2
+unfoldable pub takeOut : List Place → List ℕ → ℕ → Move
+takeOut b d room =
+    cond (isValid b)
+    (cond (isDesignator d)
+    (cond (any (isFor d) b)
+    (cond (leb (length (waiting d b)) room) (Free (lowest (isFor d) b) (waiting d b)) (Stay 2 0))
+    (Stay 11 0))
+    (Stay 4 0))
+    (Stay 10 0)
+
+abbrev pub onBoard : Move → List Place → List Place
+onBoard (Stay code place) b = b
+onBoard (Put i d t) b = set b i (record { who = d; text = t })
+onBoard (Free i t) b = set b i (record { who = getD b i nowhere .who; text = [] })
+
+-- ---- What it answers: the text that then waits or is handed over, or the refusal
+
+pub data Reply : Type 0 where
+  Given : List ℕ → Reply
+  Refused : ℕ → ℕ → Reply
+
+abbrev pub replyOf : Move → Reply
+replyOf (Stay code place) = Refused code place
+replyOf (Put i d t) = Given t
+replyOf (Free i t) = Given t

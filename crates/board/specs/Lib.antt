@@ -1,0 +1,3 @@
+pub mod Board
+pub mod History
+pub mod Lent
