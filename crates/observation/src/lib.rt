@@ -1,4 +1,9 @@
 // One observation of a report: the first, with an absolute position and time, or a later one, with changes.
+mod byte;
+pub mod fine;
+pub mod read;
+mod table;
+
 use packed::Figure;
 
 // A figure's place in an observation: how wide it is written, and the least and the greatest it may be.

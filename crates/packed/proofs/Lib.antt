@@ -1,6 +1,7 @@
 -- The laws of the packed field.
 pub mod Digits
 pub mod Put
+pub mod Refusal
 pub mod RoundTrip
 pub mod Scan
 pub mod Signs
