@@ -86,7 +86,8 @@ unfolding allSolidi
 solidi-all zero = refl
 solidi-all (suc w) = solidi-all w
 
-solidi-back : (f : List ℕ) → allSolidi f ≡ true → replicate (length f) 47 ≡ f
+-- solidi, written back
+pub solidi-back : (f : List ℕ) → allSolidi f ≡ true → replicate (length f) 47 ≡ f
 unfolding allSolidi
 solidi-back [] e = refl
 solidi-back (b ∷ bs) e =
