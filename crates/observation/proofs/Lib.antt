@@ -1,7 +1,10 @@
 -- The laws of an observation.
 pub mod Acceptance
 pub mod Figures
+pub mod Checked
 pub mod Gathered
 pub mod RoundTrip
+pub mod Rows
 pub mod Solidi
 pub mod Steps
+pub mod Text

@@ -1,8 +1,10 @@
 // One observation of a report: the first, with an absolute position and time, or a later one, with changes.
 mod byte;
+pub mod check;
 pub mod fine;
 pub mod read;
 mod table;
+pub mod write;
 
 use packed::Figure;
 

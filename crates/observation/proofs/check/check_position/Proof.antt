@@ -1,0 +1,63 @@
+-- `observation::check::check_position` meets its contract: each return by the tests that led there.
+use borrow.Author.Needs.{needs}
+use Rattle.observation.proofs.check.check_position.Statement.{statement}
+use Rattle.observation.proofs.check.check_position.Tie as tie
+use mathlib.Core.Path.{_≡_, refl, sym, ap, _∙_}
+use borrow.Author.Tests.{not-true, not-false}
+use Rattle.observation.specs.Figures.{checkFigures}
+
+add-second : tie.Need-add-second
+add-second c = search needs
+
+add-third : tie.Need-add-third
+add-third c = search needs
+
+allowed-requires : tie.Need-allowed-requires
+allowed-requires c κs = search needs
+
+returns : tie.Need-returns
+unfolding checkFigures
+returns c = rw (sym (c .before .allowed .ensures) ∙ not-true _ (c .if1 .taken))
+
+allowed-requires-2 : tie.Need-allowed-requires-2
+allowed-requires-2 c κs = search needs
+
+returns-2 : tie.Need-returns-2
+unfolding checkFigures
+returns-2 c =
+    let t2 = c in
+    let t1 = t2 .before .before in
+    rw (sym (t1 .before .allowed .ensures) ∙ not-false _ (t1 .if1 .left), sym (t2 .before .allowed2 .ensures) ∙ not-true _ (t2 .if2 .taken))
+
+allowed-requires-3 : tie.Need-allowed-requires-3
+allowed-requires-3 c κs = search needs
+
+returns-3 : tie.Need-returns-3
+unfolding checkFigures
+returns-3 c =
+    let t3 = c in
+    let t2 = t3 .before .before in
+    let t1 = t2 .before .before in
+    rw (sym (t1 .before .allowed .ensures) ∙ not-false _ (t1 .if1 .left), sym (t2 .before .allowed2 .ensures) ∙ not-false _ (t2 .if2 .left), sym (t3 .before .allowed3 .ensures) ∙ not-true _ (t3 .if3 .taken))
+
+returns-4 : tie.Need-returns-4
+unfolding checkFigures
+returns-4 c =
+    let t3 = c in
+    let t2 = t3 .before .before in
+    let t1 = t2 .before .before in
+    rw (sym (t1 .before .allowed .ensures) ∙ not-false _ (t1 .if1 .left), sym (t2 .before .allowed2 .ensures) ∙ not-false _ (t2 .if2 .left), sym (t3 .before .allowed3 .ensures) ∙ not-false _ (t3 .if3 .left))
+
+pub check-position-spec : {M : Type 1} → statement M
+check-position-spec =
+    tie.close
+    (tie.spec
+    add-second
+    add-third
+    allowed-requires
+    returns
+    allowed-requires-2
+    returns-2
+    allowed-requires-3
+    returns-3
+    returns-4)

@@ -1,0 +1,23 @@
+-- `observation::write::write_first` meets its contract: a record that passed its check fits.
+use borrow.Author.Needs.{needs}
+use Rattle.observation.proofs.write.write_first.Statement.{statement}
+use Rattle.observation.proofs.write.write_first.Tie as tie
+use mathlib.Core.Path.{_≡_, refl, sym, ap, _∙_}
+use Rattle.observation.specs.Observation.{firstRows}
+use Rattle.observation.proofs.Rows.{first-sound}
+use Rattle.observation.proofs.Checked.{first-allowed, allowed-fitting}
+
+put-observation-requires : tie.Need-put-observation-requires
+put-observation-requires c κs =
+    let s = c .before .before in
+    let o = s .args .o in
+    (s .pre .0, (search needs, (search needs, search needs, search needs, allowed-fitting firstRows o first-sound (first-allowed 0 o (s .pre .1 .1)))))
+
+same-length : tie.Need-same-length
+same-length c = search needs
+
+returns : tie.Need-returns
+returns c = search needs
+
+pub write-first-spec : {M : Type 1} → statement M
+write-first-spec = tie.close (tie.spec put-observation-requires same-length returns)
