@@ -154,7 +154,7 @@ number-fits w least most s at p e =
     room-cases w s at seen p e
     (λ (h : at + w ≤ length s) (o : seen ≡ Next p). two-passed (allDigits (part at w s)) (leb least v && leb v most) at (at + w) p o)
 
-one-passed : (t : Bool) (code at next p : ℕ) → cond t (Next next) (Stop code at) ≡ Next p → t ≡ true
+pub one-passed : (t : Bool) (code at next p : ℕ) → cond t (Next next) (Stop code at) ≡ Next p → t ≡ true
 one-passed true code at next p e = refl
 one-passed false code at next p e = stop-next code at p e
 

@@ -1,0 +1,4 @@
+-- The laws that the layers above cite.
+pub mod Each
+pub mod Head
+pub mod Parts
