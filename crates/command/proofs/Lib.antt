@@ -2,3 +2,5 @@
 pub mod Each
 pub mod Head
 pub mod Parts
+pub mod Walk
+pub mod Marks
