@@ -4,3 +4,5 @@ pub mod Head
 pub mod Parts
 pub mod Walk
 pub mod Marks
+pub mod Accepted
+pub mod Written
