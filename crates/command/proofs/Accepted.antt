@@ -112,6 +112,12 @@ module _ (s : List ℕ) (a : Accepted s) where
         sections = sections-walked .places;
       }
 
+  -- the indicators are the marks of the sections that have bytes
+  pub marked : part 13 8 s ≡ marks (bodyOf s) numbers
+  marked =
+      let i = a .head .inside in
+      indicators s (omega arith) ∙ sym (marks-are (bodyOf s) (byteOf s) numbers indicators-are (sections-walked .named))
+
   -- the text is the 22 bytes and then the named sections' own bytes
   pub spelt : s ≡ textOf (partsOf s)
   unfolding textOf
@@ -119,7 +125,6 @@ module _ (s : List ℕ) (a : Accepted s) where
       let i = a .head .inside in
       let w = sections-walked in
       let f = bodyOf s in
-      let marked : part 13 8 s ≡ marks f numbers = indicators s (omega arith) ∙ sym (marks-are f (byteOf s) numbers indicators-are (w .named)) in
       let rest : drop 22 s ≡ bodies f numbers =
       w .text ∙ ap (λ (l : List ℕ). bodies f numbers ++ l) (drop-length s) ∙ append-nil (bodies f numbers) in
       let ends : drop 21 s ≡ 47 ∷ bodies f numbers = drop-cons s 21 0 (omega arith) ∙ ap₂ _∷_ (a .head .ends) rest in

@@ -14,17 +14,20 @@ abbrev pub Rising : ℕ → List ℕ → Type 0
 Rising lo [] = Unit
 Rising lo (k ∷ ks) = (lo ≤ k) × Rising (suc k) ks
 
-pub each-all : {P : ℕ → Type 0} → ((k : ℕ) → P k) → (ks : List ℕ) → Each P ks
-each-all f [] = tt
-each-all f (k ∷ ks) = (f k, each-all f ks)
+-- what holds of every number holds of each
+pub each-all : (P : ℕ → Type 0) → ((k : ℕ) → P k) → (ks : List ℕ) → Each P ks
+each-all P f [] = tt
+each-all P f (k ∷ ks) = (f k, each-all P f ks)
 
-pub each-map : {P Q : ℕ → Type 0} → ((k : ℕ) → P k → Q k) → (ks : List ℕ) → Each P ks → Each Q ks
-each-map f [] p = tt
-each-map f (k ∷ ks) p = (f k (p .0), each-map f ks (p .1))
+-- one thing from another, at each
+pub each-map : (P Q : ℕ → Type 0) → ((k : ℕ) → P k → Q k) → (ks : List ℕ) → Each P ks → Each Q ks
+each-map P Q f [] p = tt
+each-map P Q f (k ∷ ks) p = (f k (p .0), each-map P Q f ks (p .1))
 
-pub each-with : {P Q R : ℕ → Type 0} → ((k : ℕ) → P k → Q k → R k) → (ks : List ℕ) → Each P ks → Each Q ks → Each R ks
-each-with f [] p q = tt
-each-with f (k ∷ ks) p q = (f k (p .0) (q .0), each-with f ks (p .1) (q .1))
+-- and from two others
+pub each-with : (P Q R : ℕ → Type 0) → ((k : ℕ) → P k → Q k → R k) → (ks : List ℕ) → Each P ks → Each Q ks → Each R ks
+each-with P Q R f [] p q = tt
+each-with P Q R f (k ∷ ks) p q = (f k (p .0) (q .0), each-with P Q R f ks (p .1) (q .1))
 
 -- in a list that rises from lo, only numbers from lo on have to be thought of
 pub each-rising : {P Q : ℕ → Type 0} (lo : ℕ) (ks : List ℕ) → Rising lo ks → ((k : ℕ) → lo ≤ k → P k → Q k) → Each P ks → Each Q ks

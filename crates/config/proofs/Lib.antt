@@ -1,0 +1,2 @@
+-- The laws that the layers above cite.
+pub mod Apply
