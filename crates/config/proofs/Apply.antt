@@ -160,6 +160,11 @@ nine-is b =
     (λ (e : b ≡ 57). rw e)
     (λ (n : b ≡ 57 → ⊥). rw (ne-eqb b 57 n) (ne-eqb (b - 48) 9 (λ (e : b - 48 ≡ 9). n (omega arith))))
 
+-- the flags by the command's
+pub flags-own : (x : Settings) (s : List ℕ) → applyTo x s .flags ≡ newFlags (x .flags) (flagsOf s)
+unfolding applyTo settingsFrom
+flags-own x s = refl
+
 -- a configuration keeps its seven flags
 pub flags-length : (x : Settings) (s : List ℕ) → length (applyTo x s .flags) ≡ length (x .flags)
 unfolding applyTo settingsFrom
