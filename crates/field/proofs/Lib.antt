@@ -1,0 +1,5 @@
+-- The laws that the layers above cite.
+pub mod Decimal
+pub mod Number
+pub mod Edges
+pub mod Within
