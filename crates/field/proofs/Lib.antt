@@ -3,3 +3,4 @@ pub mod Decimal
 pub mod Number
 pub mod Edges
 pub mod Within
+pub mod Accepted
