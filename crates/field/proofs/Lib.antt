@@ -4,3 +4,4 @@ pub mod Number
 pub mod Edges
 pub mod Within
 pub mod Accepted
+pub mod Repeat
