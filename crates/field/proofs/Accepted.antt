@@ -203,3 +203,7 @@ module _ (s : List ℕ) (at : ℕ) where
   box-next b =
       rw (pair-next latitude northFirst s at (at + 3) (at + 6) (record { first = b .north; second = b .south; ordered = b .falling }))
       (pair-next longitude westFirst s (at + 6) (at + 10) (at + 14) (record { first = b .west; second = b .east; ordered = b .rising }))
+
+-- the text has an accepted box whole
+pub box-room : (s : List ℕ) (at p : ℕ) → checkBox s at ≡ Next p → at + 14 ≤ length s
+box-room s at p e = omega (arith, edge longitude s (at + 10) (at + 14) (box s at p e .1 .east) .room)
