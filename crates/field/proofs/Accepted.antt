@@ -187,15 +187,17 @@ module _ (s : List ℕ) (at : ℕ) where
       let w : at + 6 + 4 ≡ at + 10 = omega arith in
       let second : checkEdge longitude s (at + 10) ≡ Next p = rw w at (lon .second) in
       let end : at + 10 + 4 ≡ p = edge longitude s (at + 10) p second .next in
-      let q : p ≡ at + 14 = omega arith in
-      (sym q, record {
-        north = lat .first;
-        south = lat .second ∙ ap Next m;
-        falling = lat .ordered;
-        west = lon .first ∙ ap Next w;
-        east = second ∙ ap Next q;
-        rising = rw w at (lon .ordered);
-      })
+      let q : p ≡ at + 14 = omega arith in (
+        sym q,
+        record {
+          north = lat .first;
+          south = lat .second ∙ ap Next m;
+          falling = lat .ordered;
+          west = lon .first ∙ ap Next w;
+          east = second ∙ ap Next q;
+          rising = rw w at (lon .ordered);
+        },
+      )
 
   -- and what makes one
   pub box-next : Box s at → checkBox s at ≡ Next (at + 14)

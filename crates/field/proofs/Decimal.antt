@@ -8,8 +8,8 @@ use native.Mathlib.Nat.{add-zero, zero-add, pow-suc, pow-zero, pow-le-pow-right,
 use native.Mathlib.Numerals.{add-one}
 use lib.Arith.{digits-lt}
 use lib.Dec.{leb, lit<}
-use lib.ListN.{length, getD, take, drop, length-drop, drop-of-length-le}
-use lib.Seq.{drop-cons, getD-take, getD-drop, length-take-le}
+use lib.ListN.{length, getD, set, take, drop, length-drop, drop-of-length-le}
+use lib.Seq.{drop-cons, drop-set-lt, getD-take, getD-drop, getD-set-same, lt-length-set, length-take-le}
 use borrow.Author.Tests.{le-leb, lt-leb, leb-true}
 use Rattle.text.proofs.Cases.{both-left, both-right}
 use Rattle.text.specs.Parts.{part}
@@ -166,3 +166,23 @@ decimal-value s e =
     let w = length s in
     value-same (decimal w (value s)) s 0 0 (decimal-length w (value s)) (decimal-digits w (value s)) e
     (value-decimal w (value s) (value-lt s e)) .1
+
+-- ---- Digits, written from the right
+
+-- one digit is stored before those that stand
+pub digits-turn : (l : List ℕ) (i v : ℕ) → 0 < i → i ≤ length l
+    → digitsBefore i v (drop i l) ≡ digitsBefore (i - 1) (v / 10) (drop (i - 1) (set l (i - 1) (48 + v % 10)))
+unfolding digitsBefore
+digits-turn l zero v p h = absurd (omega arith)
+digits-turn l (suc j) v p h =
+    let e : suc j - 1 ≡ j = omega arith in
+    let byte : ℕ = 48 + v % 10 in
+    let stored : drop j (set l j byte) ≡ byte ∷ drop (suc j) l =
+    drop-cons (set l j byte) j 0 (lt-length-set l j byte h) ∙ rw (getD-set-same l j byte 0 h, drop-set-lt (suc j) l j byte (omega arith)) in
+    rw (e, stored)
+
+-- all are stored
+pub digits-done : (l : List ℕ) (i v : ℕ) → i ≤ 0 → digitsBefore i v (drop i l) ≡ l
+unfolding digitsBefore
+digits-done l zero v h = refl
+digits-done l (suc i) v h = absurd (omega arith)

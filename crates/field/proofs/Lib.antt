@@ -5,3 +5,5 @@ pub mod Edges
 pub mod Within
 pub mod Accepted
 pub mod Repeat
+pub mod Pairs
+pub mod Spelling

@@ -5,8 +5,10 @@ use Prim.Native.Nat.{ℕ, _+_}
 use lib.Dec.{leb, ltb}
 use lib.ListN.{length, getD}
 use Rattle.text.specs.Parts.{part}
+use Rattle.text.specs.Checks.{must, _andThen_}
+use Rattle.text.specs.declared.Seen.{Seen}
 use Rattle.field.specs.Decimal.{allDigits, value}
-use Rattle.field.specs.Boxes.{isLetter, belowZero, lineOf}
+use Rattle.field.specs.Boxes.{isLetter, belowZero, lineOf, edgeAllowed}
 use Rattle.field.specs.declared.Circle.{Circle}
 use Rattle.field.specs.declared.Edge.{Edge}
 use Rattle.field.specs.declared.Step.{Step}
@@ -44,3 +46,8 @@ abbrev pub twoLines : Bool → Line → Line → ℕ → ℕ → ℕ → Step
 twoLines falling (Wrong code) second at mid end = Stop code at
 twoLines falling (Lies x) (Wrong code) at mid end = Stop code mid
 twoLines falling (Lies x) (Lies y) at mid end = cond (orderly falling x y) (Next end) (Stop 7 mid)
+
+-- a record's pair of edges, which would stand at two places
+unfoldable pub pairAllowed : Bool → Circle → Edge → Edge → ℕ → ℕ → Seen
+pairAllowed falling c first second at mid =
+    edgeAllowed c at first andThen edgeAllowed c mid second andThen must (inOrder falling c first second) 7 mid

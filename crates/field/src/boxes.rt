@@ -90,7 +90,7 @@ fn longitude_of(a: u8, b: u8, c: u8, l: u8) -> Line
     line_or(longitudes(), three(a, b, c), l)
 }
 
-fn in_order(falling: bool, x: usize, y: usize) -> bool
+pub fn in_order(falling: bool, x: usize, y: usize) -> bool
     ensures { λ r. ⌜ r ≡ orderly falling x y ⌝ }
 {
     if falling { y <= x } else { x <= y }

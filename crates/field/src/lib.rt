@@ -3,6 +3,8 @@ pub mod boxes;
 pub mod check;
 pub mod digits;
 pub mod read;
+pub mod record;
+pub mod write;
 
 // Where a check of a text has come to: the place behind what was checked, or the refusal's code and place.
 pub enum Step {

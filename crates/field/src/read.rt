@@ -8,7 +8,7 @@ use crate::digits::small_at;
 ghost use mathlib.Core.Path.{_≡_};
 ghost use Prim.Native.Nat.{_+_, _≤_};
 ghost use Rattle.field.specs.declared.Step.the-variants.{Next};
-ghost use Rattle.field.specs.Boxes.{edgeAt, regionAt, checkEdge, checkBox};
+ghost use Rattle.field.specs.Boxes.{edgeAt, regionAt, checkEdge, checkBox, noRegion};
 
 fn edge_at(c: Circle, s: &[u8], at: usize) -> Edge
     requires { ⌜ (c .width ≤ 3) × (c .most ≤ 255) ⌝ }
@@ -36,5 +36,21 @@ pub fn region_at(s: &[u8], at: usize) -> Region
         south: edge_at(latitudes(), s, south),
         west: edge_at(longitudes(), s, west),
         east: edge_at(longitudes(), s, east),
+    }
+}
+
+// An unused entry of a list: all zero.
+pub fn no_region() -> Region
+    ensures { λ r. ⌜ r ≡ noRegion ⌝ }
+{
+    let none = Edge {
+        degrees: 0,
+        letter: 0,
+    };
+    Region {
+        north: none,
+        south: none,
+        west: none,
+        east: none,
     }
 }

@@ -1,9 +1,9 @@
 // The counted lists as records, from a text whose check went on.
 use crate::Airfields;
 use crate::Boxes;
-use field::Edge;
 use field::Region;
 use field::digits::small_at;
+use field::read::no_region;
 use field::read::region_at;
 ghost use mathlib.Core.Path.{_≡_};
 ghost use mathlib.Core.List.{_++_};
@@ -44,21 +44,6 @@ pub fn airfields_at(s: &[u8], at: usize) -> Airfields
     let count = small_at(s, at, 2);
     let names = names_of(s, at + 2, 4 * index(count));
     Airfields { count, names }
-}
-
-pub fn no_region() -> Region
-    ensures { λ r. ⌜ r ≡ noRegion ⌝ }
-{
-    let none = Edge {
-        degrees: 0,
-        letter: 0,
-    };
-    Region {
-        north: none,
-        south: none,
-        west: none,
-        east: none,
-    }
 }
 
 // n boxes, and zeros behind them.

@@ -14,6 +14,7 @@ use Prim.Native.Nat.{_<_}
 -- the edge was accepted
 side : (c : tie.Start) → Side (c .args .c) (now (c .args .s)) (c .args .at) (c .args .at + (c .args .c .width + 1))
 side c = edge _ _ _ _ (c .pre .1)
+
 -- extra]
 
 add-last : tie.Need-add-last

@@ -19,6 +19,7 @@ boxed c = box _ _ _ (c .pre) .1
 
 room : (c : tie.Start) → c .args .at + 10 + 4 ≤ length (now (c .args .s))
 room c = edge longitude (now (c .args .s)) (c .args .at + 10) (c .args .at + 14) (boxed c .east) .room
+
 -- extra]
 
 add-south : tie.Need-add-south

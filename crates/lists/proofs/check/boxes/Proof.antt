@@ -23,6 +23,7 @@ count : (c : tie.After-known-told2)
     → let a = c .before .before .before .before .before .args in
     Number 2 0 16 (now (a .s)) (a .at) (c .before .count2 .given .0 .0)
 count c = number _ _ _ _ _ _ (seen c)
+
 -- extra]
 
 number-requires : tie.Need-number-requires

@@ -17,6 +17,7 @@ named c = airfields _ _ _ (c .pre .1)
 
 counted : (c : tie.After-index) → c .index .result ≡ countAt (now (c .before .before .before .args .s)) (c .before .before .before .args .at)
 counted c = c .index .ensures ∙ c .before .small-at .ensures
+
 -- extra]
 
 small-at-requires : tie.Need-small-at-requires

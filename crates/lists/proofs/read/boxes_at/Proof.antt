@@ -18,6 +18,7 @@ listed c = counted _ _ _ _ _ (c .pre .1)
 
 many : (c : tie.After-index) → c .index .result ≡ countAt (now (c .before .before .before .args .s)) (c .before .before .before .args .at)
 many c = c .index .ensures ∙ c .before .small-at .ensures
+
 -- extra]
 
 small-at-requires : tie.Need-small-at-requires

@@ -37,6 +37,7 @@ accepted c =
     let s = now (a .s) in
     let x = repeat-next (checkBox s) (a .n) (l .i) (l .p) (a .from + 14 * a .n) (c .loop-test .taken) (l .inv .2) in
     x .first ∙ ap Next (sym (box s (l .p) (x .mid) (x .first) .0))
+
 -- extra]
 
 no-region-requires : tie.Need-no-region-requires Inv-loop μ-loop
