@@ -14,7 +14,7 @@ use Rattle.text.specs.Parts.{part}
 use Rattle.text.proofs.Cases.{by-test, by-lt, by-le}
 use Rattle.field.specs.Decimal.{allDigits, value}
 use Rattle.field.specs.Fields.{after, room, checkNumber, checkMark, checkDelimiter, checkAirfield, repeat}
-use Rattle.field.specs.Boxes.{Circle, latitude, longitude, isLetter, belowZero, edgeAt, checkEdge, checkPair, checkBox, northFirst, westFirst, regionAt}
+use Rattle.field.specs.Boxes.{latitude, longitude, isLetter, belowZero, edgeAt, checkEdge, checkPair, checkBox, northFirst, westFirst, regionAt}
 use Rattle.field.specs.declared.Step.{Step}
 use Rattle.field.specs.declared.Step.the-variants.{Next, Stop}
 use Rattle.field.specs.declared.Edge.{Edge}

@@ -13,9 +13,10 @@ use Rattle.text.specs.Names.{between, allAllowed}
 use Rattle.text.specs.Parts.{part}
 use Rattle.field.specs.Decimal.{allDigits, value}
 use Rattle.field.specs.Fields.{after, room, checkNumber, checkMark, checkDelimiter, checkAirfield}
-use Rattle.field.specs.Boxes.{Circle, latitude, longitude, isLetter, belowZero, edgeAt, checkEdge, checkPair, checkBox, northFirst, westFirst, regionAt}
+use Rattle.field.specs.Boxes.{latitude, longitude, isLetter, belowZero, edgeAt, checkEdge, checkPair, checkBox, northFirst, westFirst, regionAt}
 use Rattle.field.specs.declared.Step.{Step}
 use Rattle.field.specs.declared.Step.the-variants.{Next, Stop}
+use Rattle.field.specs.declared.Circle.{Circle}
 use Rattle.field.specs.declared.Edge.{Edge}
 use Rattle.field.specs.declared.Region.{Region}
 use Rattle.field.proofs.Local.{Local, Reads, Sized, stop-next, room-cases, outcome, field, field-local, field-reads, field-sized, part-byte, local-same, same-reads, same-sized, reads-fixed, reads-with, reads-same}

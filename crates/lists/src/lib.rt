@@ -1,6 +1,9 @@
 // The counted lists of a command: airfields and boxes. Unused entries of a record are zero.
 use field::Region;
 
+pub mod check;
+pub mod read;
+
 #[repr(C)]
 pub struct Airfields {
     pub count: u8,
