@@ -1,17 +1,15 @@
 -- The accepted command: 22 bytes and then the named sections' own bytes.
 use mathlib.Core.Path.{_≡_, refl, sym, ap, ap₂, _∙_}
-use mathlib.Core.Bool.{Bool, true, false, cond, _&&_}
-use mathlib.Core.List.{List, [], _∷_, _++_, map, append-assoc, append-nil}
-use Prim.Native.Nat.{ℕ, zero, suc, _+_, _≤_, _<_}
+use mathlib.Core.Bool.{true, false, _&&_}
+use mathlib.Core.List.{List, _∷_, _++_, map, append-assoc, append-nil}
+use Prim.Native.Nat.{ℕ, _+_, _≤_}
 use native.Mathlib.Omega.{arith}
 use lib.Dec.{leb, eqb}
-use lib.ListN.{length, getD, take, drop, length-append, length-drop, take-append-drop}
-use lib.Seq.{drop-cons, take-at, drop-at, getD-at, take-add, drop-drop, length-take-le, drop-length, drop-append-add}
+use lib.ListN.{length, getD, drop, length-drop, take-append-drop}
+use lib.Seq.{drop-cons, take-add, drop-drop, length-take-le, drop-length}
 use borrow.Author.Tests.{leb-true, le-leb, eq-eqb, eqb-true}
 use Rattle.text.specs.Parts.{part}
-use Rattle.text.specs.Checks.{must}
-use Rattle.text.specs.declared.Seen.{Seen}
-use Rattle.text.specs.declared.Seen.the-variants.{Fine, Bad}
+use Rattle.text.specs.declared.Seen.the-variants.{Fine}
 use Rattle.text.proofs.Cases.{by-test, both-left, both-right}
 use Rattle.text.proofs.Parts.{part-rest}
 use Rattle.text.proofs.Checks.{bad-fine, must-held}
@@ -19,15 +17,14 @@ use Rattle.field.specs.Fields.{after}
 use Rattle.field.specs.declared.Step.{Step}
 use Rattle.field.specs.declared.Step.the-variants.{Next, Stop}
 use Rattle.field.proofs.Local.{after-cases}
-use Rattle.section.specs.Layout.{layoutOf, isEmpty, itemsMost}
-use Rattle.section.proofs.Own.{Own, own-most}
-use Rattle.command.specs.Text.{awr04, isDownlink, isIndicator, numbers, headBytes, isNamed, checkHead, checkFrom, sectionsMost, longest, ended, checkCommand}
+use Rattle.section.specs.Layout.{layoutOf, itemsMost}
+use Rattle.command.specs.Text.{isDownlink, isIndicator, numbers, isNamed, checkHead, checkFrom, sectionsMost, longest, ended, checkCommand}
 use Rattle.command.specs.Record.{heldIn}
 use Rattle.command.proofs.Each.{Each, Rising}
-use Rattle.command.proofs.Head.{Head, head-next, head-passes, passes, passes-length, passes-append, passes-apart, part-cons}
-use Rattle.command.proofs.Parts.{Parts, present, marks, bodies, textOf, bodyOf, partsOf, Place, Absent, Present, flagTests, Sound, holds}
-use Rattle.command.proofs.Marks.{byteOf, indicators, indicators-pass, marks-are, marks-length, marks-pass, names-from}
-use Rattle.command.proofs.Walk.{Walked, walked, held-body, Found, finds}
+use Rattle.command.proofs.Head.{Head, head-next, head-passes, passes, passes-apart, part-cons}
+use Rattle.command.proofs.Parts.{present, marks, bodies, textOf, bodyOf, partsOf, flagTests, Sound, holds}
+use Rattle.command.proofs.Marks.{byteOf, indicators, indicators-pass, marks-are}
+use Rattle.command.proofs.Walk.{Walked, walked, held-body}
 
 -- ---- What the check says
 

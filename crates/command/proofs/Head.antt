@@ -1,23 +1,22 @@
 -- The first 22 bytes of an accepted command: what they are, and that they are accepted.
-use mathlib.Core.Path.{_≡_, refl, sym, ap, ap₂, _∙_}
+use mathlib.Core.Path.{_≡_, refl, ap, _∙_}
 use mathlib.Core.Bool.{Bool, true, false, cond, _&&_}
 use mathlib.Core.List.{List, [], _∷_, _++_}
-use Prim.Native.Nat.{ℕ, zero, suc, _+_, _≤_, _<_}
+use Prim.Native.Nat.{ℕ, suc, _+_, _≤_, _<_}
 use native.Mathlib.Omega.{arith}
 use native.Mathlib.Numerals.{add-one}
-use lib.Dec.{leb, eqb}
-use lib.ListN.{length, getD, take, drop}
+use lib.ListN.{length, getD}
 use lib.Seq.{drop-cons}
 use borrow.Author.Tests.{le-leb, eq-eqb}
 use Rattle.text.specs.Parts.{part}
 use Rattle.text.specs.Equal.{sameBytes}
 use Rattle.text.proofs.Cases.{by-test, both-left, both-right}
 use Rattle.text.proofs.Equal.{same-equal, equal-same}
-use Rattle.field.specs.Fields.{after, room, checkDelimiter}
-use Rattle.field.specs.declared.Step.{Step}
+use Rattle.field.specs.Fields.{after, checkDelimiter}
 use Rattle.field.specs.declared.Step.the-variants.{Next, Stop}
-use Rattle.field.proofs.Local.{stop-next, after-cases, room-cases}
-use Rattle.field.proofs.LocalFields.{one-passed, delimiter-is, delimiter-local, delimiter-sized}
+use Rattle.field.proofs.Accepted.{stop-next, delimiter}
+use Rattle.field.proofs.Local.{after-cases, room-cases}
+use Rattle.field.proofs.LocalFields.{delimiter-local, delimiter-sized}
 use Rattle.command.specs.Text.{awr04, headBytes, checkEach, checkAwr04, checkHead}
 
 -- each byte passes its own test, and there are as many bytes as tests
@@ -107,6 +106,10 @@ pub record Head (s : List ℕ) : Type 0 where
   pub bytes : passes headBytes (part 5 16 s) ≡ true
   pub ends : getD s 21 0 ≡ 47
 
+one-passed : (t : Bool) (code at next p : ℕ) → cond t (Next next) (Stop code at) ≡ Next p → t ≡ true
+one-passed true code at next p e = refl
+one-passed false code at next p e = stop-next code at p e
+
 awr-next : (s : List ℕ) (p : ℕ) → checkAwr04 s ≡ Next p → (5 ≤ length s) × (part 0 5 s ≡ awr04) × (5 ≡ p)
 unfolding checkAwr04
 awr-next s p e =
@@ -126,7 +129,7 @@ rest-next s p h b e =
     let at : q ≡ 21 = r .ends in
     let n : p ≡ q + 1 = delimiter-sized .passes s q p c in
     let l : p ≤ length s = delimiter-local .filled s q p c (omega arith) in
-    (record { inside = omega arith; begins = b; bytes = r .bytes; ends = rw at at (delimiter-is s q p c) }, omega arith))
+    (record { inside = omega arith; begins = b; bytes = r .bytes; ends = rw at at (delimiter s q p c .1) }, omega arith))
 
 -- an accepted head is one, and ends at 22
 pub head-next : (s : List ℕ) (p : ℕ) → checkHead s ≡ Next p → Head s × (p ≡ 22)

@@ -1,28 +1,26 @@
 -- The named sections of a text, one after the other: the walk over them finds each one's own bytes.
 use mathlib.Core.Path.{_≡_, refl, sym, ap, ap₂, _∙_}
-use mathlib.Core.Bool.{Bool, true, false, cond, _&&_, _||_, not}
+use mathlib.Core.Bool.{true, false, _&&_, not}
 use mathlib.Core.List.{List, [], _∷_, _++_, append-assoc}
-use Prim.Native.Nat.{ℕ, zero, suc, _+_, _≤_, _<_}
+use Prim.Native.Nat.{ℕ, suc, _+_, _≤_, _<_}
 use native.Mathlib.Omega.{arith}
 use native.Mathlib.Nat.{add-zero}
-use lib.Dec.{leb, eqb}
+use lib.Dec.{eqb}
 use lib.ListN.{length, getD, take, drop, length-append, length-drop, take-append-drop}
 use lib.Seq.{length-take-le, drop-drop, drop-append-seam}
 use borrow.Author.Tests.{eq-eqb, ne-eqb, eqb-true, not-true}
 use Rattle.text.specs.Parts.{part}
-use Rattle.text.proofs.Cases.{by-test, both-left, both-right}
+use Rattle.text.proofs.Cases.{by-test, both-left}
 use Rattle.text.proofs.Parts.{part-rest}
-use Rattle.field.specs.Fields.{after}
-use Rattle.field.specs.declared.Step.{Step}
-use Rattle.field.specs.declared.Step.the-variants.{Next, Stop}
+use Rattle.field.specs.declared.Step.the-variants.{Next}
 use Rattle.field.proofs.Local.{after-cases}
 use Rattle.section.specs.Layout.{layoutOf, isEmpty, checkSection, checkItems, itemsSize}
-use Rattle.section.specs.Contents.{Content, contentsAt}
-use Rattle.section.proofs.Own.{Own, own-some, put-check, put-size, put-part, cut-end, cut-inside, cut-length, cut-own, cut-contents}
+use Rattle.section.specs.Contents.{contentsAt}
+use Rattle.section.proofs.Own.{Own, own-some, put-check, put-size, put-part, cut-end, cut-own, cut-contents}
 use Rattle.command.specs.Text.{isIndicator, isNamed, checkFrom}
 use Rattle.command.specs.Record.{held}
 use Rattle.command.proofs.Each.{Each, Rising, each-rising}
-use Rattle.command.proofs.Parts.{present, markOf, bodies, bodyFrom, Place, Absent, Present, holds}
+use Rattle.command.proofs.Parts.{present, bodies, bodyFrom, Place, Absent, Present, holds}
 
 -- ---- Bodies and the walk in a list that rises
 
@@ -199,8 +197,8 @@ module _ (f : ℕ → List ℕ) (k : ℕ) (ks s : List ℕ) (at : ℕ) (rises : 
         found = (
           body-first k ks s at n ∙ cut,
           each-rising (suc k) ks rises
-          (λ j h (z : bodyFrom ks s (at + length (f k)) j ≡ f j).
-          body-later k ks s at j n h ∙ ap (λ (m : ℕ). bodyFrom ks s (at + m) j) size ∙ z) (g .found),
+              (λ j h (z : bodyFrom ks s (at + length (f k)) j ≡ f j).
+              body-later k ks s at j n h ∙ ap (λ (m : ℕ). bodyFrom ks s (at + m) j) size ∙ z) (g .found),
         );
       }
 

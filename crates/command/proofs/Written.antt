@@ -1,15 +1,15 @@
 -- Every text of sound parts is accepted, and its parts are found again.
-use mathlib.Core.Path.{_≡_, refl, sym, ap, ap₂, _∙_}
-use mathlib.Core.Bool.{true, _&&_}
+use mathlib.Core.Path.{_≡_, refl, sym, ap, _∙_}
+use mathlib.Core.Bool.{true}
 use mathlib.Core.List.{List, [], _∷_, _++_, map, append-assoc, append-nil}
 use Prim.Native.Nat.{ℕ, _+_, _≤_}
 use native.Mathlib.Omega.{arith}
 use lib.ListN.{length, getD, take, drop, length-append}
 use lib.Seq.{take-at, getD-at, drop-append-add}
 use Rattle.text.specs.Parts.{part}
-use Rattle.text.specs.declared.Seen.the-variants.{Fine, Bad}
-use Rattle.field.specs.declared.Step.the-variants.{Next, Stop}
-use Rattle.section.specs.Layout.{layoutOf, isEmpty, itemsMost}
+use Rattle.text.specs.declared.Seen.the-variants.{Fine}
+use Rattle.field.specs.declared.Step.the-variants.{Next}
+use Rattle.section.specs.Layout.{layoutOf}
 use Rattle.section.proofs.Own.{own-most}
 use Rattle.command.specs.Text.{awr04, isDownlink, isIndicator, numbers, isNamed, sectionsMost, checkCommand}
 use Rattle.command.proofs.Each.{Each}

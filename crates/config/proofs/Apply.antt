@@ -1,25 +1,25 @@
 -- What a configuration is once a command was applied to it: its flags, and what each of its sections holds.
-use mathlib.Core.Path.{_≡_, refl, sym, ap, ap₂, _∙_}
-use mathlib.Core.Bool.{Bool, true, false, cond}
-use mathlib.Core.List.{List, [], _∷_, _++_, map}
-use Prim.Native.Nat.{ℕ, zero, suc, _+_, _-_, _≤_, _<_}
+use mathlib.Core.Path.{_≡_, refl, sym, ap, _∙_}
+use mathlib.Core.Bool.{false, cond}
+use mathlib.Core.List.{List, [], _∷_}
+use Prim.Native.Nat.{ℕ, zero, suc, _+_, _-_, _<_}
 use native.Mathlib.Omega.{arith}
 use lib.Dec.{eqb}
-use lib.ListN.{length, getD, replicate, take, drop, length-map, length-drop}
+use lib.ListN.{length, getD, replicate, drop, length-map, length-drop}
 use lib.Seq.{length-take-le}
-use borrow.Author.Tests.{eq-eqb, ne-eqb}
+use borrow.Author.Tests.{ne-eqb}
 use Rattle.text.specs.Parts.{part}
-use Rattle.text.proofs.Cases.{by-test, by-eq}
+use Rattle.text.proofs.Cases.{by-eq}
 use Rattle.field.proofs.Local.{part-byte}
-use Rattle.section.specs.Layout.{layoutOf, isEmpty}
+use Rattle.section.specs.Layout.{layoutOf}
 use Rattle.section.specs.Contents.{Content, contentsAt}
 use Rattle.section.specs.Settings.{contentsOf, settingsFrom, regionsFrom, airportsFrom, enrouteFrom, ascentFrom, hoursFrom}
 use Rattle.section.specs.declared.Settings.{Settings}
 use Rattle.command.specs.Text.{numbers, isNamed}
 use Rattle.command.specs.Record.{digitsOf, heldIn, flagsOf}
 use Rattle.command.proofs.Each.{Each, each-all, each-map, each-with}
-use Rattle.command.proofs.Parts.{present, bodyOf, partsOf, Place, Absent, Present, holds}
-use Rattle.command.proofs.Accepted.{Accepted, sound, named-present, held-own}
+use Rattle.command.proofs.Parts.{present, bodyOf, holds}
+use Rattle.command.proofs.Accepted.{Accepted, named-present, held-own}
 use Rattle.config.specs.Config.{newFlag, newFlags, applyTo}
 
 -- ---- Settings and what their sections hold
@@ -83,13 +83,22 @@ module _ (fs : List ℕ) (h : ℕ → List Content) where
 
   -- what was put into settings is found there again
   pub contents-back : Each (λ k. Fit k (h k)) numbers → Each (λ k. contentsOf (settingsFrom fs h) k ≡ h k) numbers
-  contents-back f =
-      (fit2 (f .0),
-      (fit3 (f .1 .0),
-      (fit4 (f .1 .1 .0),
-      (fit5 (f .1 .1 .1 .0),
-      (fit6 (f .1 .1 .1 .1 .0),
-      (fit7 (f .1 .1 .1 .1 .1 .0), (fit8 (f .1 .1 .1 .1 .1 .1 .0), (fit9 (f .1 .1 .1 .1 .1 .1 .1 .0), tt))))))))
+  contents-back f = (
+    fit2 (f .0),
+    (
+      fit3 (f .1 .0),
+      (
+        fit4 (f .1 .1 .0),
+        (
+          fit5 (f .1 .1 .1 .0),
+          (
+            fit6 (f .1 .1 .1 .1 .0),
+            (fit7 (f .1 .1 .1 .1 .1 .0), (fit8 (f .1 .1 .1 .1 .1 .1 .0), (fit9 (f .1 .1 .1 .1 .1 .1 .1 .0), tt))),
+          ),
+        ),
+      ),
+    ),
+  )
 
 -- ---- Sections after a command
 

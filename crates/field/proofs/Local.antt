@@ -1,24 +1,18 @@
 -- A check of a text from a place on looks only at the bytes that it passes over.
 use mathlib.Core.Path.{_≡_, refl, sym, ap, _∙_}
-use mathlib.Core.Bool.{Bool, true, false, cond, _&&_}
-use mathlib.Core.List.{List, [], _∷_, _++_}
-use Prim.Native.Nat.{ℕ, zero, suc, _+_, _-_, _≤_, _<_}
+use mathlib.Core.List.{List, _++_}
+use Prim.Native.Nat.{ℕ, zero, suc, _+_, _≤_, _<_}
 use native.Mathlib.Omega.{arith}
 use native.Mathlib.Nat.{add-assoc}
-use lib.Dec.{leb, eqb}
 use lib.ListN.{length, getD, take, drop, length-append, length-drop}
-use lib.Seq.{take-append-le, drop-append-le, drop-append-add, getD-take, getD-drop, take-take}
-use borrow.Author.Tests.{leb-true, le-leb, lt-leb}
-use Rattle.text.specs.Names.{between, allAllowed}
+use lib.Seq.{take-append-le, drop-append-le, drop-append-add, getD-take, getD-drop}
+use borrow.Author.Tests.{le-leb, lt-leb}
 use Rattle.text.specs.Parts.{part}
-use Rattle.text.proofs.Cases.{by-test, by-lt, by-le}
-use Rattle.field.specs.Decimal.{allDigits, value}
-use Rattle.field.specs.Fields.{after, room, checkNumber, checkMark, checkDelimiter, checkAirfield, repeat}
-use Rattle.field.specs.Boxes.{latitude, longitude, isLetter, belowZero, edgeAt, checkEdge, checkPair, checkBox, northFirst, westFirst, regionAt}
+use Rattle.text.proofs.Cases.{by-lt, by-le}
+use Rattle.field.specs.Fields.{after, room}
 use Rattle.field.specs.declared.Step.{Step}
 use Rattle.field.specs.declared.Step.the-variants.{Next, Stop}
-use Rattle.field.specs.declared.Edge.{Edge}
-use Rattle.field.specs.declared.Region.{Region}
+use Rattle.field.proofs.Accepted.{stop-next}
 
 -- ---- The notions
 
@@ -52,9 +46,6 @@ ends-inside f F s at p e h =
     by-lt at p (λ (l : at < p). F .filled s at p e l) (λ (l : p ≤ at). omega arith)
 
 -- ---- Cases
-
-pub stop-next {ℓ} : {P : Type ℓ} (code at p : ℕ) → Stop code at ≡ Next p → P
-stop-next code at p e = let z : _≡_ {A = ℕ} 0 1 = cc in absurd (omega arith)
 
 -- one check and then another came through: so did each
 pub after-cases {ℓ} : {P : Type ℓ} (x : Step) (more : ℕ → Step) (q : ℕ) → after x more ≡ Next q

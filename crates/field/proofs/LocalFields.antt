@@ -2,25 +2,24 @@
 use mathlib.Core.Path.{_≡_, refl, sym, ap, _∙_}
 use mathlib.Core.Bool.{Bool, true, false, cond, _&&_}
 use mathlib.Core.List.{List}
-use Prim.Native.Nat.{ℕ, zero, suc, _+_, _-_, _≤_, _<_}
+use Prim.Native.Nat.{ℕ, suc, _+_}
 use native.Mathlib.Omega.{arith}
 use native.Mathlib.Nat.{add-zero}
 use lib.Dec.{leb, eqb}
-use lib.ListN.{length, getD, take, drop}
+use lib.ListN.{getD, take, drop}
 use lib.Seq.{take-take}
-use borrow.Author.Tests.{eqb-true}
 use Rattle.text.specs.Names.{between, allAllowed}
 use Rattle.text.specs.Parts.{part}
 use Rattle.field.specs.Decimal.{allDigits, value}
-use Rattle.field.specs.Fields.{after, room, checkNumber, checkMark, checkDelimiter, checkAirfield}
+use Rattle.field.specs.Fields.{room, checkNumber, checkMark, checkDelimiter, checkAirfield}
 use Rattle.field.specs.Boxes.{latitude, longitude, isLetter, belowZero, edgeAt, checkEdge, checkPair, checkBox, northFirst, westFirst, regionAt}
 use Rattle.field.specs.declared.Step.{Step}
 use Rattle.field.specs.declared.Step.the-variants.{Next, Stop}
 use Rattle.field.specs.declared.Circle.{Circle}
 use Rattle.field.specs.declared.Edge.{Edge}
 use Rattle.field.specs.declared.Region.{Region}
-use Rattle.field.proofs.Local.{Local, Reads, Sized, stop-next, room-cases, outcome, field, field-local, field-reads, field-sized, part-byte, local-same, same-reads, same-sized, reads-fixed, reads-with, reads-same}
-use Rattle.field.proofs.LocalThen.{bound, bound-local, bound-first, bound-second, bound-sized, judged, judged-local, judged-reads, judged-sized}
+use Rattle.field.proofs.Local.{Local, Reads, Sized, outcome, field, field-local, field-reads, field-sized, part-byte, local-same, same-reads, same-sized, reads-fixed, reads-with, reads-same}
+use Rattle.field.proofs.LocalThen.{bound-local, bound-first, bound-second, bound-sized, judged, judged-local, judged-reads, judged-sized}
 
 -- ---- Each field as its bytes and a test of them
 
@@ -137,45 +136,6 @@ airfield-local = local-same checkAirfield (field 4 airfieldTest) airfield-field 
 
 pub airfield-sized : Sized checkAirfield (λ s at. 4)
 airfield-sized = same-sized checkAirfield (field 4 airfieldTest) airfield-field (λ s at. 4) (field-sized 4 airfieldTest)
-
--- ---- What an accepted number or mark is
-
-two-passed : (t u : Bool) (at next p : ℕ) → cond t (cond u (Next next) (Stop 5 at)) (Stop 4 at) ≡ Next p → u ≡ true
-two-passed true true at next p e = refl
-two-passed true false at next p e = stop-next 5 at p e
-two-passed false u at next p e = stop-next 4 at p e
-
--- a number lies between its limits
-pub number-fits : (w least most : ℕ) (s : List ℕ) (at p : ℕ) → checkNumber w least most s at ≡ Next p
-    → (leb least (value (part at w s)) && leb (value (part at w s)) most) ≡ true
-unfolding checkNumber
-number-fits w least most s at p e =
-    let v = value (part at w s) in
-    let seen = cond (allDigits (part at w s)) (cond (leb least v && leb v most) (Next (at + w)) (Stop 5 at)) (Stop 4 at) in
-    room-cases w s at seen p e
-    (λ (h : at + w ≤ length s) (o : seen ≡ Next p). two-passed (allDigits (part at w s)) (leb least v && leb v most) at (at + w) p o)
-
-pub one-passed : (t : Bool) (code at next p : ℕ) → cond t (Next next) (Stop code at) ≡ Next p → t ≡ true
-one-passed true code at next p e = refl
-one-passed false code at next p e = stop-next code at p e
-
--- a mark is one of its digits
-pub mark-fits : (least most : ℕ) (s : List ℕ) (at p : ℕ) → checkMark least most s at ≡ Next p
-    → between (48 + least) (48 + most) (getD s at 0) ≡ true
-unfolding checkMark
-mark-fits least most s at p e =
-    let t = between (48 + least) (48 + most) (getD s at 0) in
-    room-cases 1 s at (cond t (Next (at + 1)) (Stop 4 at)) p e
-    (λ (h : at + 1 ≤ length s) (o : cond t (Next (at + 1)) (Stop 4 at) ≡ Next p). one-passed t 4 at (at + 1) p o)
-
--- the delimiter is `/`
-pub delimiter-is : (s : List ℕ) (at p : ℕ) → checkDelimiter s at ≡ Next p → getD s at 0 ≡ 47
-unfolding checkDelimiter
-delimiter-is s at p e =
-    let t = eqb (getD s at 0) 47 in
-    room-cases 1 s at (cond t (Next (at + 1)) (Stop 3 at)) p e
-    (λ (h : at + 1 ≤ length s) (o : cond t (Next (at + 1)) (Stop 3 at) ≡ Next p).
-    eqb-true (getD s at 0) 47 (one-passed t 3 at (at + 1) p o))
 
 -- ---- Edges
 

@@ -1,5 +1,5 @@
 -- Checks one after the other, judged by what they read, or repeated: they look only at the bytes that they pass over.
-use mathlib.Core.Path.{_≡_, refl, sym, ap, _∙_}
+use mathlib.Core.Path.{_≡_, refl}
 use mathlib.Core.Bool.{Bool, true, false, cond}
 use mathlib.Core.List.{List, _++_}
 use Prim.Native.Nat.{ℕ, zero, suc, _+_, _*_, _≤_, _<_}
@@ -10,7 +10,8 @@ use Rattle.text.proofs.Cases.{by-lt}
 use Rattle.field.specs.Fields.{after, repeat}
 use Rattle.field.specs.declared.Step.{Step}
 use Rattle.field.specs.declared.Step.the-variants.{Next, Stop}
-use Rattle.field.proofs.Local.{shifted, Local, Reads, Sized, stop-next, after-cases, reads-fixed, reads-with, reads-under}
+use Rattle.field.proofs.Accepted.{stop-next}
+use Rattle.field.proofs.Local.{shifted, Local, Reads, Sized, after-cases, reads-fixed, reads-with, reads-under}
 
 -- ---- One check and then another, which may depend on what the first read
 

@@ -1,26 +1,25 @@
 -- Demand 3 on the bytes of commands: two accepted commands join into one accepted command that acts as the first and then the
 -- second and asks for the larger downlink; grouping never alters a byte; the no-change command alters nothing on either side.
-use mathlib.Core.Path.{_≡_, refl, sym, ap, ap₂, _∙_}
-use mathlib.Core.Bool.{Bool, true, false, cond, _&&_}
-use mathlib.Core.List.{List, [], _∷_, _++_}
-use Prim.Native.Nat.{ℕ, zero, suc, _+_, _-_, _≤_, max}
+use mathlib.Core.Path.{_≡_, refl, sym, ap, _∙_}
+use mathlib.Core.List.{List, []}
+use Prim.Native.Nat.{ℕ, _≤_, max}
 use native.Mathlib.Omega.{arith}
-use lib.Dec.{leb, eqb}
+use lib.Dec.{leb}
 use lib.ListN.{length, getD, replicate}
 use borrow.Author.Tests.{leb-true}
 use Rattle.text.specs.Parts.{part}
 use Rattle.text.specs.Equal.{sameBytes}
-use Rattle.text.specs.declared.Seen.the-variants.{Fine, Bad}
+use Rattle.text.specs.declared.Seen.the-variants.{Fine}
 use Rattle.text.proofs.Cases.{both-left}
 use Rattle.field.specs.Fields.{checkDelimiter}
 use Rattle.section.specs.Layout.{layoutOf, itemsMost}
 use Rattle.section.specs.Settings.{contentsOf, settingsFrom}
 use Rattle.section.specs.declared.Settings.{Settings}
-use Rattle.command.specs.Text.{numbers, isNamed, checkEach, checkAwr04, checkHead, checkFrom, sectionsMost, longest, checkCommand}
+use Rattle.command.specs.Text.{numbers, checkEach, checkAwr04, checkHead, checkFrom, sectionsMost, longest, checkCommand}
 use Rattle.command.specs.Record.{flagsOf, downlinkOf}
-use Rattle.command.proofs.Each.{Each, each-all, each-map, each-with}
+use Rattle.command.proofs.Each.{each-all, each-with}
 use Rattle.command.proofs.Head.{passes-length}
-use Rattle.command.proofs.Parts.{Parts, bodyFrom, bodyOf, partsOf, textOf, flagTests, Sound}
+use Rattle.command.proofs.Parts.{Parts, bodyFrom, bodyOf, partsOf, flagTests}
 use Rattle.command.proofs.Accepted.{Accepted, accepted, accepts, sound, spelt}
 use Rattle.config.specs.Config.{newFlags, applyTo}
 use Rattle.config.proofs.Apply.{setBy, settings-same, apply-own, section-own, flags-own, applies-nothing}

@@ -1,21 +1,17 @@
 -- The join by parts: the joined text is the text of the joined parts, and is accepted.
-use mathlib.Core.Path.{_≡_, refl, sym, ap, ap₂, _∙_}
-use mathlib.Core.Bool.{Bool, true, false, cond, _&&_}
+use mathlib.Core.Path.{_≡_, refl, ap, ap₂}
+use mathlib.Core.Bool.{true}
 use mathlib.Core.List.{List, [], _∷_, _++_}
-use Prim.Native.Nat.{ℕ, zero, suc, _+_, _≤_, max}
+use Prim.Native.Nat.{ℕ, _+_, _≤_, max}
 use native.Mathlib.Omega.{arith}
-use lib.Dec.{leb, eqb}
-use lib.ListN.{length, getD}
-use Rattle.text.specs.Parts.{part}
-use Rattle.text.specs.declared.Seen.the-variants.{Fine, Bad}
-use Rattle.text.proofs.Cases.{by-test, by-le}
+use Rattle.text.proofs.Cases.{by-le}
 use Rattle.section.specs.Layout.{layoutOf, itemsSize}
-use Rattle.command.specs.Text.{awr04, isDownlink, numbers, isNamed, checkCommand}
-use Rattle.command.proofs.Each.{Each, each-map, each-with}
+use Rattle.command.specs.Text.{isDownlink, numbers, isNamed}
+use Rattle.command.proofs.Each.{Each, each-with}
 use Rattle.command.proofs.Parts.{Parts, present, markOf, marks, bodies, textOf, bodyFrom, bodyOf, partsOf, Place, flagTests, Sound}
-use Rattle.command.proofs.Accepted.{Accepted, accepted, accepts, rising, sound, spelt, marked, named-present}
+use Rattle.command.proofs.Accepted.{Accepted, rising, sound, marked, named-present}
 use Rattle.command.proofs.Written.{flags-back, downlink-back, bodies-back, text-accepted}
-use Rattle.join.specs.Join.{bytesFrom, bytesOf, choose, joinSection, joinSections, joinText}
+use Rattle.join.specs.Join.{bytesFrom, choose, joinSection, joinSections, joinText}
 use Rattle.join.proofs.Places.{choose-passes, later, later-named, later-place, marks-later}
 
 -- ---- Parts that spell the same

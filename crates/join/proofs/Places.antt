@@ -1,19 +1,18 @@
 -- The join at one place and at all of them: flags and indicators as bytes, sections as their own bytes.
-use mathlib.Core.Path.{_≡_, refl, sym, ap, ap₂, _∙_}
-use mathlib.Core.Bool.{Bool, true, false, cond, _&&_}
-use mathlib.Core.List.{List, [], _∷_, _++_}
-use Prim.Native.Nat.{ℕ, zero, suc, _+_, _-_, _≤_, _<_, max}
+use mathlib.Core.Path.{_≡_, refl, sym, ap, ap₂}
+use mathlib.Core.Bool.{Bool, true, false, cond}
+use mathlib.Core.List.{List, [], _∷_}
+use Prim.Native.Nat.{ℕ, suc, _+_, _-_, _≤_}
 use native.Mathlib.Omega.{arith}
-use lib.Dec.{leb, eqb}
+use lib.Dec.{eqb}
 use lib.ListN.{length, replicate}
 use borrow.Author.Tests.{eq-eqb, ne-eqb, eqb-true}
-use Rattle.text.proofs.Cases.{by-test, by-le, both-left, both-right}
+use Rattle.text.proofs.Cases.{by-test, both-left, both-right}
 use Rattle.section.specs.Contents.{Content}
-use Rattle.command.specs.Text.{isDownlink}
 use Rattle.command.specs.Record.{digitsOf}
-use Rattle.command.proofs.Each.{Each, Rising}
+use Rattle.command.proofs.Each.{Rising}
 use Rattle.command.proofs.Head.{passes}
-use Rattle.command.proofs.Parts.{present, markOf, marks, bodies, Place, Absent, Present}
+use Rattle.command.proofs.Parts.{present, markOf, marks, Place}
 use Rattle.config.specs.Config.{newFlag, newFlags}
 use Rattle.config.proofs.Apply.{nine-is, setBy}
 use Rattle.join.specs.Join.{choose}

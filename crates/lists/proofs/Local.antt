@@ -1,23 +1,20 @@
 -- Counted lists: their checks look only at the bytes that they pass over, and so does what is read there.
-use mathlib.Core.Path.{_≡_, refl, sym, ap, _∙_}
-use mathlib.Core.Bool.{_&&_}
+use mathlib.Core.Path.{_≡_, refl}
 use mathlib.Core.List.{List, [], _∷_, _++_}
-use Prim.Native.Nat.{ℕ, zero, suc, _+_, _-_, _*_, _≤_, _<_}
+use Prim.Native.Nat.{ℕ, zero, suc, _+_, _-_, _*_, _≤_}
 use native.Mathlib.Omega.{arith}
-use lib.Dec.{leb}
-use lib.ListN.{length, replicate}
-use borrow.Author.Tests.{leb-true}
+use lib.ListN.{replicate}
 use Rattle.text.specs.Parts.{part}
-use Rattle.text.proofs.Cases.{both-right}
 use Rattle.field.specs.Decimal.{value}
-use Rattle.field.specs.Fields.{after, checkNumber, checkAirfield, repeat}
+use Rattle.field.specs.Fields.{checkNumber, checkAirfield, repeat}
 use Rattle.field.specs.Boxes.{checkBox, regionAt, noRegion}
 use Rattle.field.specs.declared.Step.{Step}
-use Rattle.field.specs.declared.Step.the-variants.{Next, Stop}
+use Rattle.field.specs.declared.Step.the-variants.{Next}
 use Rattle.field.specs.declared.Region.{Region}
-use Rattle.field.proofs.Local.{Local, Reads, Sized, after-cases, part-shift, part-extend, reads-fixed, reads-with}
-use Rattle.field.proofs.LocalThen.{bound, bound-local, bound-first, bound-second, bound-sized, several, several-local, several-passes, several-sized}
-use Rattle.field.proofs.LocalFields.{number-local, number-reads, number-sized, number-fits, airfield-local, airfield-sized, box-local, box-sized, box-reads}
+use Rattle.field.proofs.Local.{Local, Reads, Sized, part-shift, part-extend, reads-fixed, reads-with}
+use Rattle.field.proofs.LocalThen.{bound-local, bound-first, bound-second, bound-sized, several, several-local, several-passes, several-sized}
+use Rattle.field.proofs.LocalFields.{number-local, number-reads, number-sized, airfield-local, airfield-sized, box-local, box-sized, box-reads}
+use Rattle.lists.proofs.Accepted.{counted}
 use Rattle.lists.specs.Lists.{countAt, checkList, checkAirfields, airfieldsAt, checkBoxes, regionsAt, boxesAt}
 use Rattle.lists.specs.declared.Airfields.{Airfields}
 use Rattle.lists.specs.declared.Boxes.{Boxes}
@@ -54,11 +51,7 @@ module _ (limit : ℕ) (entry : List ℕ → ℕ → Step) where
 
   -- no accepted count is over its limit
   pub count-most : (s : List ℕ) (at p : ℕ) → checkList limit entry s at ≡ Next p → countAt s at ≤ limit
-  unfolding checkList
-  count-most s at q e =
-      after-cases (count s at) (repeat (entry s) (countAt s at)) q e
-      (λ p (d : count s at ≡ Next p) c.
-      leb-true (countAt s at) limit (both-right (leb 0 (countAt s at)) (leb (countAt s at) limit) (number-fits 2 0 limit s at p d)))
+  count-most s at p e = counted limit entry s at p e .count .high
 
 -- ---- Airfields
 

@@ -1,23 +1,19 @@
 -- Sections: their checks look only at the bytes that they pass over, and so does what is read there; how long each can be.
-use mathlib.Core.Path.{_≡_, refl, sym, ap, _∙_}
-use mathlib.Core.List.{List, [], _∷_, _++_}
-use Prim.Native.Nat.{ℕ, zero, suc, _+_, _-_, _*_, _≤_, _<_}
+use mathlib.Core.Path.{_≡_}
+use mathlib.Core.List.{List, [], _∷_}
+use Prim.Native.Nat.{ℕ, _+_, _-_, _≤_}
 use native.Mathlib.Omega.{arith}
-use native.Mathlib.Nat.{add-zero, zero-add}
-use lib.ListN.{length, getD}
-use Rattle.text.specs.Parts.{part}
 use Rattle.field.specs.Decimal.{value}
-use Rattle.field.specs.Fields.{after, checkDelimiter, checkAirfield}
+use Rattle.field.specs.Fields.{checkDelimiter, checkAirfield}
 use Rattle.field.specs.Boxes.{checkBox}
-use Rattle.field.specs.declared.Step.{Step}
-use Rattle.field.specs.declared.Step.the-variants.{Next, Stop}
-use Rattle.field.proofs.Local.{shifted, Local, Reads, Sized, after-cases, reads-fixed, reads-with}
-use Rattle.field.proofs.LocalThen.{bound, bound-local, bound-first, bound-second, bound-sized}
+use Rattle.field.specs.declared.Step.the-variants.{Next}
+use Rattle.field.proofs.Local.{Local, Reads, Sized, after-cases, reads-fixed, reads-with}
+use Rattle.field.proofs.LocalThen.{bound-local, bound-first, bound-second, bound-sized}
 use Rattle.field.proofs.LocalFields.{number-local, number-reads, number-sized, mark-local, mark-reads, mark-sized, delimiter-local, delimiter-sized}
 use Rattle.lists.specs.Lists.{checkAirfields, airfieldsAt, checkBoxes, boxesAt}
 use Rattle.lists.proofs.Local.{airfields-local, airfields-sized, airfields-reads, boxes-local, boxes-sized, boxes-reads, count-most}
 use Rattle.section.specs.Layout.{Item, Number, Mark, AirfieldList, BoxList, checkItem, checkItems, itemSize, itemsSize, itemMost, itemsMost}
-use Rattle.section.specs.Contents.{Content, Amount, Names, Areas, contentAt, contentsAt}
+use Rattle.section.specs.Contents.{Amount, Names, Areas, contentAt, contentsAt}
 
 -- ---- One item
 

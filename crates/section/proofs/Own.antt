@@ -1,7 +1,7 @@
 -- A section's own bytes: cut out of a text they are a section by themselves, and put into any text they are that section there.
 use mathlib.Core.Path.{_≡_, refl, sym, ap, _∙_}
-use mathlib.Core.List.{List, [], _∷_, _++_}
-use Prim.Native.Nat.{ℕ, zero, suc, _+_, _≤_, _<_}
+use mathlib.Core.List.{List, _++_}
+use Prim.Native.Nat.{ℕ, _+_, _≤_}
 use native.Mathlib.Omega.{arith}
 use native.Mathlib.Nat.{add-zero}
 use lib.ListN.{length, take, drop, length-drop, take-append-drop}
@@ -10,9 +10,10 @@ use Rattle.text.specs.Parts.{part}
 use Rattle.text.proofs.Parts.{part-rest}
 use Rattle.field.specs.declared.Step.{Step}
 use Rattle.field.specs.declared.Step.the-variants.{Next, Stop}
-use Rattle.field.proofs.Local.{shifted, stop-next}
+use Rattle.field.proofs.Accepted.{stop-next}
+use Rattle.field.proofs.Local.{shifted}
 use Rattle.section.specs.Layout.{Item, checkItems, itemsSize, itemsMost}
-use Rattle.section.specs.Contents.{Content, contentsAt}
+use Rattle.section.specs.Contents.{contentsAt}
 use Rattle.section.proofs.Local.{items-local, items-sized, items-reads, items-most, items-some}
 
 -- the bytes b are a section by themselves: accepted from their first to their last
