@@ -2,7 +2,7 @@
 use mathlib.Core.Path.{_≡_, refl, sym, ap, ap₂, _∙_}
 use mathlib.Core.Bool.{true, false, _&&_}
 use mathlib.Core.List.{List, _∷_, _++_, map, append-assoc, append-nil}
-use Prim.Native.Nat.{ℕ, _+_, _≤_}
+use Prim.Native.Nat.{ℕ, _+_, _≤_, _<_}
 use native.Mathlib.Omega.{arith}
 use lib.Dec.{leb, eqb}
 use lib.ListN.{length, getD, drop, length-drop, take-append-drop}
@@ -16,12 +16,12 @@ use Rattle.text.proofs.Checks.{bad-fine, must-held}
 use Rattle.field.specs.Fields.{after}
 use Rattle.field.specs.declared.Step.{Step}
 use Rattle.field.specs.declared.Step.the-variants.{Next, Stop}
-use Rattle.field.proofs.Local.{after-cases}
+use Rattle.field.proofs.Local.{after-cases, part-byte}
 use Rattle.section.specs.Layout.{layoutOf, itemsMost}
-use Rattle.command.specs.Text.{isDownlink, isIndicator, numbers, isNamed, checkHead, checkFrom, sectionsMost, longest, ended, checkCommand}
+use Rattle.command.specs.Text.{isFlag, isDownlink, isIndicator, numbers, isNamed, checkHead, checkFrom, sectionsMost, longest, ended, checkCommand}
 use Rattle.command.specs.Record.{heldIn}
 use Rattle.command.proofs.Each.{Each, Rising}
-use Rattle.command.proofs.Head.{Head, head-next, head-passes, passes, passes-apart, part-cons}
+use Rattle.command.proofs.Head.{Head, head-next, head-passes, passes, passes-apart, passes-at, part-cons}
 use Rattle.command.proofs.Parts.{present, marks, bodies, textOf, bodyOf, partsOf, flagTests, Sound, holds}
 use Rattle.command.proofs.Marks.{byteOf, indicators, indicators-pass, marks-are}
 use Rattle.command.proofs.Walk.{Walked, walked, held-body}
@@ -33,6 +33,7 @@ pub longest-is : longest ≡ 835
 unfolding longest sectionsMost layoutOf itemsMost
 longest-is = refl
 
+-- so 22 bytes and the longest sections are
 pub most-is : 22 + sectionsMost numbers ≡ 835
 unfolding sectionsMost layoutOf itemsMost
 most-is = refl
@@ -47,6 +48,7 @@ ended-next : (s : List ℕ) (r : Step) → ended s r ≡ Fine → r ≡ Next (le
 ended-next s (Next at) e = ap Next (eqb-true at (length s) (must-held (eqb at (length s)) 8 at e))
 ended-next s (Stop code place) e = bad-fine code place e
 
+-- what an accepted text is
 pub accepted : (s : List ℕ) → checkCommand s ≡ Fine → Accepted s
 unfolding checkCommand
 accepted s e =
@@ -59,6 +61,7 @@ accepted s e =
     record { short = rw longest-is at (leb-true (length s) longest l); head = k .0; walk = rw (k .1) at c }))
     (λ (l : leb (length s) longest ≡ false). bad-fine 1 0 (rw l at e))
 
+-- and nothing else is asked
 pub accepts : (s : List ℕ) → Accepted s → checkCommand s ≡ Fine
 unfolding checkCommand
 accepts s a =
@@ -66,6 +69,7 @@ accepts s a =
 
 -- ---- The parts of an accepted command
 
+-- the section numbers rise
 pub rising : Rising 2 numbers
 rising = omega arith
 
@@ -91,7 +95,16 @@ module _ (s : List ℕ) (a : Accepted s) where
   unfolding passes
   digit-pass = bytes-pass .1
 
-  indicators-are : Each (λ k. isIndicator k (byteOf s k) ≡ true) numbers
+  -- each of the bytes 5 to 11 is a flag
+  pub flag-byte : (i : ℕ) → i < 7 → isFlag (getD s (5 + i) 0) ≡ true
+  flag-byte i h = rw (part-byte 7 s 5 i h) at (passes-at isFlag 7 (part 5 7 s) i (bytes-pass .0) h)
+
+  -- byte 12 is a downlink digit
+  pub downlink-byte : isDownlink (getD s 12 0) ≡ true
+  downlink-byte = both-left (isDownlink (getD s 12 0)) (passes (map isIndicator numbers) (part 13 8 s)) digit-pass
+
+  -- each of the bytes 13 to 20 is its section's indicator
+  pub indicators-are : Each (λ k. isIndicator k (byteOf s k) ≡ true) numbers
   indicators-are =
       let i = a .head .inside in
       indicators-pass (byteOf s) numbers
@@ -105,7 +118,7 @@ module _ (s : List ℕ) (a : Accepted s) where
   sound =
       record {
         flags = bytes-pass .0;
-        downlink = both-left (isDownlink (getD s 12 0)) (passes (map isIndicator numbers) (part 13 8 s)) digit-pass;
+        downlink = downlink-byte;
         sections = sections-walked .places;
       }
 

@@ -2,10 +2,10 @@
 use mathlib.Core.Path.{_≡_, refl, ap, _∙_}
 use mathlib.Core.Bool.{Bool, true, false, cond, _&&_}
 use mathlib.Core.List.{List, [], _∷_, _++_}
-use Prim.Native.Nat.{ℕ, suc, _+_, _≤_, _<_}
+use Prim.Native.Nat.{ℕ, zero, suc, _+_, _≤_, _<_}
 use native.Mathlib.Omega.{arith}
 use native.Mathlib.Numerals.{add-one}
-use lib.ListN.{length, getD}
+use lib.ListN.{length, getD, replicate}
 use lib.Seq.{drop-cons}
 use borrow.Author.Tests.{le-leb, eq-eqb}
 use Rattle.text.specs.Parts.{part}
@@ -26,12 +26,21 @@ passes [] (b ∷ bs) = false
 passes (test ∷ tests) [] = false
 passes (test ∷ tests) (b ∷ bs) = test b && passes tests bs
 
+-- as many bytes as tests
 pub passes-length : (tests : List (ℕ → Bool)) (bs : List ℕ) → passes tests bs ≡ true → length bs ≡ length tests
 unfolding passes
 passes-length [] [] e = refl
 passes-length [] (b ∷ bs) e = cc
 passes-length (test ∷ tests) [] e = cc
 passes-length (test ∷ tests) (b ∷ bs) e = ap suc (passes-length tests bs (both-right (test b) (passes tests bs) e))
+
+-- where one test is for all, each byte passes it
+pub passes-at : (test : ℕ → Bool) (n : ℕ) (bs : List ℕ) (i : ℕ) → passes (replicate n test) bs ≡ true → i < n → test (getD bs i 0) ≡ true
+unfolding passes
+passes-at test zero bs i e h = absurd (omega arith)
+passes-at test (suc n) [] i e h = cc
+passes-at test (suc n) (b ∷ bs) zero e h = both-left (test b) (passes (replicate n test) bs) e
+passes-at test (suc n) (b ∷ bs) (suc i) e h = passes-at test n bs i (both-right (test b) (passes (replicate n test) bs) e) (omega arith)
 
 -- tests and bytes put together
 pub passes-append : (ts us : List (ℕ → Bool)) (bs cs : List ℕ) → passes ts bs ≡ true → passes us cs ≡ true
@@ -66,6 +75,7 @@ pub record Passed (tests : List (ℕ → Bool)) (s : List ℕ) (at p : ℕ) : Ty
   pub inside : p ≤ length s
   pub bytes : passes tests (part at (length tests) s) ≡ true
 
+-- bytes that were accepted one by one pass their tests
 pub each-passed : (tests : List (ℕ → Bool)) (s : List ℕ) (at p : ℕ) → checkEach tests s at ≡ Next p → at ≤ length s → Passed tests s at p
 unfolding checkEach passes
 each-passed [] s at p e h =
@@ -85,6 +95,7 @@ each-passed (test ∷ tests) s at p e h =
     })
     (λ (t : test (getD s at 0) ≡ false). stop-next 4 at p (rw t at o)))
 
+-- bytes that pass their tests are accepted one by one
 pub each-passes : (tests : List (ℕ → Bool)) (s : List ℕ) (at : ℕ) → at + length tests ≤ length s
     → passes tests (part at (length tests) s) ≡ true → checkEach tests s at ≡ Next (at + length tests)
 unfolding checkEach passes

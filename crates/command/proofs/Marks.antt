@@ -29,11 +29,7 @@ pub map-each : (f g : ℕ → ℕ) (ks : List ℕ) → map f ks ≡ map g ks →
 map-each f g [] e = tt
 map-each f g (k ∷ ks) e = (cc, map-each f g ks (cc))
 
-pub marks-map : (f : ℕ → List ℕ) (ks : List ℕ) → marks f ks ≡ map (λ k. markOf k (f k)) ks
-unfolding marks
-marks-map f [] = refl
-marks-map f (k ∷ ks) = ap (λ (l : List ℕ). markOf k (f k) ∷ l) (marks-map f ks)
-
+-- a mark for each section number
 pub marks-length : (f : ℕ → List ℕ) (ks : List ℕ) → length (marks f ks) ≡ length ks
 unfolding marks
 marks-length f [] = refl
@@ -41,6 +37,7 @@ marks-length f (k ∷ ks) = ap suc (marks-length f ks)
 
 -- ---- From the bytes
 
+-- each indicator passes its own test
 pub indicators-pass : (g : ℕ → ℕ) (ks : List ℕ) → passes (map isIndicator ks) (map g ks) ≡ true → Each (λ k. isIndicator k (g k) ≡ true) ks
 unfolding passes
 indicators-pass g [] e = tt
@@ -81,6 +78,7 @@ mark-passes k (c ∷ b) (Present some own) = rw (some, eq-eqb (48 + k) (48 + k) 
     or-true true = refl
     or-true false = refl
 
+-- the marks of allowed places pass the tests of indicators
 pub marks-pass : (f : ℕ → List ℕ) (ks : List ℕ) → Each (λ k. Place k (f k)) ks → passes (map isIndicator ks) (marks f ks) ≡ true
 unfolding passes marks
 marks-pass f [] p = refl

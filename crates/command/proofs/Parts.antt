@@ -20,6 +20,7 @@ pub record Parts : Type 0 where
 
 -- ---- The text of the parts
 
+-- whether there are bytes
 abbrev pub present : List ℕ → Bool
 present [] = false
 present (b ∷ bs) = true
@@ -29,14 +30,17 @@ abbrev pub markOf : ℕ → List ℕ → ℕ
 markOf k [] = 48
 markOf k (b ∷ bs) = 48 + k
 
+-- the indicators of the sections ks
 unfoldable pub marks : (ℕ → List ℕ) → List ℕ → List ℕ
 marks f [] = []
 marks f (k ∷ ks) = markOf k (f k) ∷ marks f ks
 
+-- the own bytes of the sections ks, one after the other
 unfoldable pub bodies : (ℕ → List ℕ) → List ℕ → List ℕ
 bodies f [] = []
 bodies f (k ∷ ks) = f k ++ bodies f ks
 
+-- `AWR04`, flags, downlink digit, indicators, `/`, sections
 unfoldable pub textOf : Parts → List ℕ
 textOf p =
     awr04
@@ -53,9 +57,11 @@ bodyFrom (k ∷ ks) s at j =
     (cond (eqb j k) (part at (itemsSize (layoutOf k) s at) s) (bodyFrom ks s (at + itemsSize (layoutOf k) s at) j))
     (bodyFrom ks s at j)
 
+-- the own bytes of section k of a command
 abbrev pub bodyOf : List ℕ → ℕ → List ℕ
 bodyOf s k = bodyFrom numbers s 22 k
 
+-- flags from byte 5, downlink digit at 12, sections from 22
 abbrev pub partsOf : List ℕ → Parts
 partsOf s = record { flags = part 5 7 s; downlink = getD s 12 0; sections = bodyOf s }
 
@@ -66,6 +72,7 @@ pub data Place (k : ℕ) (b : List ℕ) : Type 0 where
   Absent : b ≡ [] → Place k b
   Present : isEmpty (layoutOf k) ≡ false → Own (layoutOf k) b → Place k b
 
+-- seven flags
 abbrev pub flagTests : List (ℕ → Bool)
 flagTests = isFlag ∷ isFlag ∷ isFlag ∷ isFlag ∷ isFlag ∷ isFlag ∷ isFlag ∷ []
 

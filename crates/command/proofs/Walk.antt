@@ -50,6 +50,7 @@ module _ (k : ℕ) (ks s : List ℕ) (at : ℕ) where
   unfolding bodyFrom
   body-first n = rw (n, eq-eqb k k refl)
 
+  -- a section that is not named is passed by
   pub body-unnamed : (j : ℕ) → isNamed s k ≡ false → bodyFrom (k ∷ ks) s at j ≡ bodyFrom ks s at j
   unfolding bodyFrom
   body-unnamed j n = rw n
@@ -84,6 +85,7 @@ pub record Walked (ks s : List ℕ) (at p : ℕ) : Type 0 where
   pub named : Each (λ k. isNamed s k ≡ present (bodyFrom ks s at k)) ks
 
 module _ (k : ℕ) (ks s : List ℕ) (at p : ℕ) (rises : Rising (suc k) ks) where
+  -- a turn where the section is not named
   pub walked-unnamed : isNamed s k ≡ false → Walked ks s at p → Walked (k ∷ ks) s at p
   unfolding bodies
   walked-unnamed n w =
@@ -104,6 +106,7 @@ module _ (k : ℕ) (ks s : List ℕ) (at p : ℕ) (rises : Rising (suc k) ks) wh
         );
       }
 
+  -- a turn where it is
   pub walked-named : (q : ℕ) → isNamed s k ≡ true → isEmpty (layoutOf k) ≡ false → checkItems (layoutOf k) s at ≡ Next q
       → Walked ks s (at + itemsSize (layoutOf k) s at) p → Walked (k ∷ ks) s at p
   unfolding bodies
@@ -129,6 +132,7 @@ module _ (k : ℕ) (ks s : List ℕ) (at p : ℕ) (rises : Rising (suc k) ks) wh
         );
       }
 
+-- what the check of the sections ks found, from a place to where it came
 pub walked : (lo : ℕ) (ks s : List ℕ) (at p : ℕ) → 1 ≤ lo → Rising lo ks → Each (λ k. isIndicator k (getD s (11 + k) 0) ≡ true) ks
     → checkFrom ks s at ≡ Next p → Walked ks s at p
 unfolding checkFrom bodies
@@ -170,6 +174,7 @@ pub record Found (f : ℕ → List ℕ) (ks s : List ℕ) (at : ℕ) : Type 0 wh
   pub found : Each (λ k. bodyFrom ks s at k ≡ f k) ks
 
 module _ (f : ℕ → List ℕ) (k : ℕ) (ks s : List ℕ) (at : ℕ) (rises : Rising (suc k) ks) where
+  -- a turn where the section has no bytes
   pub found-absent : f k ≡ [] → isNamed s k ≡ false → Found f ks s at → Found f (k ∷ ks) s at
   unfolding checkFrom bodies
   found-absent none n g =
@@ -181,6 +186,7 @@ module _ (f : ℕ → List ℕ) (k : ℕ) (ks s : List ℕ) (at : ℕ) (rises : 
         );
       }
 
+  -- a turn where it has bytes
   pub found-present : (y : List ℕ) → Own (layoutOf k) (f k) → isNamed s k ≡ true → at ≤ length s → drop at s ≡ f k ++ y
       → Found f ks s (at + length (f k)) → Found f (k ∷ ks) s at
   unfolding checkFrom bodies
@@ -202,6 +208,7 @@ module _ (f : ℕ → List ℕ) (k : ℕ) (ks s : List ℕ) (at : ℕ) (rises : 
         );
       }
 
+-- the own bytes of allowed places, one after the other, are accepted and found again
 pub finds : (f : ℕ → List ℕ) (lo : ℕ) (ks s y : List ℕ) (at : ℕ) → Rising lo ks → Each (λ k. Place k (f k)) ks
     → Each (λ k. isNamed s k ≡ present (f k)) ks → at ≤ length s → drop at s ≡ bodies f ks ++ y → Found f ks s at
 unfolding checkFrom bodies

@@ -63,10 +63,12 @@ module _ (p : Parts) (ok : Sound p) where
   unfolding textOf
   flags-back = take-at (p .flags) (p .downlink ∷ (marks (p .sections) numbers ++ 47 ∷ bs)) 7 seven
 
+  -- so is the downlink digit
   pub downlink-back : getD (textOf p) 12 0 ≡ p .downlink
   unfolding textOf
   downlink-back = getD-at (p .flags) (p .downlink) (marks (p .sections) numbers ++ 47 ∷ bs) 0 7 seven
 
+  -- and so are the indicators
   pub marks-back : part 13 8 (textOf p) ≡ marks (p .sections) numbers
   unfolding textOf
   marks-back =
@@ -109,6 +111,7 @@ module _ (p : Parts) (ok : Sound p) where
   pub bodies-back : Each (λ k. bodyOf (textOf p) k ≡ p .sections k) numbers
   bodies-back = text-found .found
 
+  -- the text is accepted
   pub text-accepted : Accepted (textOf p)
   text-accepted =
       let l = text-length in

@@ -107,6 +107,7 @@ abbrev pub setBy : ℕ → List ℕ → List Content → List Content
 setBy k [] old = old
 setBy k (b ∷ bs) old = contentsAt (layoutOf k) (b ∷ bs) 0
 
+-- named is where bytes are
 pub set-named : (k : ℕ) (b : List ℕ) (old : List Content) → cond (present b) (holds k b) old ≡ setBy k b old
 set-named k [] old = refl
 set-named k (c ∷ b) old = refl
@@ -123,12 +124,14 @@ module _ (x : Settings) (s : List ℕ) (a : Accepted s) where
       (λ k. cond (isNamed s k) (heldIn s k) (contentsOf x k) ≡ setBy k (bodyOf s k) (contentsOf x k))
       (λ k n. rw (n, held-own s a k) (set-named k (bodyOf s k) (contentsOf x k))) numbers (named-present s a)
 
+  -- applying a command, by its sections' own bytes
   pub apply-own : applyTo x s ≡ settingsFrom (newFlags (x .flags) (flagsOf s)) (λ k. setBy k (bodyOf s k) (contentsOf x k))
   unfolding applyTo
   apply-own =
       settings-same (newFlags (x .flags) (flagsOf s)) (λ k. cond (isNamed s k) (heldIn s k) (contentsOf x k))
       (λ k. setBy k (bodyOf s k) (contentsOf x k)) hold-own
 
+  -- each section afterwards, by its own bytes in the command
   pub section-own : Each (λ k. contentsOf (applyTo x s) k ≡ setBy k (bodyOf s k) (contentsOf x k)) numbers
   section-own =
       rw apply-own
@@ -144,6 +147,7 @@ module _ (x : Settings) (s : List ℕ) (a : Accepted s) where
 
 -- ---- Flags after a command
 
+-- as many flags as before
 pub new-length : (os vs : List ℕ) → length (newFlags os vs) ≡ length os
 unfolding newFlags
 new-length [] vs = refl

@@ -12,7 +12,8 @@ use Rattle.text.specs.declared.Seen.the-variants.{Fine}
 use Rattle.text.proofs.Cases.{by-test, both-left, both-right}
 use Rattle.section.specs.Layout.{layoutOf}
 use Rattle.section.specs.Contents.{Content, contentsAt, contentsAllowed}
-use Rattle.section.specs.Settings.{contentsOf}
+use Rattle.lists.specs.Lists.{allZero, namesAllowed, airfieldsAllowed, regionsZero, regionsAllowed, boxesAllowed}
+use Rattle.section.specs.Settings.{contentsOf, settingsFrom, regionsFrom, airportsFrom, enrouteFrom, ascentFrom, hoursFrom}
 use Rattle.section.specs.declared.Settings.{Settings}
 use Rattle.section.proofs.Own.{own-some}
 use Rattle.section.proofs.Allowed.{contents-fine}
@@ -22,7 +23,7 @@ use Rattle.command.proofs.Each.{Each, each-with}
 use Rattle.command.proofs.Head.{passes}
 use Rattle.command.proofs.Parts.{bodyOf, Place, Absent, Present}
 use Rattle.command.proofs.Accepted.{accepted, sound}
-use Rattle.config.specs.Config.{newFlag, newFlags, flagsValid, isFine, sectionsValid, valid, applyTo}
+use Rattle.config.specs.Config.{newFlag, newFlags, flagsValid, isFine, sectionsValid, valid, reset, applyTo}
 use Rattle.config.proofs.Apply.{setBy, section-own, flags-own}
 
 -- ---- Flags
@@ -95,3 +96,8 @@ applies-valid x s h e =
     (each-with (λ k. contentsOf y k ≡ setBy k (bodyOf s k) (contentsOf x k))
     (λ k. isFine (contentsAllowed (layoutOf k) 0 (setBy k (bodyOf s k) (contentsOf x k))) ≡ true) (ok y) (λ k c v. rw c v) numbers
     (section-own x s a) placed))
+
+-- a configuration after reset is valid
+pub reset-valid : valid reset ≡ true
+unfolding reset valid flagsValid sectionsValid settingsFrom contentsOf contentsAllowed layoutOf regionsFrom airportsFrom enrouteFrom ascentFrom hoursFrom airfieldsAllowed allZero namesAllowed boxesAllowed regionsZero regionsAllowed
+reset-valid = refl

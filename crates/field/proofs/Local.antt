@@ -63,9 +63,11 @@ room-cases n s at seen q e k =
 
 -- ---- Parts of a text
 
+-- a part with bytes put before the text
 pub part-shift : (n : ℕ) (x s : List ℕ) (at : ℕ) → part (length x + at) n (x ++ s) ≡ part at n s
 part-shift n x s at = ap (take n) (drop-append-add x s at)
 
+-- a part with bytes put behind the text
 pub part-extend : (n : ℕ) (s y : List ℕ) (at : ℕ) → at + n ≤ length s → part at n (s ++ y) ≡ part at n s
 part-extend n s y at h =
     rw (drop-append-le at s y (omega arith))
@@ -77,10 +79,12 @@ part-byte n s at i h = getD-take n (drop at s) i 0 h ∙ getD-drop at s i 0
 
 -- ---- One field: n bytes and a test of them, which answers 0 or the code
 
+-- where a field of which the test answered a code comes to
 abbrev pub outcome : ℕ → ℕ → ℕ → Step
 outcome zero at next = Next next
 outcome (suc code) at next = Stop (suc code) at
 
+-- n bytes, and a test of them
 abbrev pub field : ℕ → (List ℕ → ℕ) → List ℕ → ℕ → Step
 field n test s at = room n s at (outcome (test (part at n s)) at (at + n))
 
@@ -110,6 +114,7 @@ field-cases n test s at p e k =
     (λ (h : at + n ≤ length s) (o : outcome (test (part at n s)) at (at + n) ≡ Next p).
     k h (outcome-next (test (part at n s)) at (at + n) p o) o)
 
+-- every field is local
 pub field-local : (n : ℕ) (test : List ℕ → ℕ) → Local (field n test)
 field-local n test =
     record {
@@ -136,6 +141,7 @@ field-reads n test r =
           field-cases n test s at p e (λ (h : at + n ≤ length s) q o. ap r (part-extend n s y at h));
     }
 
+-- and as long as it says
 pub field-sized : (n : ℕ) (test : List ℕ → ℕ) → Sized (field n test) (λ s at. n)
 field-sized n test =
     record {
@@ -146,9 +152,11 @@ field-sized n test =
 -- ---- Readings put together
 
 module _ {A : Type 0} (f : List ℕ → ℕ → Step) where
+  -- what is always the same
   pub reads-fixed : (a : A) → Reads f (λ s at. a)
   reads-fixed a = record { same-shifted = λ x s at. refl; same-extended = λ s y at p e. refl }
 
+  -- two readings together
   pub reads-with : {B C : Type 0} (v : List ℕ → ℕ → A) (w : List ℕ → ℕ → B) (h : A → B → C) → Reads f v → Reads f w
       → Reads f (λ s at. h (v s at) (w s at))
   reads-with v w h R W =
@@ -176,6 +184,7 @@ module _ {A : Type 0} (f : List ℕ → ℕ → Step) where
 
 -- the same check in other words
 module _ (f g : List ℕ → ℕ → Step) (same : (s : List ℕ) (at : ℕ) → f s at ≡ g s at) where
+  -- it is local
   pub local-same : Local g → Local f
   local-same L =
       record {
@@ -186,8 +195,10 @@ module _ (f g : List ℕ → ℕ → Step) (same : (s : List ℕ) (at : ℕ) →
         filled = λ s at p e h. L .filled s at p (sym (same s at) ∙ e) h;
       }
 
+  -- the same is read there
   pub same-reads : {A : Type 0} (v : List ℕ → ℕ → A) → Reads g v → Reads f v
   same-reads v R = reads-under g f v R (λ s at p e. (p, sym (same s at) ∙ e))
 
+  -- and it is as long
   pub same-sized : (z : List ℕ → ℕ → ℕ) → Sized g z → Sized f z
   same-sized z Z = record { reads = same-reads z (Z .reads); passes = λ s at p e. Z .passes s at p (sym (same s at) ∙ e) }

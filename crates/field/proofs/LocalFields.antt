@@ -95,54 +95,66 @@ edge-field c s at =
 -- ---- Numbers, marks, the delimiter, airfields
 
 module _ (w least most : ℕ) where
+  -- a number is local
   pub number-local : Local (checkNumber w least most)
   number-local =
       local-same (checkNumber w least most) (field w (numberTest least most)) (number-field w least most) (field-local w (numberTest least most))
 
+  -- what its digits are read as
   pub number-reads : {A : Type 0} (r : List ℕ → A) → Reads (checkNumber w least most) (λ s at. r (part at w s))
   number-reads r =
       same-reads (checkNumber w least most) (field w (numberTest least most)) (number-field w least most) (λ s at. r (part at w s))
       (field-reads w (numberTest least most) r)
 
+  -- it has w bytes
   pub number-sized : Sized (checkNumber w least most) (λ s at. w)
   number-sized =
       same-sized (checkNumber w least most) (field w (numberTest least most)) (number-field w least most) (λ s at. w)
       (field-sized w (numberTest least most))
 
 module _ (least most : ℕ) where
+  -- a mark is local
   pub mark-local : Local (checkMark least most)
   mark-local =
       local-same (checkMark least most) (field 1 (markTest least most)) (mark-field least most) (field-local 1 (markTest least most))
 
+  -- what its byte is read as
   pub mark-reads : {A : Type 0} (r : ℕ → A) → Reads (checkMark least most) (λ s at. r (getD s at 0))
   mark-reads r =
       same-reads (checkMark least most) (field 1 (markTest least most)) (mark-field least most) (λ s at. r (getD s at 0))
       (reads-same (field 1 (markTest least most)) (λ s at. r (getD s at 0)) (λ s at. r (getD (part at 1 s) 0 0))
       (λ s at. ap r (sym (first-byte s at))) (field-reads 1 (markTest least most) (λ b. r (getD b 0 0))))
 
+  -- it has one byte
   pub mark-sized : Sized (checkMark least most) (λ s at. 1)
   mark-sized =
       same-sized (checkMark least most) (field 1 (markTest least most)) (mark-field least most) (λ s at. 1)
       (field-sized 1 (markTest least most))
 
+-- the delimiter is local
 pub delimiter-local : Local checkDelimiter
 delimiter-local = local-same checkDelimiter (field 1 delimiterTest) delimiter-field (field-local 1 delimiterTest)
 
+-- it has one byte
 pub delimiter-sized : Sized checkDelimiter (λ s at. 1)
 delimiter-sized = same-sized checkDelimiter (field 1 delimiterTest) delimiter-field (λ s at. 1) (field-sized 1 delimiterTest)
 
+-- an airfield is local
 pub airfield-local : Local checkAirfield
 airfield-local = local-same checkAirfield (field 4 airfieldTest) airfield-field (field-local 4 airfieldTest)
 
+-- it has four bytes
 pub airfield-sized : Sized checkAirfield (λ s at. 4)
 airfield-sized = same-sized checkAirfield (field 4 airfieldTest) airfield-field (λ s at. 4) (field-sized 4 airfieldTest)
 
 -- ---- Edges
 
 module _ (c : Circle) where
+  -- an edge is local
   pub edge-local : Local (checkEdge c)
   edge-local = local-same (checkEdge c) (field (c .width + 1) (edgeTest c)) (edge-field c) (field-local (c .width + 1) (edgeTest c))
 
+  -- it has its digits and a letter
   pub edge-sized : Sized (checkEdge c) (λ s at. c .width + 1)
   edge-sized =
       same-sized (checkEdge c) (field (c .width + 1) (edgeTest c)) (edge-field c) (λ s at. c .width + 1) (field-sized (c .width + 1) (edgeTest c))
@@ -153,6 +165,7 @@ module _ (c : Circle) where
       let w = c .width in
       rw (take-take w (w + 1) (drop at s) (omega arith), part-byte (w + 1) s at w (omega arith))
 
+  -- the edge that is read there
   pub edge-reads : Reads (checkEdge c) (edgeAt c)
   edge-reads =
       same-reads (checkEdge c) (field (c .width + 1) (edgeTest c)) (edge-field c) (edgeAt c)
@@ -168,12 +181,14 @@ module _ (c : Circle) (inOrder : Edge → Edge → Bool) where
   abbrev second : Edge → List ℕ → ℕ → Step
   second e = judged (checkEdge c) (edgeAt c) (inOrder e) 7
 
+  -- a pair of edges is local
   pub pair-local : Local (checkPair c inOrder)
   unfolding checkPair
   pair-local =
       bound-local (checkEdge c) (edgeAt c) second (edge-local c) (edge-reads c)
       (λ e. judged-local (checkEdge c) (edgeAt c) (inOrder e) 7 (edge-local c) (edge-reads c))
 
+  -- the two edges that are read there
   pub pair-reads : Reads (checkPair c inOrder) (pairAt c)
   unfolding checkPair
   pair-reads =
@@ -182,6 +197,7 @@ module _ (c : Circle) (inOrder : Edge → Edge → Bool) where
       (bound-second (checkEdge c) (edgeAt c) second (λ s at. c .width + 1) (λ e. edgeAt c) (edge-reads c) (edge-sized c)
       (λ e. judged-reads (checkEdge c) (edgeAt c) (inOrder e) 7 (edgeAt c) (edge-reads c)))
 
+  -- it is as long as both
   pub pair-sized : Sized (checkPair c inOrder) (λ s at. c .width + 1 + (c .width + 1))
   unfolding checkPair
   pair-sized =
@@ -194,12 +210,14 @@ noValue s at = 0
 abbrev longitudes : ℕ → List ℕ → ℕ → Step
 longitudes a = checkPair longitude westFirst
 
+-- a box is local
 pub box-local : Local checkBox
 unfolding checkBox
 box-local =
     bound-local (checkPair latitude northFirst) noValue longitudes (pair-local latitude northFirst)
     (reads-fixed (checkPair latitude northFirst) 0) (λ a. pair-local longitude westFirst)
 
+-- it has 14 bytes
 pub box-sized : Sized checkBox (λ s at. 14)
 unfolding checkBox
 box-sized =
@@ -209,6 +227,7 @@ box-sized =
 abbrev regionOf : Edge × Edge → Edge × Edge → Region
 regionOf p q = record { north = p .0; south = p .1; west = q .0; east = q .1 }
 
+-- the box that is read there
 pub box-reads : Reads checkBox regionAt
 unfolding checkBox regionAt
 box-reads =

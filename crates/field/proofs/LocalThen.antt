@@ -15,6 +15,7 @@ use Rattle.field.proofs.Local.{shifted, Local, Reads, Sized, after-case
 
 -- ---- One check and then another, which may depend on what the first read
 
+-- f, and then g at what v read
 abbrev pub bound : {A : Type 0} → (List ℕ → ℕ → Step) → (List ℕ → ℕ → A) → (A → List ℕ → ℕ → Step) → List ℕ → ℕ → Step
 bound f v g s at = after (f s at) (g (v s at) s)
 
@@ -24,6 +25,7 @@ module _ {A : Type 0} (f : List ℕ → ℕ → Step) (v : List ℕ → ℕ → 
   bound-shift a x s G (Next p) = G .shift x s p
   bound-shift a x s G (Stop code p) = refl
 
+  -- local checks one after the other are local
   pub bound-local : Local f → Reads f v → ((a : A) → Local (g a)) → Local (bound f v g)
   bound-local F R G =
       record {
@@ -69,6 +71,7 @@ module _ {A : Type 0} (f : List ℕ → ℕ → Step) (v : List ℕ → ℕ → 
             (W (v s at) .same-extended s y (at + z s at) q (rw (Z .passes s at p d) at c)));
       }
 
+  -- together they are as long as both
   pub bound-sized : (z : List ℕ → ℕ → ℕ) (y : A → List ℕ → ℕ → ℕ) → Reads f v → Sized f z → ((a : A) → Sized (g a) (y a))
       → Sized (bound f v g) (λ s at. z s at + y (v s at) s (at + z s at))
   bound-sized z y R Z Y =
@@ -86,6 +89,7 @@ module _ {A : Type 0} (f : List ℕ → ℕ → Step) (v : List ℕ → ℕ → 
 
 -- ---- A check and then a test of what it read: a refusal comes at the check's own start
 
+-- f, and then a test of what v read
 abbrev pub judged : {A : Type 0} → (List ℕ → ℕ → Step) → (List ℕ → ℕ → A) → (A → Bool) → ℕ → List ℕ → ℕ → Step
 judged f v test code s at = after (f s at) (λ end. cond (test (v s at)) (Next end) (Stop code at))
 
@@ -107,6 +111,7 @@ module _ {A : Type 0} (f : List ℕ → ℕ → Step) (v : List ℕ → ℕ → 
   pub judged-next : (s : List ℕ) (at q : ℕ) → judged f v test code s at ≡ Next q → (f s at ≡ Next q) × (test (v s at) ≡ true)
   judged-next s at q e = judge-next (test (v s at)) at q (f s at) e
 
+  -- a judgement of a local check is local
   pub judged-local : Local f → Reads f v → Local (judged f v test code)
   judged-local F R =
       record {
@@ -122,9 +127,11 @@ module _ {A : Type 0} (f : List ℕ → ℕ → Step) (v : List ℕ → ℕ → 
         filled = λ s at q e h. F .filled s at q (judged-next s at q e .0) h;
       }
 
+  -- what the check reads
   pub judged-reads : {B : Type 0} (u : List ℕ → ℕ → B) → Reads f u → Reads (judged f v test code) u
   judged-reads u U = reads-under f (judged f v test code) u U (λ s at q e. (q, judged-next s at q e .0))
 
+  -- it is as long as the check
   pub judged-sized : (z : List ℕ → ℕ → ℕ) → Sized f z → Sized (judged f v test code) z
   judged-sized z Z =
       record { reads = judged-reads z (Z .reads); passes = λ s at q e. Z .passes s at q (judged-next s at q e .0) }
@@ -142,9 +149,11 @@ nothing-local =
       filled = λ s at p e h. let d : at ≡ p = cc in absurd (omega arith);
     }
 
+-- n entries, one after the other
 abbrev pub several : (List ℕ → ℕ → Step) → ℕ → List ℕ → ℕ → Step
 several entry n s at = repeat (entry s) n at
 
+-- n local entries are local
 pub several-local : (entry : List ℕ → ℕ → Step) → Local entry → (n : ℕ) → Local (several entry n)
 unfolding repeat
 several-local entry E zero = nothing-local
@@ -163,5 +172,6 @@ several-passes entry w E (suc n) s at q e =
     let j = several-passes entry w E n s p q c in
     omega arith)
 
+-- n entries of w bytes are n times w long
 pub several-sized : (entry : List ℕ → ℕ → Step) (w : ℕ) → Sized entry (λ s at. w) → (n : ℕ) → Sized (several entry n) (λ s at. w * n)
 several-sized entry w E n = record { reads = reads-fixed (several entry n) (w * n); passes = several-passes entry w E n }

@@ -2,3 +2,4 @@
 pub mod Places
 pub mod Parts
 pub mod Laws
+pub mod Printed

@@ -31,6 +31,7 @@ unfolding bodies
 bodies-alike f g [] e = refl
 bodies-alike f g (k ∷ ks) e = ap₂ _++_ (e .0) (bodies-alike f g ks (e .1))
 
+-- they have one text
 pub text-alike : (p q : Parts) → Alike p q → textOf p ≡ textOf q
 unfolding textOf
 text-alike p q e =
@@ -43,6 +44,7 @@ text-alike p q e =
 
 -- ---- Joined parts
 
+-- the second's where it sets one, else the first's; the larger downlink
 abbrev pub joinParts : Parts → Parts → Parts
 joinParts p q =
     record {
@@ -57,6 +59,7 @@ larger m n e f =
     (λ (h : m ≤ n). let d : max m n ≡ n = omega arith in rw d f)
     (λ h. let d : max m n ≡ m = omega arith in rw d e)
 
+-- sound parts join into sound parts
 pub join-sound : (p q : Parts) → Sound p → Sound q → Sound (joinParts p q)
 join-sound p q a b =
     record {
@@ -67,6 +70,7 @@ join-sound p q a b =
           (λ k x y. later-place k (p .sections k) (q .sections k) x y) numbers (a .sections) (b .sections);
     }
 
+-- joins of alike parts are alike
 pub join-alike : (p q r s : Parts) → Alike p q → Alike r s → Alike (joinParts p r) (joinParts q s)
 join-alike p q r s e f =
     record {
@@ -113,6 +117,7 @@ module _ (a b : List ℕ) (x : Accepted a) (y : Accepted b) where
   both-sound : Sound both
   both-sound = join-sound (partsOf a) (partsOf b) (sound a x) (sound b y)
 
+  -- the joined text is accepted
   pub join-accepted : Accepted (joinText a b)
   join-accepted = rw join-text (text-accepted both both-sound)
 

@@ -44,6 +44,7 @@ none-chosen : (n g : ℕ) → chosen n n g ≡ g
 none-chosen n g =
     by-test (eqb g n) (λ (e : eqb g n ≡ true). rw e (sym (eqb-true g n e))) (λ (e : eqb g n ≡ false). rw e)
 
+-- nor on the left
 pub none-choose : (n : ℕ) (gs : List ℕ) → choose n (replicate (length gs) n) gs ≡ gs
 unfolding choose
 none-choose n [] = refl
@@ -92,22 +93,27 @@ new-flags (o ∷ os) (f ∷ fs) (g ∷ gs) e = ap₂ _∷_ (new-flag o f g) (new
 
 -- ---- Sections: the second's own bytes, or the first's where there are none
 
+-- the second's bytes, or the first's where there are none
 abbrev pub later : List ℕ → List ℕ → List ℕ
 later x [] = x
 later x (b ∷ bs) = b ∷ bs
 
+-- named is where bytes are
 pub later-named : (x y : List ℕ) → cond (present y) y x ≡ later x y
 later-named x [] = refl
 later-named x (b ∷ y) = refl
 
+-- grouping of three
 pub later-assoc : (x y z : List ℕ) → later (later x y) z ≡ later x (later y z)
 later-assoc x y [] = refl
 later-assoc x y (b ∷ z) = refl
 
+-- no bytes first
 pub none-later : (x : List ℕ) → later [] x ≡ x
 none-later [] = refl
 none-later (b ∷ x) = refl
 
+-- with itself
 pub later-self : (x : List ℕ) → later x x ≡ x
 later-self [] = refl
 later-self (b ∷ x) = refl

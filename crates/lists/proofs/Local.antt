@@ -25,6 +25,7 @@ module _ (limit : ℕ) (entry : List ℕ → ℕ → Step) where
   abbrev count : List ℕ → ℕ → Step
   count = checkNumber 2 0 limit
 
+  -- a counted list of local entries is local
   pub list-local : Local entry → Local (checkList limit entry)
   unfolding checkList
   list-local E =
@@ -55,9 +56,11 @@ module _ (limit : ℕ) (entry : List ℕ → ℕ → Step) where
 
 -- ---- Airfields
 
+-- a list of airfields is local
 pub airfields-local : Local checkAirfields
 airfields-local = list-local 20 checkAirfield airfield-local
 
+-- it is as long as its count says
 pub airfields-sized : Sized checkAirfields (λ s at. 2 + 4 * countAt s at)
 airfields-sized = list-sized 20 checkAirfield 4 airfield-sized
 
@@ -74,6 +77,7 @@ names-reads n = record { same-shifted = part-shift (4 * n); same-extended = name
 abbrev airfieldsOf : ℕ → List ℕ → Airfields
 airfieldsOf n names = record { count = n; names = names ++ replicate (80 - 4 * n) 0 }
 
+-- the airfields that are read there
 pub airfields-reads : Reads checkAirfields airfieldsAt
 unfolding airfieldsAt
 airfields-reads =
@@ -82,9 +86,11 @@ airfields-reads =
 
 -- ---- Boxes
 
+-- a list of boxes is local
 pub boxes-local : Local checkBoxes
 boxes-local = list-local 16 checkBox box-local
 
+-- it is as long as its count says
 pub boxes-sized : Sized checkBoxes (λ s at. 2 + 14 * countAt s at)
 boxes-sized = list-sized 16 checkBox 14 box-sized
 
@@ -100,6 +106,7 @@ regions-reads (suc n) =
 abbrev boxesOf : ℕ → List Region → Boxes
 boxesOf n regions = record { count = n; regions = regions ++ replicate (16 - n) noRegion }
 
+-- the boxes that are read there
 pub boxes-reads : Reads checkBoxes boxesAt
 unfolding boxesAt
 boxes-reads =

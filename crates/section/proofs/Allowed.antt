@@ -111,6 +111,7 @@ boxes-fine s at p q e =
 
 -- ---- Items and sections
 
+-- what an accepted item holds is allowed
 pub item-fine : (i : Item) (s : List ℕ) (at p q : ℕ) → checkItem i s at ≡ Next p → contentAllowed i q (contentAt i s at) ≡ Fine
 item-fine (Number w least most) s at p q e =
     let r = number w least most s at p e in

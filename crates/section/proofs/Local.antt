@@ -17,6 +17,7 @@ use Rattle.section.specs.Contents.{Amount, Names, Areas, contentAt, cont
 
 -- ---- One item
 
+-- every item is local
 pub item-local : (i : Item) → Local (checkItem i)
 item-local (Number w least most) = number-local w least most
 item-local (Mark least most) = mark-local least most
@@ -37,6 +38,7 @@ item-most (Mark least most) s at p e = omega arith
 item-most AirfieldList s at p e = omega (arith, count-most 20 checkAirfield s at p e)
 item-most BoxList s at p e = omega (arith, count-most 16 checkBox s at p e)
 
+-- what it holds depends on its own bytes only
 pub item-reads : (i : Item) → Reads (checkItem i) (contentAt i)
 item-reads (Number w least most) = number-reads w least most (λ b. Amount (value b))
 item-reads (Mark least most) = mark-reads least most (λ b. Amount (b - 48))
@@ -48,6 +50,7 @@ item-reads BoxList = reads-with checkBoxes boxesAt (λ s at. 0) (λ l z. Areas l
 abbrev noValue : List ℕ → ℕ → ℕ
 noValue s at = 0
 
+-- every section is local
 pub items-local : (is : List Item) → Local (checkItems is)
 unfolding checkItems
 items-local [] = delimiter-local

@@ -84,6 +84,7 @@ module _ (is : List Item) (s : List ℕ) (at p : ℕ) (e : checkItems is s at �
       let i = items-local is .filled s at p e (omega (arith, items-some is s at)) in
       omega arith
 
+  -- they are as many as the counts say
   pub cut-length : length (part at (itemsSize is s at) s) ≡ itemsSize is s at
   cut-length =
       let i = cut-inside in
