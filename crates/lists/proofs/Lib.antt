@@ -1,3 +1,5 @@
 -- The laws that the layers above cite.
 pub mod Fill
 pub mod Accepted
+pub mod Spelling
+pub mod Turns
