@@ -7,3 +7,4 @@ pub mod Accepted
 pub mod Repeat
 pub mod Pairs
 pub mod Spelling
+pub mod RoundTrip
