@@ -43,12 +43,15 @@ module _ (w least most v : ℕ) (s : List ℕ) (at : ℕ) (held : v < 10 ^ w) (s
       number-fine w least most s at (omega (arith, stands .room, decimal-length w v))
       (ap allDigits digits-there ∙ decimal-digits w v) (omega (arith, number-value)) (omega (arith, number-value))
 
+-- digits in a text are the one spelling of what they are worth
+pub digits-read : (w : ℕ) (s : List ℕ) (at : ℕ) → at + w ≤ length s → allDigits (part at w s) ≡ true → decimal w (value (part at w s)) ≡ part at w s
+digits-read w s at room digits =
+    ap (λ (k : ℕ). decimal k (value (part at w s))) (sym (part-long s at w room)) ∙ decimal-value (part at w s) digits
+
 -- an accepted number is written back as the same digits
 pub number-read : (w least most : ℕ) (s : List ℕ) (at p : ℕ) → checkNumber w least most s at ≡ Next p
     → decimal w (value (part at w s)) ≡ part at w s
-number-read w least most s at p e =
-    let n = number w least most s at p e in
-    ap (λ (k : ℕ). decimal k (value (part at w s))) (sym (part-long s at w (n .room))) ∙ decimal-value (part at w s) (n .digits)
+number-read w least most s at p e = let n = number w least most s at p e in digits-read w s at (n .room) (n .digits)
 
 -- a mark that was written is accepted
 pub mark-stands : (least most v : ℕ) (s : List ℕ) (at : ℕ) → Stands ((48 + v) ∷ []) s at → least ≤ v → v ≤ most
@@ -142,9 +145,7 @@ unfolding edgeAt edgeText
 edge-read c s at p e =
     let r = edge c s at p e in
     let w = c .width in
-    let digits = part at w s in
-    let spelt : decimal w (value digits) ≡ digits =
-    ap (λ (k : ℕ). decimal k (value digits)) (sym (part-long s at w (omega (arith, r .room)))) ∙ decimal-value digits (r .digits) in
+    let spelt = digits-read w s at (omega (arith, r .room)) (r .digits) in
     rw (spelt, add-one, take-suc (drop at s) w 0 (omega (arith, r .room, length-drop at s)), getD-drop at s w 0)
 
 -- ---- Boxes

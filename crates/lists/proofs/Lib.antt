@@ -3,3 +3,4 @@ pub mod Fill
 pub mod Accepted
 pub mod Spelling
 pub mod Turns
+pub mod RoundTrip
