@@ -10,3 +10,4 @@ pub mod Accepted
 pub mod Repeat
 pub mod Pairs
 pub mod Spelling
+pub mod RoundTrip

@@ -2,3 +2,6 @@
 pub mod Local
 pub mod Fill
 pub mod Accepted
+pub mod Spelling
+pub mod Turns
+pub mod RoundTrip

@@ -3,6 +3,8 @@ use field::Region;
 
 pub mod check;
 pub mod read;
+pub mod record;
+pub mod write;
 
 #[repr(C)]
 pub struct Airfields {

@@ -5,6 +5,7 @@ use field::Region;
 use field::digits::small_at;
 use field::read::no_region;
 use field::read::region_at;
+use field::record::wide;
 ghost use mathlib.Core.Path.{_≡_};
 ghost use mathlib.Core.List.{_++_};
 ghost use Prim.Native.Nat.{_+_, _-_, _*_, _≤_};
@@ -14,12 +15,6 @@ ghost use Rattle.field.specs.declared.Step.the-variants.{Next};
 ghost use Rattle.field.specs.Fields.{repeat};
 ghost use Rattle.field.specs.Boxes.{checkBox, noRegion};
 ghost use Rattle.lists.specs.Lists.{countAt, checkAirfields, checkBoxes, airfieldsAt, boxesAt, regionsAt};
-
-fn index(b: u8) -> usize
-    ensures { λ r. ⌜ r ≡ b ⌝ }
-{
-    b as usize
-}
 
 // k bytes, and zeros behind them.
 fn names_of(s: &[u8], from: usize, k: usize) -> [u8; 80]
@@ -42,7 +37,7 @@ pub fn airfields_at(s: &[u8], at: usize) -> Airfields
     ensures { λ r. ⌜ r ≡ airfieldsAt (now (s .entry)) at ⌝ }
 {
     let count = small_at(s, at, 2);
-    let names = names_of(s, at + 2, 4 * index(count));
+    let names = names_of(s, at + 2, 4 * wide(count));
     Airfields { count, names }
 }
 
@@ -71,6 +66,6 @@ pub fn boxes_at(s: &[u8], at: usize) -> Boxes
     ensures { λ r. ⌜ r ≡ boxesAt (now (s .entry)) at ⌝ }
 {
     let count = small_at(s, at, 2);
-    let regions = regions_of(s, at + 2, index(count));
+    let regions = regions_of(s, at + 2, wide(count));
     Boxes { count, regions }
 }

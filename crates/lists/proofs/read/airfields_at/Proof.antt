@@ -15,8 +15,8 @@ use Rattle.lists.proofs.Accepted.{Named, airfields}
 named : (c : tie.Start) → let a = c .args in Named (now (a .s)) (a .at) (a .at + 2 + 4 * countAt (now (a .s)) (a .at))
 named c = airfields _ _ _ (c .pre .1)
 
-counted : (c : tie.After-index) → c .index .result ≡ countAt (now (c .before .before .before .args .s)) (c .before .before .before .args .at)
-counted c = c .index .ensures ∙ c .before .small-at .ensures
+counted : (c : tie.After-wide) → c .wide .result ≡ countAt (now (c .before .before .before .args .s)) (c .before .before .before .args .at)
+counted c = c .wide .ensures ∙ c .before .small-at .ensures
 
 -- extra]
 
@@ -29,11 +29,11 @@ small-at-requires c κs =
 add-names-of : tie.Need-add-names-of
 add-names-of c = omega (arith, named (c .before .before) .count .room)
 
-index-requires : tie.Need-index-requires
-index-requires c κs = search needs
+wide-requires : tie.Need-wide-requires
+wide-requires c κs = search needs
 
 mul-names-of : tie.Need-mul-names-of
-mul-names-of c = omega (arith, c .index .ensures)
+mul-names-of c = omega (arith, c .wide .ensures)
 
 names-of-requires : tie.Need-names-of-requires
 names-of-requires c κs =
@@ -47,4 +47,4 @@ returns c = rw (c .names-of .ensures, counted (c .before), c .before .before .sm
 pub airfields-at-spec : {M : Type 1} → statement M
 airfields-at-spec =
     tie.close
-    (tie.spec small-at-requires add-names-of index-requires mul-names-of names-of-requires returns)
+    (tie.spec small-at-requires add-names-of wide-requires mul-names-of names-of-requires returns)

@@ -16,8 +16,8 @@ use Rattle.lists.proofs.Accepted.{Counted, counted}
 listed : (c : tie.Start) → let a = c .args in Counted 16 checkBox (now (a .s)) (a .at) (a .at + 2 + 14 * countAt (now (a .s)) (a .at))
 listed c = counted _ _ _ _ _ (c .pre .1)
 
-many : (c : tie.After-index) → c .index .result ≡ countAt (now (c .before .before .before .args .s)) (c .before .before .before .args .at)
-many c = c .index .ensures ∙ c .before .small-at .ensures
+many : (c : tie.After-wide) → c .wide .result ≡ countAt (now (c .before .before .before .args .s)) (c .before .before .before .args .at)
+many c = c .wide .ensures ∙ c .before .small-at .ensures
 
 -- extra]
 
@@ -30,8 +30,8 @@ small-at-requires c κs =
 add-regions-of : tie.Need-add-regions-of
 add-regions-of c = omega (arith, listed (c .before .before) .count .room)
 
-index-requires : tie.Need-index-requires
-index-requires c κs = search needs
+wide-requires : tie.Need-wide-requires
+wide-requires c κs = search needs
 
 regions-of-requires : tie.Need-regions-of-requires
 regions-of-requires c κs =
@@ -45,4 +45,4 @@ returns c = rw (c .regions-of .ensures, many (c .before), c .before .before .sma
 pub boxes-at-spec : {M : Type 1} → statement M
 boxes-at-spec =
     tie.close
-    (tie.spec small-at-requires add-regions-of index-requires regions-of-requires returns)
+    (tie.spec small-at-requires add-regions-of wide-requires regions-of-requires returns)
