@@ -12,18 +12,13 @@ use Rattle.field.specs.Decimal.{allDigits, value, decimal}
 use Rattle.field.specs.Fields.{after, room}
 use Rattle.field.specs.declared.Step.{Step}
 use Rattle.field.specs.declared.Step.the-variants.{Next, Stop}
+use Rattle.field.specs.declared.Circle.{Circle}
 use Rattle.field.specs.declared.Edge.{Edge}
 use Rattle.field.specs.declared.Region.{Region}
 
 -- ---- Edges
 
--- how an edge is spelt: its digits, the most degrees, the letter at and above zero, the letter below it
-pub record Circle : Type 0 where
-  pub width : ℕ
-  pub most : ℕ
-  pub above : ℕ
-  pub below : ℕ
-
+-- how an edge is spelt (a Circle): its digits, the most degrees, the letter at and above zero, the letter below it
 abbrev pub latitude : Circle
 latitude = record { width = 2; most = 90; above = 78; below = 83 }
 

@@ -1,3 +1,4 @@
 pub mod Decimal
 pub mod Fields
 pub mod Boxes
+pub mod Steps

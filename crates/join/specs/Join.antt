@@ -4,7 +4,7 @@ use mathlib.Core.Bool.{Bool, cond}
 use mathlib.Core.List.{List, [], _∷_, _++_}
 use Prim.Native.Nat.{ℕ, _+_, max}
 use lib.Dec.{leb, eqb}
-use lib.ListN.{length, getD}
+use lib.ListN.{length, getD, replicate}
 use Rattle.text.specs.Parts.{part}
 use Rattle.text.specs.Over.{over}
 use Rattle.text.specs.declared.Seen.{Seen}
@@ -46,6 +46,10 @@ joinText a b =
     ++ (choose 57 (part 5 7 a) (part 5 7 b)
     ++ (max (getD a 12 0) (getD b 12 0)
     ∷ (choose 48 (part 13 8 a) (part 13 8 b) ++ 47 ∷ joinSections numbers a b)))
+
+-- the no-change command, `AWR049999999000000000/`
+unfoldable pub noChange : List ℕ
+noChange = awr04 ++ (replicate 7 57 ++ (48 ∷ (replicate 8 48 ++ 47 ∷ [])))
 
 -- ---- The answer: the first text's refusals, the second's, then room
 

@@ -1,6 +1,11 @@
 // The counted lists of a command: airfields and boxes. Unused entries of a record are zero.
 use field::Region;
 
+pub mod check;
+pub mod read;
+pub mod record;
+pub mod write;
+
 #[repr(C)]
 pub struct Airfields {
     pub count: u8,

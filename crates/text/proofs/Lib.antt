@@ -5,4 +5,5 @@ pub mod Equal
 pub mod Names
 pub mod Over
 pub mod Parts
+pub mod Stands
 pub mod Table

@@ -5,7 +5,7 @@ use native.Mathlib.Nat.{add-assoc, add-zero, zero-add}
 use native.Mathlib.Numerals.{add-one}
 use mathlib.Core.Path.{_≡_, refl, sym, ap, _∙_}
 use mathlib.Core.Bool.{cond}
-use mathlib.Core.List.{List, [], _++_, append-assoc, append-nil}
+use mathlib.Core.List.{List, [], _∷_, _++_, append-assoc, append-nil}
 use lib.ListN.{length, getD, set, take, drop, length-append, length-drop, take-append-drop}
 use lib.Dec.{leb}
 use lib.Seq.{drop-drop, paste, paste-suc, sets, sets-eq, length-take-le, take-at, drop-at, take-take, take-add, drop-append-le, drop-length}
@@ -115,3 +115,19 @@ then-copy d D zs t u at p e is starts fits ends wrote =
     let n : length D ≡ length d = length-then d D t at is (omega arith) in
     let room : length u ≤ length (take (e - p) (drop p D)) = rw (part-length D p e (omega arith)) (omega arith) in
     then-part d D zs t u at p e is starts fits ends (rw (le-leb (length u) (length (take (e - p) (drop p D))) room) at wrote)
+
+-- the same where the next text takes up the whole part
+pub then-whole : (d D zs t u : List ℕ) (at p e : ℕ) → D ≡ over d at t → p ≡ at + length t → p + length u ≡ e → e ≤ length d
+    → zs ≡ u → putMid p (e - p) D zs ≡ over d at (t ++ u)
+then-whole d D zs t u at p e is starts fills ends wrote =
+    let n : length D ≡ length d = length-then d D t at is (omega arith) in
+    let part : List ℕ = take (e - p) (drop p D) in
+    let same : length u ≡ length part = omega (arith, part-length D p e (omega arith)) in
+    then-part d D zs t u at p e is starts (omega arith) ends (wrote ∙ sym (over-whole part u same))
+
+-- one byte after a text, stored
+pub then-byte : (d D t : List ℕ) (b at p : ℕ) → D ≡ over d at t → p ≡ at + length t → p < length d
+    → set D p b ≡ over d at (t ++ (b ∷ []))
+then-byte d D t b at p is starts fits =
+    let n : length D ≡ length d = length-then d D t at is (omega arith) in
+    over-sets D p (b ∷ []) (omega arith) ∙ rw (is, starts) (over-over d at t (b ∷ []) (omega arith))

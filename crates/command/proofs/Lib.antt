@@ -1,0 +1,8 @@
+-- The laws that the layers above cite.
+pub mod Each
+pub mod Head
+pub mod Parts
+pub mod Walk
+pub mod Marks
+pub mod Accepted
+pub mod Written

@@ -1,0 +1,13 @@
+-- The laws that the layers above cite.
+pub mod Local
+pub mod LocalThen
+pub mod LocalFields
+pub mod Decimal
+pub mod Number
+pub mod Edges
+pub mod Within
+pub mod Accepted
+pub mod Repeat
+pub mod Pairs
+pub mod Spelling
+pub mod RoundTrip

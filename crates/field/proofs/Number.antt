@@ -1,0 +1,95 @@
+-- The number that a few digits spell, or 1000.
+use mathlib.Core.Path.{_≡_, refl, sym, _∙_}
+use mathlib.Core.Bool.{Bool, true, false, _&&_, and-assoc, and-true}
+use mathlib.Core.List.{List, [], _∷_}
+use Prim.Native.Nat.{ℕ, _+_, _-_, _*_, _≤_, _<_}
+use native.Mathlib.Omega.{arith}
+use lib.Dec.{leb}
+use lib.ListN.{length}
+use borrow.Author.Tests.{le-leb, lt-leb}
+use Rattle.text.specs.Parts.{part}
+use Rattle.text.proofs.Cases.{by-test}
+use Rattle.field.specs.declared.Step.the-variants.{Next, Stop}
+use Rattle.field.specs.Decimal.{isDigit, allDigits, valueFrom, value}
+use Rattle.field.specs.Fields.{checkNumber}
+use Rattle.field.specs.Steps.{numberOr}
+use Rattle.field.proofs.Decimal.{part-long, value-small}
+
+-- two digits, from their bytes
+pub two-digits : (a b : ℕ) → isDigit a ≡ true → isDigit b ≡ true → numberOr (a ∷ b ∷ []) ≡ (a - 48) * 10 + (b - 48)
+unfolding numberOr allDigits valueFrom
+two-digits a b x y = rw (x, y) (omega arith)
+
+pub two-other : (a b : ℕ) → (isDigit a && isDigit b) ≡ false → numberOr (a ∷ b ∷ []) ≡ 1000
+unfolding numberOr allDigits
+two-other a b e = rw (and-true (isDigit b), e)
+
+-- and three
+pub three-digits : (a b c : ℕ) → isDigit a ≡ true → isDigit b ≡ true → isDigit c ≡ true
+    → numberOr (a ∷ b ∷ c ∷ []) ≡ (a - 48) * 100 + (b - 48) * 10 + (c - 48)
+unfolding numberOr allDigits valueFrom
+three-digits a b c x y z = rw (x, y, z) (omega arith)
+
+pub three-other : (a b c : ℕ) → (isDigit a && isDigit b && isDigit c) ≡ false → numberOr (a ∷ b ∷ c ∷ []) ≡ 1000
+unfolding numberOr allDigits
+three-other a b c e = rw (and-true (isDigit c), ← and-assoc (isDigit a) (isDigit b) (isDigit c), e)
+
+-- a number below 1000 is what digits spell
+pub number-is : (ds : List ℕ) → numberOr ds ≤ 999 → (allDigits ds ≡ true) × (numberOr ds ≡ value ds)
+unfolding numberOr
+number-is ds h =
+    by-test (allDigits ds)
+    (λ (d : allDigits ds ≡ true). (d, rw d))
+    (λ (d : allDigits ds ≡ false). absurd (omega (arith, rw d at h)))
+
+-- and digits, three at the most, spell one
+pub number-digits : (ds : List ℕ) → allDigits ds ≡ true → numberOr ds ≡ value ds
+unfolding numberOr
+number-digits ds d = rw d
+
+pub number-none : (ds : List ℕ) → length ds ≤ 3 → 999 < numberOr ds → allDigits ds ≡ false
+unfolding numberOr
+number-none ds l h =
+    by-test (allDigits ds)
+    (λ (d : allDigits ds ≡ true). absurd (omega (arith, rw d at h, value-small ds l d)))
+    (λ (d : allDigits ds ≡ false). d)
+
+-- ---- The check of a number, by what its digits spell
+
+and-false : (t : Bool) → (t && false) ≡ false
+and-false true = refl
+and-false false = refl
+
+-- the text ends inside the number
+pub number-cut : (w least most : ℕ) (s : List ℕ) (at : ℕ) → length s < at + w → checkNumber w least most s at ≡ Stop 8 at
+unfolding checkNumber
+number-cut w least most s at h = rw (lt-leb (at + w) (length s) h)
+
+module _ (w least most : ℕ) (s : List ℕ) (at : ℕ) (fits : at + w ≤ length s) where
+  -- a byte is no digit
+  pub number-other : allDigits (part at w s) ≡ false → checkNumber w least most s at ≡ Stop 4 at
+  unfolding checkNumber
+  number-other d = rw (le-leb (at + w) (length s) fits, d)
+
+  -- too much
+  pub number-above : allDigits (part at w s) ≡ true → most < value (part at w s) → checkNumber w least most s at ≡ Stop 5 at
+  unfolding checkNumber
+  number-above d h =
+      rw (le-leb (at + w) (length s) fits, d, lt-leb (value (part at w s)) most h, and-false (leb least (value (part at w s))))
+
+  -- too little
+  pub number-below : allDigits (part at w s) ≡ true → value (part at w s) < least → checkNumber w least most s at ≡ Stop 5 at
+  unfolding checkNumber
+  number-below d h = rw (le-leb (at + w) (length s) fits, d, lt-leb least (value (part at w s)) h)
+
+  -- a number that fits
+  pub number-fine : allDigits (part at w s) ≡ true → least ≤ value (part at w s) → value (part at w s) ≤ most
+      → checkNumber w least most s at ≡ Next (at + w)
+  unfolding checkNumber
+  number-fine d h k =
+      rw (
+        le-leb (at + w) (length s) fits,
+        d,
+        le-leb least (value (part at w s)) h,
+        le-leb (value (part at w s)) most k,
+      )

@@ -1,0 +1,115 @@
+-- `field::digits::number_at` meets its contract. The loop's invariant: the digits that are left, after what was read, are the test and the worth of all.
+use Rattle.field.proofs.digits.number_at.Statement.{statement}
+use Rattle.field.proofs.digits.number_at.Tie as tie
+use native.Mathlib.Omega.{arith}
+use Prim.Native.Nat.{ℕ, _≤_, _<_, _+_, _-_, _*_, _^_}
+use lib.ListN.{length, drop, getD}
+use lib.Dec.{lit<}
+use lib.Arith.{digits-lt}
+use mathlib.Core.Path.{_≡_, refl, sym, _∙_}
+use native.Mathlib.Nat.{pow-le-pow-right, pow-suc}
+use native.Mathlib.Numerals.{add-one}
+use denote.Ref.{now}
+use Rattle.text.specs.Parts.{part}
+use Rattle.field.specs.Decimal.{allDigits, value, valueFrom}
+use Rattle.field.specs.Steps.{numberOr}
+use Rattle.field.proofs.Decimal.{digit-is, digit-below, digit-above, digits-step, digits-stop, digits-end, value-step, value-end}
+
+abbrev Inv-loop : tie.InvT-loop
+Inv-loop s at w n₀ i₀ n i = (i ≤ w) × (n < 10 ^ i) × (allDigits (part at w s) ≡ allDigits (drop i (part at w s))) × (value (part at w s) ≡ valueFrom n (drop i (part at w s)))
+
+abbrev μ-loop : tie.MeasureT-loop
+μ-loop s at w n₀ i₀ n i = w - i
+
+-- [extra
+-- the digits so far, and one more, fit
+room : (c : tie.In-loop Inv-loop μ-loop) → c .before .loop .n * 10 + 10 < 2 ^ 31
+room c =
+    let h : c .before .loop .i ≤ 2 = omega (arith, c .before .before .before .pre .1) in
+    omega (arith, c .before .loop .inv .1, pow-le-pow-right {n = 10} (lit< tt) {i = c .before .loop .i} {j = 2} h)
+
+-- extra]
+
+loop-holds : tie.Need-loop-holds Inv-loop μ-loop
+loop-holds c = (omega arith, lit< tt, refl, refl)
+
+add-b : tie.Need-add-b Inv-loop μ-loop
+add-b c = omega arith
+
+shared-slice-read-b : tie.Need-shared-slice-read-b Inv-loop μ-loop
+shared-slice-read-b c = omega arith
+
+returns : tie.Need-returns Inv-loop μ-loop
+unfolding numberOr
+returns c =
+    let a = c .before .before .before .before .before .args in
+    let l = c .before .before .before .loop in
+    rw (l .inv .2 ∙ digits-stop (now (a .s)) (a .at) (a .w) (l .i) (c .before .before .before .before .before .pre .0) (c .before .before .loop-test .taken) (digit-below _ (c .if1 .taken)))
+
+returns-2 : tie.Need-returns-2 Inv-loop μ-loop
+unfolding numberOr
+returns-2 c =
+    let a = c .before .before .before .before .before .before .args in
+    let l = c .before .before .before .before .loop in
+    rw (l .inv .2 ∙ digits-stop (now (a .s)) (a .at) (a .w) (l .i) (c .before .before .before .before .before .before .pre .0) (c .before .before .before .loop-test .taken) (digit-above _ (c .if2 .taken)))
+
+mul-n : tie.Need-mul-n Inv-loop μ-loop
+mul-n c = omega (arith, room (c .before .before .before))
+
+worth-requires : tie.Need-worth-requires Inv-loop μ-loop
+worth-requires c κs = omega arith
+
+add-n : tie.Need-add-n Inv-loop μ-loop
+add-n c = omega (arith, room (c .before .before .before .before), c .worth .ensures)
+
+add-i : tie.Need-add-i Inv-loop μ-loop
+add-i c = omega arith
+
+loop-less : tie.Need-loop-less Inv-loop μ-loop
+loop-less c = omega arith
+
+loop-again : tie.Need-loop-again Inv-loop μ-loop
+loop-again c =
+    let start = c .before .before .before .before .before .before .before in
+    let a = start .args in
+    let l = c .before .before .before .before .before .loop in
+    let t = c .before .before .before .before .loop-test .taken in
+    let byte : ℕ = getD (now (a .s)) (a .at + l .i) 0 in
+    let low : 48 ≤ byte = c .before .before .if1 .left in
+    let high : byte ≤ 57 = c .before .if2 .left in
+    let d : byte - 48 < 10 = omega arith in (
+      omega arith,
+      rw (add-one, pow-suc, c .worth .ensures) (digits-lt (l .inv .1) d),
+      l .inv .2 ∙ digits-step (now (a .s)) (a .at) (a .w) (l .i) (start .pre .0) t (digit-is byte low high),
+      rw (c .worth .ensures) (l .inv .3 ∙ value-step (now (a .s)) (a .at) (a .w) (l .i) (start .pre .0) t (l .n)),
+    )
+
+returns-3 : tie.Need-returns-3 Inv-loop μ-loop
+unfolding numberOr
+returns-3 c =
+    let start = c .before .before .before in
+    let a = start .args in
+    let l = c .before .loop in
+    rw (
+      l .inv .2 ∙ digits-end (now (a .s)) (a .at) (a .w) (l .i) (start .pre .0) (c .loop-test .left),
+      l .inv .3 ∙ value-end (now (a .s)) (a .at) (a .w) (l .i) (start .pre .0) (c .loop-test .left) (l .n),
+    )
+
+pub number-at-spec : {M : Type 1} → statement M
+number-at-spec =
+    tie.close
+    (tie.spec
+    Inv-loop
+    μ-loop
+    loop-holds
+    add-b
+    shared-slice-read-b
+    returns
+    returns-2
+    mul-n
+    worth-requires
+    add-n
+    add-i
+    loop-less
+    loop-again
+    returns-3)

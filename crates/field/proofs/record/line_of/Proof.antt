@@ -1,0 +1,26 @@
+-- `field::record::line_of` meets its contract.
+use borrow.Author.Needs.{needs}
+use Rattle.field.proofs.record.line_of.Statement.{statement}
+use Rattle.field.proofs.record.line_of.Tie as tie
+use borrow.Author.Tests.{eq-eqb, ne-eqb}
+use Rattle.field.specs.Boxes.{lineOf}
+
+wide-requires : tie.Need-wide-requires
+wide-requires c κs = search needs
+
+sub-result : tie.Need-sub-result
+sub-result c = search needs
+
+add-result : tie.Need-add-result
+add-result c = search needs
+
+returns : tie.Need-returns
+unfolding lineOf
+returns c = rw (eq-eqb _ _ (c .if1 .taken), c .before .before .before .wide .ensures)
+
+returns-2 : tie.Need-returns-2
+unfolding lineOf
+returns-2 c = rw (ne-eqb _ _ (c .if1 .left), c .before .before .before .wide .ensures)
+
+pub line-of-spec : {M : Type 1} → statement M
+line-of-spec = tie.close (tie.spec wide-requires sub-result add-result returns returns-2)

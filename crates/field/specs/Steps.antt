@@ -1,0 +1,53 @@
+-- What the inner functions answer. No promise to a caller rests on these names.
+use mathlib.Core.Bool.{Bool, cond, _&&_}
+use mathlib.Core.List.{List}
+use Prim.Native.Nat.{ℕ, _+_}
+use lib.Dec.{leb, ltb}
+use lib.ListN.{length, getD}
+use Rattle.text.specs.Parts.{part}
+use Rattle.text.specs.Checks.{must, _andThen_}
+use Rattle.text.specs.declared.Seen.{Seen}
+use Rattle.field.specs.Decimal.{allDigits, value}
+use Rattle.field.specs.Boxes.{isLetter, belowZero, lineOf, edgeAllowed}
+use Rattle.field.specs.declared.Circle.{Circle}
+use Rattle.field.specs.declared.Edge.{Edge}
+use Rattle.field.specs.declared.Step.{Step}
+use Rattle.field.specs.declared.Step.the-variants.{Next, Stop}
+use Rattle.field.specs.declared.boxes.Line.{Line}
+use Rattle.field.specs.declared.boxes.Line.the-variants.{Lies, Wrong}
+
+-- the number that three digits at the most spell, or 1000 where a byte is no digit
+unfoldable pub numberOr : List ℕ → ℕ
+numberOr ds = cond (allDigits ds) (value ds) 1000
+
+-- where an edge of n degrees and a letter lies, or the code of its refusal
+unfoldable pub lineOr : Circle → ℕ → ℕ → Line
+lineOr c n l =
+    cond (ltb n 1000 && isLetter c l)
+    (cond (belowZero c n l) (Wrong 6)
+    (cond (leb n (c .most)) (Lies (lineOf c (record { degrees = n; letter = l })))
+    (Wrong 5)))
+    (Wrong 4)
+
+-- the same for the edge that stands at a place of a text
+unfoldable pub edgeLine : Circle → List ℕ → ℕ → Line
+edgeLine c s at =
+    cond (leb (at + (c .width + 1)) (length s)) (lineOr c (numberOr (part at (c .width) s)) (getD s (at + c .width) 0)) (Wrong 8)
+
+-- falling: the second does not lie above the first; else it does not lie below it
+abbrev pub orderly : Bool → ℕ → ℕ → Bool
+orderly falling x y = cond falling (leb y x) (leb x y)
+
+abbrev pub inOrder : Bool → Circle → Edge → Edge → Bool
+inOrder falling c a b = orderly falling (lineOf c a) (lineOf c b)
+
+-- a pair of edges, at two places: the first refusal, then 7 where they are not in order
+abbrev pub twoLines : Bool → Line → Line → ℕ → ℕ → ℕ → Step
+twoLines falling (Wrong code) second at mid end = Stop code at
+twoLines falling (Lies x) (Wrong code) at mid end = Stop code mid
+twoLines falling (Lies x) (Lies y) at mid end = cond (orderly falling x y) (Next end) (Stop 7 mid)
+
+-- a record's pair of edges, which would stand at two places
+unfoldable pub pairAllowed : Bool → Circle → Edge → Edge → ℕ → ℕ → Seen
+pairAllowed falling c first second at mid =
+    edgeAllowed c at first andThen edgeAllowed c mid second andThen must (inOrder falling c first second) 7 mid

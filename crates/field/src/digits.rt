@@ -1,0 +1,87 @@
+// Decimal digits. Only `0` to `9` are digits in a command.
+ghost use mathlib.Core.Path.{_≡_};
+ghost use mathlib.Core.Bool.{true};
+ghost use mathlib.Core.List.{_∷_, []};
+ghost use Prim.Native.Nat.{_+_, _-_, _≤_, _<_};
+ghost use lib.ListN.{length};
+ghost use Rattle.text.specs.Parts.{part};
+ghost use Rattle.field.specs.Decimal.{isDigit, allDigits, value};
+ghost use Rattle.field.specs.Steps.{numberOr};
+
+pub fn is_digit(b: u8) -> bool
+    ensures { λ r. ⌜ r ≡ isDigit b ⌝ }
+{
+    (b'0' <= b) & (b <= b'9')
+}
+
+// What a digit is worth.
+fn worth(b: u8) -> usize
+    requires { ⌜ 48 ≤ b ⌝ }
+    ensures { λ r. ⌜ r ≡ b - 48 ⌝ }
+{
+    (b - b'0') as usize
+}
+
+// The number that w digits from a place on spell, or 1000 where one of the bytes is no digit.
+pub fn number_at(s: &[u8], at: usize, w: usize) -> usize
+    requires { ⌜ at + w ≤ length (now s) ⌝ }
+    requires { ⌜ w ≤ 3 ⌝ }
+    ensures { λ r. ⌜ r ≡ numberOr (part at w (now (s .entry))) ⌝ }
+{
+    let mut n: usize = 0;
+    let mut i = 0;
+    while i < w {
+        let b = s[at + i];
+        if b < b'0' {
+            return 1000;
+        }
+        if b'9' < b {
+            return 1000;
+        }
+        n = n * 10 + worth(b);
+        i += 1;
+    }
+    n
+}
+
+// The same for two digits and for three, from their bytes.
+pub fn two(a: u8, b: u8) -> usize
+    ensures { λ r. ⌜ r ≡ numberOr (a ∷ b ∷ []) ⌝ }
+{
+    if is_digit(a) & is_digit(b) {
+        worth(a) * 10 + worth(b)
+    } else {
+        1000
+    }
+}
+
+pub fn three(a: u8, b: u8, c: u8) -> usize
+    ensures { λ r. ⌜ r ≡ numberOr (a ∷ b ∷ c ∷ []) ⌝ }
+{
+    if is_digit(a) & is_digit(b) & is_digit(c) {
+        worth(a) * 100 + worth(b) * 10 + worth(c)
+    } else {
+        1000
+    }
+}
+
+// What w digits spell, where they are known to be digits.
+pub fn value_at(s: &[u8], at: usize, w: usize) -> usize
+    requires { ⌜ at + w ≤ length (now s) ⌝ }
+    requires { ⌜ w ≤ 3 ⌝ }
+    requires { ⌜ allDigits (part at w (now s)) ≡ true ⌝ }
+    ensures { λ r. ⌜ r ≡ value (part at w (now (s .entry))) ⌝ }
+{
+    number_at(s, at, w)
+}
+
+// The same for a number that a byte holds.
+pub fn small_at(s: &[u8], at: usize, w: usize) -> u8
+    requires { ⌜ at + w ≤ length (now s) ⌝ }
+    requires { ⌜ w ≤ 3 ⌝ }
+    requires { ⌜ allDigits (part at w (now s)) ≡ true ⌝ }
+    requires { ⌜ value (part at w (now s)) < 256 ⌝ }
+    ensures { λ r. ⌜ r ≡ value (part at w (now (s .entry))) ⌝ }
+{
+    value_at(s, at, w) as u8
+}

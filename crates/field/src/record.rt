@@ -1,0 +1,81 @@
+// A record's own checks, with the place where each field would stand.
+use crate::Circle;
+use crate::Edge;
+use crate::Region;
+use crate::boxes::in_order;
+use crate::boxes::latitudes;
+use crate::boxes::longitudes;
+use text::Seen;
+ghost use mathlib.Core.Path.{_≡_};
+ghost use Prim.Native.Nat.{_≤_};
+ghost use Rattle.field.specs.Boxes.{lineOf, edgeAllowed, regionAllowed};
+ghost use Rattle.field.specs.Steps.{pairAllowed};
+
+pub fn wide(b: u8) -> usize
+    ensures { λ r. ⌜ r ≡ b ⌝ }
+{
+    b as usize
+}
+
+// Where an edge lies, in degrees from 1000 below zero.
+pub fn line_of(c: Circle, e: Edge) -> usize
+    ensures { λ r. ⌜ r ≡ lineOf c e ⌝ }
+{
+    let n = wide(e.degrees);
+    if e.letter == c.below {
+        1000 - n
+    } else {
+        1000 + n
+    }
+}
+
+// A letter that isn't one of the two is 4, zero below zero 6, too many degrees 5.
+pub fn edge_allowed(c: Circle, at: usize, e: Edge) -> Seen
+    ensures { λ r. ⌜ r ≡ edgeAllowed c at e ⌝ }
+{
+    let l = e.letter;
+    let n = wide(e.degrees);
+    if !((l == c.above) | (l == c.below)) {
+        return Seen::Bad(4, at);
+    }
+    if (n == 0) & (l == c.below) {
+        return Seen::Bad(6, at);
+    }
+    if c.most < n {
+        return Seen::Bad(5, at);
+    }
+    Seen::Fine
+}
+
+// Two edges, and 7 at the second where they are in the wrong order.
+fn pair_allowed(falling: bool, c: Circle, first: Edge, second: Edge, at: usize, mid: usize) -> Seen
+    ensures { λ r. ⌜ r ≡ pairAllowed falling c first second at mid ⌝ }
+{
+    match edge_allowed(c, at, first) {
+        Seen::Bad(code, place) => Seen::Bad(code, place),
+        Seen::Fine => match edge_allowed(c, mid, second) {
+            Seen::Bad(code, place) => Seen::Bad(code, place),
+            Seen::Fine => {
+                if in_order(falling, line_of(c, first), line_of(c, second)) {
+                    Seen::Fine
+                } else {
+                    Seen::Bad(7, mid)
+                }
+            }
+        },
+    }
+}
+
+pub fn region_allowed(at: usize, b: Region) -> Seen
+    requires { ⌜ at ≤ 4096 ⌝ }
+    ensures { λ r. ⌜ r ≡ regionAllowed at b ⌝ }
+{
+    let north = b.north;
+    let south = b.south;
+    let west = b.west;
+    let east = b.east;
+    match pair_allowed(true, latitudes(), north, south, at, at + 3) {
+        Seen::Bad(code, place) => Seen::Bad(code, place),
+        Seen::Fine => pair_allowed(false, longitudes(), west, east, at + 6, at + 10),
+    }
+}

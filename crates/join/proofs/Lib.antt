@@ -1,0 +1,5 @@
+-- The laws that the layers above cite.
+pub mod Places
+pub mod Parts
+pub mod Laws
+pub mod Printed

@@ -1,0 +1,7 @@
+-- The laws that the layers above cite.
+pub mod Local
+pub mod Fill
+pub mod Accepted
+pub mod Spelling
+pub mod Turns
+pub mod RoundTrip

@@ -1,0 +1,104 @@
+-- Turns of the loops over a record's entries.
+use mathlib.Core.Path.{_≡_, refl, sym, ap, _∙_}
+use mathlib.Core.Bool.{Bool, true, false}
+use mathlib.Core.List.{List, [], _∷_, _++_, append-nil, append-assoc}
+use Prim.Native.Nat.{ℕ, zero, suc, _+_, _-_, _*_, _≤_, _<_}
+use native.Mathlib.Omega.{arith}
+use native.Mathlib.Numerals.{add-one}
+use lib.ListN.{length, getD, take, drop, drop-of-length-le, length-append}
+use lib.Seq.{drop-cons, drop-drop, take-suc}
+use borrow.Author.Tests.{eq-eqb, ne-eqb}
+use Rattle.text.specs.declared.Seen.the-variants.{Fine, Bad}
+use Rattle.text.specs.Names.{allAllowed}
+use Rattle.field.specs.declared.Region.{Region}
+use Rattle.field.specs.Boxes.{regionAllowed, regionText, noRegion}
+use Rattle.field.proofs.Spelling.{region-length}
+use Rattle.lists.specs.Lists.{allZero, namesAllowed, regionZero, regionsZero, regionsAllowed, regionsText}
+
+-- what is left of a list, from its i-th entry on
+from {ℓ} : {A : Type ℓ} (l : List A) (i : ℕ) (z : A) → i < length l → drop i l ≡ getD l i z ∷ drop (i + 1) l
+from l i z h = rw (add-one, drop-cons l i z)
+
+-- ---- Unused bytes
+
+module _ (s : List ℕ) (i : ℕ) where
+  pub zero-turn : i < length s → getD s i 0 ≡ 0 → allZero (drop i s) ≡ allZero (drop (i + 1) s)
+  unfolding allZero
+  zero-turn h e = rw (from s i 0 h, eq-eqb (getD s i 0) 0 e)
+
+  pub zero-stop : i < length s → (getD s i 0 ≡ 0 → ⊥) → allZero (drop i s) ≡ false
+  unfolding allZero
+  zero-stop h e = rw (from s i 0 h, ne-eqb (getD s i 0) 0 e)
+
+  pub zero-end : length s ≤ i → allZero (drop i s) ≡ true
+  unfolding allZero
+  zero-end h = rw (drop-of-length-le s {i = i} h)
+
+-- ---- Names
+
+module _ (names : List ℕ) (n i p q : ℕ) where
+  pub names-turn : i < n → allAllowed (take 4 (drop p names)) ≡ true
+      → namesAllowed (n - i) q (drop p names) ≡ namesAllowed (n - (i + 1)) (q + 4) (drop (p + 4) names)
+  unfolding namesAllowed
+  names-turn h e =
+      let one : n - i ≡ suc (n - (i + 1)) = omega arith in
+      rw (one, e) (ap (namesAllowed (n - (i + 1)) (q + 4)) (drop-drop 4 p names))
+
+  pub names-stop : i < n → allAllowed (take 4 (drop p names)) ≡ false → namesAllowed (n - i) q (drop p names) ≡ Bad 4 q
+  unfolding namesAllowed
+  names-stop h e = let one : n - i ≡ suc (n - (i + 1)) = omega arith in rw (one, e)
+
+  pub names-end : n ≤ i → namesAllowed (n - i) q (drop p names) ≡ Fine
+  unfolding namesAllowed
+  names-end h = let e : n - i ≡ 0 = omega arith in rw e
+
+-- ---- Boxes
+
+module _ (bs : List Region) (i : ℕ) where
+  pub regions-zero-turn : i < length bs → regionZero (getD bs i noRegion) ≡ true → regionsZero (drop i bs) ≡ regionsZero (drop (i + 1) bs)
+  unfolding regionsZero
+  regions-zero-turn h e = rw (from bs i noRegion h, e)
+
+  pub regions-zero-stop : i < length bs → regionZero (getD bs i noRegion) ≡ false → regionsZero (drop i bs) ≡ false
+  unfolding regionsZero
+  regions-zero-stop h e = rw (from bs i noRegion h, e)
+
+  pub regions-zero-end : length bs ≤ i → regionsZero (drop i bs) ≡ true
+  unfolding regionsZero
+  regions-zero-end h = rw (drop-of-length-le bs {i = i} h)
+
+module _ (bs : List Region) (n i q : ℕ) where
+  pub regions-turn : i < n → i < length bs → regionAllowed q (getD bs i noRegion) ≡ Fine
+      → regionsAllowed (n - i) q (drop i bs) ≡ regionsAllowed (n - (i + 1)) (q + 14) (drop (i + 1) bs)
+  unfolding regionsAllowed
+  regions-turn h k e = let one : n - i ≡ suc (n - (i + 1)) = omega arith in rw (one, from bs i noRegion k, e)
+
+  pub regions-stop : (code place : ℕ) → i < n → i < length bs → regionAllowed q (getD bs i noRegion) ≡ Bad code place
+      → regionsAllowed (n - i) q (drop i bs) ≡ Bad code place
+  unfolding regionsAllowed
+  regions-stop code place h k e = let one : n - i ≡ suc (n - (i + 1)) = omega arith in rw (one, from bs i noRegion k, e)
+
+  pub regions-end : n ≤ i → regionsAllowed (n - i) q (drop i bs) ≡ Fine
+  unfolding regionsAllowed
+  regions-end h = let e : n - i ≡ 0 = omega arith in rw e
+
+-- ---- The text of boxes
+
+regions-text-append : (xs ys : List Region) → regionsText (xs ++ ys) ≡ regionsText xs ++ regionsText ys
+unfolding regionsText
+regions-text-append [] ys = refl
+regions-text-append (b ∷ xs) ys = rw (regions-text-append xs ys) (sym (append-assoc (regionText b) (regionsText xs) (regionsText ys)))
+
+-- one box more
+pub regions-text-more : (bs : List Region) (i : ℕ) → i < length bs
+    → regionsText (take (i + 1) bs) ≡ regionsText (take i bs) ++ regionText (getD bs i noRegion)
+unfolding regionsText
+regions-text-more bs i h =
+    rw (add-one, take-suc bs i noRegion h, regions-text-append (take i bs) (getD bs i noRegion ∷ []), append-nil (regionText (getD bs i noRegion)))
+
+-- 14 bytes each
+pub regions-text-length : (bs : List Region) → length (regionsText bs) ≡ 14 * length bs
+unfolding regionsText
+regions-text-length [] = refl
+regions-text-length (b ∷ bs) =
+    length-append (regionText b) (regionsText bs) ∙ omega (arith, region-length b, regions-text-length bs)

@@ -1,0 +1,140 @@
+// A list's own check, with the place where its count would stand.
+use crate::Airfields;
+use crate::Boxes;
+use field::Edge;
+use field::Region;
+use field::record::region_allowed;
+use field::record::wide;
+use text::Seen;
+use text::all_allowed;
+ghost use mathlib.Core.Path.{_≡_};
+ghost use Prim.Native.Nat.{_*_, _≤_};
+ghost use lib.ListN.{length, drop};
+ghost use Rattle.lists.specs.Lists.{
+  allZero,
+  namesAllowed,
+  airfieldsAllowed,
+  edgeZero,
+  regionZero,
+  regionsZero,
+  regionsAllowed,
+  boxesAllowed,
+};
+
+// Whether every byte from a place on is zero.
+fn zero_from(s: &[u8], from: usize) -> bool
+    requires { ⌜ from ≤ length (now s) ⌝ }
+    ensures { λ r. ⌜ r ≡ allZero (drop from (now (s .entry))) ⌝ }
+{
+    let mut i = from;
+    while i < s.len() {
+        if s[i] != 0 {
+            return false;
+        }
+        i += 1;
+    }
+    true
+}
+
+// n names, the first of which would stand at a place: a byte that is not allowed is 4 at its name.
+fn names_allowed(names: &[u8], n: usize, at: usize) -> Seen
+    requires { ⌜ (4 * n ≤ length (now names)) × (n ≤ 20) × (at ≤ 4096) ⌝ }
+    ensures { λ r. ⌜ r ≡ namesAllowed n at (now (names .entry)) ⌝ }
+{
+    let mut p = 0;
+    let mut q = at;
+    let mut i = 0;
+    while i < n {
+        let end = p + 4;
+        if !all_allowed(&names[p..end]) {
+            return Seen::Bad(4, q);
+        }
+        p = end;
+        q += 4;
+        i += 1;
+    }
+    Seen::Fine
+}
+
+// A count above 20 is 5, unused entries that are not zero 7, both at the count.
+pub fn airfields_allowed(l: Airfields, at: usize) -> Seen
+    requires { ⌜ at ≤ 4000 ⌝ }
+    ensures { λ r. ⌜ r ≡ airfieldsAllowed at l ⌝ }
+{
+    let n = wide(l.count);
+    if 20 < n {
+        return Seen::Bad(5, at);
+    }
+    let names = l.names;
+    if !zero_from(&names, 4 * n) {
+        return Seen::Bad(7, at);
+    }
+    names_allowed(&names, n, at + 2)
+}
+
+fn edge_zero(e: Edge) -> bool
+    ensures { λ r. ⌜ r ≡ edgeZero e ⌝ }
+{
+    (e.degrees == 0) & (e.letter == 0)
+}
+
+fn region_zero(b: Region) -> bool
+    ensures { λ r. ⌜ r ≡ regionZero b ⌝ }
+{
+    let north = b.north;
+    let south = b.south;
+    let west = b.west;
+    let east = b.east;
+    edge_zero(north) & edge_zero(south) & edge_zero(west) & edge_zero(east)
+}
+
+// Whether every box from the n-th on is zero.
+fn regions_zero(regions: [Region; 16], n: usize) -> bool
+    requires { ⌜ n ≤ 16 ⌝ }
+    ensures { λ r. ⌜ r ≡ regionsZero (drop n regions) ⌝ }
+{
+    let mut i = n;
+    while i < 16 {
+        if !region_zero(regions[i]) {
+            return false;
+        }
+        i += 1;
+    }
+    true
+}
+
+// n boxes, the first of which would stand at a place.
+fn regions_allowed(regions: [Region; 16], n: usize, at: usize) -> Seen
+    requires { ⌜ (n ≤ 16) × (at ≤ 2048) ⌝ }
+    ensures { λ r. ⌜ r ≡ regionsAllowed n at regions ⌝ }
+{
+    let mut q = at;
+    let mut i = 0;
+    while i < n {
+        match region_allowed(q, regions[i]) {
+            Seen::Bad(code, place) => {
+                return Seen::Bad(code, place);
+            }
+            Seen::Fine => {}
+        }
+        q += 14;
+        i += 1;
+    }
+    Seen::Fine
+}
+
+// A count above 16 is 5, unused entries that are not zero 7, both at the count.
+pub fn boxes_allowed(l: Boxes, at: usize) -> Seen
+    requires { ⌜ at ≤ 2000 ⌝ }
+    ensures { λ r. ⌜ r ≡ boxesAllowed at l ⌝ }
+{
+    let n = wide(l.count);
+    if 16 < n {
+        return Seen::Bad(5, at);
+    }
+    let regions = l.regions;
+    if !regions_zero(regions, n) {
+        return Seen::Bad(7, at);
+    }
+    regions_allowed(regions, n, at + 2)
+}

@@ -1,0 +1,4 @@
+-- The laws that the layers above cite.
+pub mod Local
+pub mod Own
+pub mod Allowed
