@@ -136,7 +136,6 @@ pub record Demand3 (b : List Place) (es : List Event) : Type 0 where
   -- in at most 835 bytes
   pub short : (d : List ℕ) → length (waiting d (after b es)) ≤ longest
   -- it leaves a configuration as those commands would have, one after the other
-  pub acts : (d : List ℕ) (x : Settings) → length (x .flags) ≡ 7
-      → act x (waiting d (after b es)) ≡ foldl act x (since d (logged b es))
+  pub acts : (d : List ℕ) (x : Settings) → act x (waiting d (after b es)) ≡ foldl act x (since d (logged b es))
   -- every reply is what the events before it call for
   pub replies : logged b es ≡ calledFor (length b) [] es
