@@ -1,7 +1,7 @@
 -- The laws of an observation.
 pub mod Acceptance
-pub mod Figures
 pub mod Checked
+pub mod Figures
 pub mod Gathered
 pub mod RoundTrip
 pub mod Rows

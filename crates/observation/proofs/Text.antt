@@ -1,5 +1,5 @@
--- The text of figures one after the other: its length, and how it comes to stand in a buffer.
-use mathlib.Core.Path.{_≡_, refl, sym, ap, _∙_}
+-- How figures, one after the other, come to stand in a buffer.
+use mathlib.Core.Path.{_≡_, sym, ap, _∙_}
 use mathlib.Core.Bool.{true}
 use mathlib.Core.List.{List, [], _∷_, _++_, append-assoc}
 use Prim.Native.Nat.{ℕ, zero, suc, _+_, _≤_, _<_}
@@ -15,33 +15,19 @@ use Rattle.packed.proofs.RoundTrip.{field-length}
 use Rattle.observation.specs.Figures.{figuresText}
 use Rattle.observation.specs.Steps.{fittingAll}
 use Rattle.observation.specs.declared.Row.{Row}
+use Rattle.observation.proofs.Figures.{total}
 use Rattle.observation.proofs.Rows.{first-fits, others-fit}
 
--- how wide several rows are together
-abbrev pub widthOf : List Row → ℕ
-widthOf [] = 0
-widthOf (r ∷ rs) = r .width + widthOf rs
-
--- a figure for each row: the text is as wide as the rows
-pub figures-length : (rows : List Row) (xs : List Figure) → length xs ≡ length rows → length (figuresText rows xs) ≡ widthOf rows
-unfolding figuresText
-figures-length [] xs h = refl
-figures-length (r ∷ rs) [] h = absurd (omega arith)
-figures-length (r ∷ rs) (x ∷ xs) h =
-    length-append (fieldOf (r .width) x) (figuresText rs xs)
-    ∙ rw (field-length (r .width) x, figures-length rs xs (omega arith))
-
--- ---- written one after the other
-
+-- figures put into a buffer one by one
 abbrev pub written : List Row → List Figure → ℕ → List ℕ → List ℕ
 written [] xs from d = d
 written (r ∷ rs) [] from d = d
 written (r ∷ rs) (x ∷ xs) from d = written rs xs (from + r .width) (over d from (fieldOf (r .width) x))
 
 -- figures written one after the other are their text
-pub written-text : (rows : List Row) (xs : List Figure) (from : ℕ) (d : List ℕ) → from + widthOf rows ≤ length d
+pub written-text : (rows : List Row) (xs : List Figure) (from : ℕ) (d : List ℕ) → from + total rows ≤ length d
     → written rows xs from d ≡ over d from (figuresText rows xs)
-unfolding figuresText
+unfolding figuresText total
 written-text [] xs from d h = over-none d from
 written-text (r ∷ rs) [] from d h = over-none d from
 written-text (r ∷ rs) (x ∷ xs) from d h =
@@ -52,7 +38,7 @@ written-text (r ∷ rs) (x ∷ xs) from d h =
     ∙ ap (λ (k : ℕ). over (over d from f) (from + k) (figuresText rs xs)) (sym n)
     ∙ over-over d from f (figuresText rs xs) (omega (arith, text-short rs xs))
   where
-    text-short : (rows : List Row) (xs : List Figure) → length (figuresText rows xs) ≤ widthOf rows
+    text-short : (rows : List Row) (xs : List Figure) → length (figuresText rows xs) ≤ total rows
     text-short [] xs = omega arith
     text-short (r ∷ rs) [] = omega arith
     text-short (r ∷ rs) (x ∷ xs) =

@@ -34,8 +34,16 @@ ghost use Prim.Native.Nat.{_+_, _≤_};
 ghost use lib.ListN.{length, drop};
 ghost use Rattle.text.specs.Parts.{part};
 ghost use Rattle.packed.specs.Packed.{worths};
-ghost use Rattle.observation.specs.Figures.{readFigure};
-ghost use Rattle.observation.specs.Observation.{readPosition, readAir, readWater, readFields, readFirst, readLater};
+ghost use Rattle.observation.specs.Figures.{All, readFigure};
+ghost use Rattle.observation.specs.Observation.{
+  airFrom,
+  readPosition,
+  readAir,
+  readWater,
+  readFields,
+  readFirst,
+  readLater,
+};
 
 // One figure, s being its field: a packed field in its row's range.
 fn figure(t: &[u8; 256], s: &[u8], row: Row, at: usize) -> Packed
@@ -100,7 +108,29 @@ fn position(t: &[u8; 256], s: &[u8], at: usize, a: Row, b: Row, c: Row) -> Posit
     })
 }
 
-// Altitude, temperature, wind direction, wind speed. Direction and speed are both missing or both given, else 7 at the speed.
+// Wind direction and speed are both missing or both given, else 7 at the speed, 7 bytes on.
+fn air_of(
+    at: usize,
+    altitude: Figure,
+    temperature: Figure,
+    direction: Figure,
+    speed: Figure,
+) -> AirRead
+    requires { ⌜ at ≤ 8192 ⌝ }
+    ensures { λ r. ⌜ r ≡ airFrom at (All (altitude ∷ temperature ∷ direction ∷ speed ∷ [])) ⌝ }
+{
+    if are_alike(direction, speed) {
+        return AirRead::Is(Air {
+            altitude,
+            temperature,
+            direction,
+            speed,
+        });
+    }
+    AirRead::Not(7, at + 7)
+}
+
+// Altitude, temperature, wind direction, wind speed.
 fn air(t: &[u8; 256], s: &[u8], at: usize, from: usize) -> AirRead
     requires { ⌜ now t ≡ worths ⌝ }
     requires { ⌜ (at ≤ 4096) × (length (now s) ≤ 27) × (from + 9 ≤ length (now s)) ⌝ }
@@ -133,15 +163,7 @@ fn air(t: &[u8; 256], s: &[u8], at: usize, from: usize) -> AirRead
             return AirRead::Not(code, place);
         }
     };
-    if are_alike(direction, speed) {
-        return AirRead::Is(Air {
-            altitude,
-            temperature,
-            direction,
-            speed,
-        });
-    }
-    AirRead::Not(7, at + fourth)
+    air_of(at + from, altitude, temperature, direction, speed)
 }
 
 // Gust, water vapour, quality.

@@ -2,7 +2,7 @@
 use Rattle.observation.proofs.byte.all_solidi.Statement.{statement}
 use Rattle.observation.proofs.byte.all_solidi.Tie as tie
 use native.Mathlib.Omega.{arith}
-use mathlib.Core.Path.{_≡_, refl, sym, ap, _∙_}
+use mathlib.Core.Path.{_≡_, refl, sym, _∙_}
 use mathlib.Core.Bool.{_&&_}
 use Prim.Native.Nat.{_≤_, _-_}
 use lib.ListN.{length, drop}

@@ -2,15 +2,12 @@
 use borrow.Author.Needs.{needs}
 use Rattle.observation.proofs.byte.allowed.Statement.{statement}
 use Rattle.observation.proofs.byte.allowed.Tie as tie
-use mathlib.Core.Path.{_≡_, refl, sym, ap, _∙_}
+use mathlib.Core.Path.{_≡_}
 use mir.Val.{toZ, ofZ}
 use mir.Syntax.{w32}
 
--- [extra
 back : (c : tie.After-known-told) → toZ w32 (ofZ w32 (c .before .figure .given .0 .0)) ≡ c .before .figure .given .0 .0
 back c = search needs
-
--- extra]
 
 enum-known-figure : tie.Need-enum-known-figure
 enum-known-figure c = search needs

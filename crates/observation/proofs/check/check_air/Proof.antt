@@ -2,7 +2,7 @@
 use borrow.Author.Needs.{needs}
 use Rattle.observation.proofs.check.check_air.Statement.{statement}
 use Rattle.observation.proofs.check.check_air.Tie as tie
-use mathlib.Core.Path.{_≡_, refl, sym, ap, _∙_}
+use mathlib.Core.Path.{sym, _∙_}
 use borrow.Author.Tests.{not-true, not-false}
 use Rattle.observation.specs.Figures.{checkFigures}
 use Rattle.observation.specs.Observation.{checkAir}

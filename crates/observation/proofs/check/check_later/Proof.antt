@@ -2,8 +2,8 @@
 use borrow.Author.Needs.{needs}
 use Rattle.observation.proofs.check.check_later.Statement.{statement}
 use Rattle.observation.proofs.check.check_later.Tie as tie
-use mathlib.Core.Path.{_≡_, refl, sym, ap, _∙_}
-use borrow.Author.Tests.{not-true, not-false, eq-eqb, ne-eqb}
+use mathlib.Core.Path.{sym, _∙_}
+use borrow.Author.Tests.{not-true, not-false}
 use Rattle.observation.specs.Observation.{checkLater}
 
 enum-told : tie.Need-enum-told

@@ -2,12 +2,11 @@
 use borrow.Author.Needs.{needs}
 use Rattle.observation.proofs.fine.class.Statement.{statement}
 use Rattle.observation.proofs.fine.class.Tie as tie
-use mathlib.Core.Path.{_≡_, refl, sym, ap, _∙_}
+use mathlib.Core.Path.{_≡_, sym, _∙_}
 use Rattle.observation.specs.Figures.{inRange}
 use mir.Val.{toZ, ofZ}
 use mir.Syntax.{w32}
 
--- [extra
 back : (c : tie.After-known-told2) → toZ w32 (ofZ w32 (c .before .f .given .0 .0)) ≡ c .before .f .given .0 .0
 back c = search needs
 
@@ -15,8 +14,6 @@ back c = search needs
 tested : (c : tie.After-in-range)
     → inRange (c .before .before .before .before .before .before .before .args .row) (c .before .before .f .given .0 .0) ≡ c .in-range .result
 tested c = sym (c .in-range .ensures ∙ rw (back (c .before)))
-
--- extra]
 
 enum-known-field : tie.Need-enum-known-field
 enum-known-field c = search needs

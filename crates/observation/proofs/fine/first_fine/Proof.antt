@@ -2,7 +2,7 @@
 use borrow.Author.Needs.{needs}
 use Rattle.observation.proofs.fine.first_fine.Statement.{statement}
 use Rattle.observation.proofs.fine.first_fine.Tie as tie
-use mathlib.Core.Path.{_≡_, refl, sym, ap, _∙_}
+use mathlib.Core.Path.{sym}
 use denote.Ref.{now}
 use Rattle.observation.proofs.Acceptance.{first-fine}
 

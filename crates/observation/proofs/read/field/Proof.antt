@@ -3,7 +3,7 @@ use borrow.Author.Needs.{needs}
 use Rattle.observation.proofs.read.field.Statement.{statement}
 use Rattle.observation.proofs.read.field.Tie as tie
 use native.Mathlib.Omega.{arith}
-use mathlib.Core.Path.{_≡_, refl, sym, ap, _∙_}
+use mathlib.Core.Path.{_≡_, ap, _∙_}
 use Prim.Native.Nat.{ℕ, _+_, _-_}
 use lib.ListN.{take, drop}
 use denote.Ref.{now}

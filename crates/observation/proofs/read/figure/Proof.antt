@@ -3,20 +3,16 @@ use borrow.Author.Needs.{needs}
 use Rattle.observation.proofs.read.figure.Statement.{statement}
 use Rattle.observation.proofs.read.figure.Tie as tie
 use native.Mathlib.Omega.{arith}
-use mathlib.Core.Path.{_≡_, refl, sym, ap, _∙_}
+use mathlib.Core.Path.{_≡_, sym, ap, _∙_}
 use mir.Val.{toZ, ofZ}
 use mir.Syntax.{w32}
-use borrow.Author.Tests.{not-true, not-false}
 use denote.Ref.{now}
-use Prim.Native.Nat.{_≤_}
-use mathlib.Core.Bool.{true, false}
 use Rattle.packed.proofs.Refusal.{refused-near}
 use Rattle.observation.specs.Figures.{readFigure, inRange}
 use Rattle.packed.specs.Packed.{readPacked}
 use Rattle.packed.specs.declared.Packed.the-variants.{Is, Refused}
-use Rattle.packed.specs.declared.Figure.the-variants.{Given, Missing}
+use Rattle.packed.specs.declared.Figure.the-variants.{Given}
 
--- [extra
 -- what the field holds
 found : (c : tie.After-f2) → readPacked (now (c .before .before .before .before .before .before .before .args .s)) ≡ Is (Given (c .f2 .given .0 .0))
 found c = sym (c .before .before .before .before .before .read .ensures) ∙ c .before .before .before .f .given .1 ∙ ap Is (c .f2 .given .1)
@@ -34,8 +30,6 @@ tested c = sym (c .in-range .ensures ∙ rw (back (c .before)))
 refusal : (c : tie.After-code)
     → readPacked (now (c .before .before .before .before .args .s)) ≡ Refused (c .code .given .0 .0) (c .code .given .0 .1 .0)
 refusal c = sym (c .before .before .read .ensures) ∙ c .code .given .1
-
--- extra]
 
 read-requires : tie.Need-read-requires
 read-requires c κs = search needs

@@ -2,7 +2,7 @@
 use borrow.Author.Needs.{needs}
 use Rattle.observation.proofs.read.later.Statement.{statement}
 use Rattle.observation.proofs.read.later.Tie as tie
-use mathlib.Core.Path.{_≡_, refl, sym, ap, _∙_}
+use mathlib.Core.Path.{_≡_, sym, _∙_}
 use borrow.Author.Tests.{not-true, not-false, eq-eqb, ne-eqb}
 use lib.Dec.{eqb}
 use lib.ListN.{getD}
@@ -10,15 +10,12 @@ use denote.Ref.{now}
 use mathlib.Core.Bool.{true, false}
 use Rattle.observation.specs.Observation.{readLater, isKind}
 
--- [extra
 -- it is not absent
 other : (c : tie.Else1) → eqb (getD (now (c .before .before .before .args .s)) 0 0) 47 ≡ false
 other c = ne-eqb _ 47 (c .if1 .left)
 
 kind : (c : tie.Else3) → isKind (getD (now (c .before .before .before .before .before .args .s)) 0 0) ≡ true
 kind c = sym (c .before .is-kind .ensures) ∙ not-false _ (c .if3 .left)
-
--- extra]
 
 shared-slice-read-kind : tie.Need-shared-slice-read-kind
 shared-slice-read-kind c = search needs

@@ -2,10 +2,22 @@
 use borrow.Author.Needs.{needs}
 use Rattle.observation.proofs.read.water.Statement.{statement}
 use Rattle.observation.proofs.read.water.Tie as tie
-use mathlib.Core.Path.{_≡_, refl, sym, ap, _∙_}
+use mathlib.Core.Path.{_≡_, sym, _∙_}
+use Prim.Native.Nat.{_+_}
 use denote.Ref.{now}
+use Rattle.text.specs.Parts.{part}
+use Rattle.packed.specs.declared.Packed.the-variants.{Is}
 use native.Mathlib.Nat.{add-assoc}
+use Rattle.observation.specs.Figures.{readFigure}
+use Rattle.observation.specs.Observation.{speedRow, vapourRow}
 use Rattle.observation.proofs.Steps.{water-from}
+
+-- each figure as it was read
+gust : (c : tie.After-x) → let a = c .before .before .before .before .args in readFigure speedRow (a .at + a .from) (part (a .from) 2 (now (a .s))) ≡ Is (c .x .given .0 .0)
+gust c = sym (c .before .before .field .ensures) ∙ c .x .given .1
+
+vapour : (c : tie.After-x2) → let a = c .before .before .before .before .before .before .before .before .args in readFigure vapourRow (a .at + (a .from + 2)) (part (a .from + 2) 3 (now (a .s))) ≡ Is (c .x2 .given .0 .0)
+vapour c = sym (c .before .before .field2 .ensures) ∙ c .x2 .given .1
 
 field-requires : tie.Need-field-requires
 field-requires c κs = search needs
@@ -18,9 +30,8 @@ enum-known-code c = search needs
 
 returns : tie.Need-returns
 returns c =
-    let at1 = c .before in
-    let a = at1 .before .before .before .before .args in
-    rw (water-from (a .at) (a .from) (now (a .s)), sym (at1 .before .before .field .ensures) ∙ at1 .code .given .1)
+    let a = c .before .before .before .before .before .args in
+    rw (water-from (a .at) (a .from) (now (a .s)), sym (c .before .before .before .field .ensures) ∙ c .before .code .given .1)
 
 add-second : tie.Need-add-second
 add-second c = search needs
@@ -36,10 +47,9 @@ enum-known-code-2 c = search needs
 
 returns-2 : tie.Need-returns-2
 returns-2 c =
-    let at2 = c .before in
-    let at1 = at2 .before .before .before .before in
-    let a = at1 .before .before .before .before .args in
-    rw (water-from (a .at) (a .from) (now (a .s)), sym (at1 .before .before .field .ensures) ∙ at1 .x .given .1, sym (at2 .before .before .field2 .ensures) ∙ at2 .code2 .given .1)
+    let x1 = c .before .before .before .before .before in
+    let a = x1 .before .before .before .before .args in
+    rw (water-from (a .at) (a .from) (now (a .s)), gust x1, sym (c .before .before .before .field2 .ensures) ∙ c .before .code2 .given .1)
 
 add-last : tie.Need-add-last
 add-last c = search needs
@@ -52,20 +62,20 @@ is-quality-requires c κs = search needs
 
 returns-3 : tie.Need-returns-3
 returns-3 c =
-    let at2 = c .before .before .before .before in
-    let at1 = at2 .before .before .before .before in
-    let a = at1 .before .before .before .before .args in
-    rw (water-from (a .at) (a .from) (now (a .s)), sym (at1 .before .before .field .ensures) ∙ at1 .x .given .1, sym (at2 .before .before .field2 .ensures) ∙ at2 .x2 .given .1, sym (c .before .is-quality .ensures) ∙ c .if1 .taken)
+    let x2 = c .before .before .before .before in
+    let x1 = x2 .before .before .before .before in
+    let a = x1 .before .before .before .before .args in
+    rw (water-from (a .at) (a .from) (now (a .s)), gust x1, vapour x2, sym (c .before .is-quality .ensures) ∙ c .if1 .taken)
 
 add-t25 : tie.Need-add-t25
 add-t25 c = search needs
 
 returns-4 : tie.Need-returns-4
 returns-4 c =
-    let at2 = c .before .before .before .before in
-    let at1 = at2 .before .before .before .before in
-    let a = at1 .before .before .before .before .args in
-    rw (← add-assoc (a .at) (a .from) 5, water-from (a .at) (a .from) (now (a .s)), sym (at1 .before .before .field .ensures) ∙ at1 .x .given .1, sym (at2 .before .before .field2 .ensures) ∙ at2 .x2 .given .1, sym (c .before .is-quality .ensures) ∙ c .if1 .left)
+    let x2 = c .before .before .before .before in
+    let x1 = x2 .before .before .before .before in
+    let a = x1 .before .before .before .before .args in
+    rw (← add-assoc (a .at) (a .from) 5, water-from (a .at) (a .from) (now (a .s)), gust x1, vapour x2, sym (c .before .is-quality .ensures) ∙ c .if1 .left)
 
 pub water-spec : {M : Type 1} → statement M
 water-spec =

@@ -3,8 +3,8 @@ use Rattle.observation.proofs.write.fill.Statement.{statement}
 use Rattle.observation.proofs.write.fill.Tie as tie
 use borrow.Author.Needs.{needs}
 use native.Mathlib.Omega.{arith}
-use mathlib.Core.Path.{_≡_, refl, sym, ap, _∙_}
-use Prim.Native.Nat.{ℕ, _≤_, _<_, _-_}
+use mathlib.Core.Path.{_≡_, refl, _∙_}
+use Prim.Native.Nat.{ℕ, _≤_, _-_}
 use lib.ListN.{length, drop, replicate, length-set}
 use lib.Seq.{drop-length}
 use mathlib.Core.List.{_++_, append-nil}

@@ -3,13 +3,11 @@ use borrow.Author.Needs.{needs}
 use Rattle.observation.proofs.write.put_air.Statement.{statement}
 use Rattle.observation.proofs.write.put_air.Tie as tie
 use native.Mathlib.Omega.{arith}
-use mathlib.Core.Path.{_≡_, refl, sym, ap, _∙_}
-use Prim.Native.Nat.{_+_, _≤_}
 use lib.Dec.{lit<}
 use denote.Ref.{now}
-use mathlib.Core.List.{[], _∷_, _++_}
 use Rattle.observation.proofs.Text.{written-text, fits-at}
-use Rattle.observation.specs.Observation.{airRows, waterRows, positionFigures, airFigures, waterFigures}
+use Rattle.observation.specs.Observation.{airRows, airFigures}
+use Rattle.observation.proofs.Figures.{total}
 
 add-second : tie.Need-add-second
 add-second c = search needs
@@ -48,6 +46,7 @@ same-length : tie.Need-same-length
 same-length c = search needs
 
 returns : tie.Need-returns
+unfolding total
 returns c =
     let p4 = c .before .before in
     let p3 = p4 .before .before .before .before in

@@ -3,8 +3,8 @@ use borrow.Author.Needs.{needs}
 use Rattle.observation.proofs.write.put_field.Statement.{statement}
 use Rattle.observation.proofs.write.put_field.Tie as tie
 use native.Mathlib.Omega.{arith}
-use mathlib.Core.Path.{_≡_, refl, sym, ap, _∙_}
-use Prim.Native.Nat.{ℕ, _+_, _-_, _≤_}
+use mathlib.Core.Path.{_≡_, sym, ap, _∙_}
+use Prim.Native.Nat.{ℕ, _+_, _-_}
 use native.Mathlib.Nat.{add-zero}
 use mathlib.Core.List.{[]}
 use lib.ListN.{length, take, drop}
@@ -15,7 +15,6 @@ use Rattle.text.proofs.Over.{over-none, over-whole, then-part}
 use Rattle.packed.specs.Packed.{fieldOf}
 use Rattle.packed.proofs.RoundTrip.{field-length}
 
--- [extra
 -- the part is as wide as the figure is to be
 wide : (c : tie.Start)
     → let a = c .args in
@@ -23,8 +22,6 @@ wide : (c : tie.Start)
 wide c =
     let a = c .args in
     part-length (now (a .d)) (a .from) (a .from + a .width) (c .pre .1 .0) ∙ omega arith
-
--- extra]
 
 add-end : tie.Need-add-end
 add-end c = search needs

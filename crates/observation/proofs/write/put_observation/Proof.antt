@@ -3,16 +3,17 @@ use borrow.Author.Needs.{needs}
 use Rattle.observation.proofs.write.put_observation.Statement.{statement}
 use Rattle.observation.proofs.write.put_observation.Tie as tie
 use native.Mathlib.Omega.{arith}
-use mathlib.Core.Path.{_≡_, refl, sym, ap, _∙_}
+use mathlib.Core.Path.{_≡_, refl}
 use Prim.Native.Nat.{_+_}
 use mathlib.Core.List.{[], _∷_, _++_}
 use denote.Ref.{now}
-use lib.ListN.{length, set, length-set, length-append}
+use lib.ListN.{length, length-set, length-append}
 use Rattle.observation.specs.Figures.{figuresText}
 use Rattle.observation.specs.Observation.{airRows, waterRows, positionFigures, airFigures, waterFigures, observationText}
-use Rattle.observation.proofs.Text.{figures-length, whole-text}
+use Rattle.observation.proofs.Text.{whole-text}
+use Rattle.observation.proofs.RoundTrip.{figures-length}
+use Rattle.observation.proofs.Figures.{total}
 
--- [extra
 -- the buffer keeps its length
 after-position : (c : tie.After-put-position)
     → length (c .put-position .last .1 .1 .1 .1 .1 .0) ≡ 16 + c .before .before .before .before .before .before .args .n
@@ -23,8 +24,6 @@ after-position c =
 after-air : (c : tie.After-put-air)
     → length (c .put-air .last .1 .1 .1 .0) ≡ 16 + c .before .before .before .before .before .before .before .before .before .before .args .n
 after-air c = omega (arith, c .put-air .kept .1 .1 .1 .0, after-position (c .before .before .before .before))
-
--- extra]
 
 add-second : tie.Need-add-second
 add-second c = search needs
@@ -60,7 +59,7 @@ same-length c =
     omega (arith, w .put-water .kept .1 .1 .1 .0, after-air (w .before .before .before .before), s .pre .1 .0)
 
 returns : tie.Need-returns
-unfolding observationText
+unfolding observationText total
 returns c =
     let w = c .before .before in
     let r = w .before .before .before .before in

@@ -3,13 +3,12 @@ use borrow.Author.Needs.{needs}
 use Rattle.observation.proofs.write.put_position.Statement.{statement}
 use Rattle.observation.proofs.write.put_position.Tie as tie
 use native.Mathlib.Omega.{arith}
-use mathlib.Core.Path.{_≡_, refl, sym, ap, _∙_}
-use Prim.Native.Nat.{_+_, _≤_}
 use lib.Dec.{lit<}
 use denote.Ref.{now}
-use mathlib.Core.List.{[], _∷_, _++_}
+use mathlib.Core.List.{[], _∷_}
 use Rattle.observation.proofs.Text.{written-text, fits-at}
-use Rattle.observation.specs.Observation.{airRows, waterRows, positionFigures, airFigures, waterFigures}
+use Rattle.observation.specs.Observation.{positionFigures}
+use Rattle.observation.proofs.Figures.{total}
 
 put-field-requires : tie.Need-put-field-requires
 put-field-requires c κs =
@@ -42,6 +41,7 @@ same-length : tie.Need-same-length
 same-length c = search needs
 
 returns : tie.Need-returns
+unfolding total
 returns c =
     let p3 = c .before .before in
     let p2 = p3 .before .before .before .before in

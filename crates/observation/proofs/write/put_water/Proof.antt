@@ -3,16 +3,17 @@ use borrow.Author.Needs.{needs}
 use Rattle.observation.proofs.write.put_water.Statement.{statement}
 use Rattle.observation.proofs.write.put_water.Tie as tie
 use native.Mathlib.Omega.{arith}
-use mathlib.Core.Path.{_≡_, refl, sym, ap, _∙_}
+use mathlib.Core.Path.{_≡_, refl, ap, _∙_}
 use lib.Dec.{lit<}
 use denote.Ref.{now}
 use Rattle.observation.proofs.Text.{written-text, fits-at, then-byte}
-use Rattle.observation.specs.Observation.{airRows, waterRows, positionFigures, airFigures, waterFigures}
-use Prim.Native.Nat.{ℕ, _+_, _≤_}
-use mathlib.Core.List.{List, [], _∷_, _++_}
+use Rattle.observation.specs.Observation.{waterRows, waterFigures}
+use Prim.Native.Nat.{ℕ, _+_}
+use mathlib.Core.List.{List}
 use lib.ListN.{length, set, length-set}
-use Rattle.observation.proofs.Text.{figures-length}
+use Rattle.observation.proofs.RoundTrip.{figures-length}
 use Rattle.observation.specs.Figures.{figuresText}
+use Rattle.observation.proofs.Figures.{total}
 
 add-second : tie.Need-add-second
 add-second c = search needs
@@ -39,6 +40,7 @@ same-length : tie.Need-same-length
 same-length c = simp length-set (search needs)
 
 returns : tie.Need-returns
+unfolding total
 returns c =
     let p2 = c .before .before in
     let p1 = p2 .before .before .before .before in

@@ -2,9 +2,8 @@
 use borrow.Author.Needs.{needs}
 use Rattle.observation.proofs.write.write_first.Statement.{statement}
 use Rattle.observation.proofs.write.write_first.Tie as tie
-use mathlib.Core.Path.{_≡_, refl, sym, ap, _∙_}
 use Rattle.observation.specs.Observation.{firstRows}
-use Rattle.observation.proofs.Rows.{first-sound}
+use Rattle.observation.proofs.RoundTrip.{first-sound}
 use Rattle.observation.proofs.Checked.{first-allowed, allowed-fitting}
 
 put-observation-requires : tie.Need-put-observation-requires

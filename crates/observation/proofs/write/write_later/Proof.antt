@@ -2,11 +2,11 @@
 use borrow.Author.Needs.{needs}
 use Rattle.observation.proofs.write.write_later.Statement.{statement}
 use Rattle.observation.proofs.write.write_later.Tie as tie
-use mathlib.Core.Path.{_≡_, refl, sym, ap, _∙_}
+use mathlib.Core.Path.{ap, _∙_}
 use Prim.Native.Nat.{ℕ}
 use lib.ListN.{replicate}
 use Rattle.observation.specs.Observation.{laterRows, laterText}
-use Rattle.observation.proofs.Rows.{later-sound}
+use Rattle.observation.proofs.RoundTrip.{later-sound}
 use Rattle.observation.proofs.Checked.{present-allowed, allowed-fitting}
 use mathlib.Core.Bool.{false}
 
