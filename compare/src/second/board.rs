@@ -35,18 +35,14 @@ fn valid(slots: &[Slot], area: &[u8]) -> bool {
         return false;
     }
     let mut seen = [0; SLOTS];
-    let mut count = 0;
-    for (slot, part) in slots.iter().zip(area.chunks_exact(MOST)).filter(|(slot, _)| slot.used()) {
-        let key = key(slot.designator);
-        let fine = named(&slot.designator) && !seen[..count].contains(&key);
-        let Some(text) = part.get(..usize::from(slot.length)) else {
-            return false;
-        };
-        if !fine || command::check(text).is_err() {
-            return false;
+    let used = slots.iter().zip(area.chunks_exact(MOST)).filter(|(slot, _)| slot.used());
+    for (count, (slot, part)) in used.enumerate() {
+        seen[count] = key(slot.designator);
+        let fine = named(&slot.designator) && !seen[..count].contains(&seen[count]);
+        match part.get(..usize::from(slot.length)) {
+            Some(text) if fine && command::check(text).is_ok() => (),
+            _ => return false,
         }
-        seen[count] = key;
-        count += 1;
     }
     true
 }

@@ -38,16 +38,15 @@ fn lists_are_replaced_and_the_larger_downlink_is_kept() {
 #[test]
 fn refusals_in_order() {
     let long = [b'x'; 836];
-    let cases: [(&[u8], &[u8], u8, u8, u32); 6] = [
-        (b"", &long, 1, 8, 0),
-        (&long, b"", 1, 1, 0),
-        (NO_CHANGE, &long, 2, 1, 0),
-        (NO_CHANGE, b"AWR04", 2, 8, 5),
-        (b"AWR042", b"", 1, 4, 5),
-        (NO_CHANGE, NO_CHANGE, 0, 2, 0),
+    let cases: [([&[u8]; 2], u8, _); 6] = [
+        ([b"", &long], 1, code(8, 0)),
+        ([&long, b""], 1, code(1, 0)),
+        ([NO_CHANGE, &long], 2, code(1, 0)),
+        ([NO_CHANGE, b"AWR04"], 2, code(8, 5)),
+        ([b"AWR042", b""], 1, code(4, 5)),
+        ([NO_CHANGE, NO_CHANGE], 0, code(2, 0)),
     ];
-    for (first, second, text, number, place) in cases {
-        let refusal = code(number, place);
+    for ([first, second], text, refusal) in cases {
         assert_eq!(join(first, second, &mut []), Err(Fault { text, refusal }));
     }
 }
