@@ -184,7 +184,7 @@ fn invalid(random: &mut Random, queue: &mut Queue) -> Done {
 fn fault(random: &mut Random, board: &mut Case, index: usize) {
     let n = board.slots.len();
     let length = usize::from(board.slots[index].length);
-    match random.below(12) {
+    match random.below(13) {
         0 => board.slots[index].length = random.of(&[836, 837, 1670, 1671, 0x7fff, 0xffff]),
         1 => board.slots[index].length = 1 + random.below(21) as u16,
         2 => board.slots[index].length = (length as u16).wrapping_add(random.of(&[1, 0xffff])),
@@ -205,7 +205,11 @@ fn fault(random: &mut Random, board: &mut Case, index: usize) {
         8 => board.area.truncate(MOST * n - 1),
         9 => board.area.push(b'0'),
         10 => drop(board.slots.pop()),
-        _ => board.slots.push(Slot { designator: *b"NEW002", length: 0 }),
+        11 => board.slots.push(Slot { designator: *b"NEW002", length: 0 }),
+        _ => {
+            board.slots.resize(65, Slot { designator: *b"NEW002", length: 0 });
+            board.area.resize(65 * MOST, 0);
+        }
     }
 }
 

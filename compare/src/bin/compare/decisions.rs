@@ -80,7 +80,9 @@ fn question(random: &mut Random, held: &Configuration) -> Question {
     let longitude = minutes(random, [region.west, region.east].map(|edge| LONGITUDE.degrees(edge)), 10_800);
     let mut question = Question { phase: random.below(3) as u8, hour, latitude, longitude, ..at(airfield) };
     if random.percent(5) {
-        wrong(random, &mut question);
+        for _ in 0..1 + random.below(2) {
+            wrong(random, &mut question);
+        }
     }
     question
 }

@@ -34,9 +34,9 @@ use std::process::exit;
 const USAGE: &str = "compare [--seed N] [--long] [--groups GROUP,.. | --only FAMILY] | compare case WORDS
 groups: report, command, config, decide, join, board, all";
 
-/// Each group and its families.
 type Group = (&'static str, fn(&mut Run));
 
+/// Each group and its families.
 const GROUPS: [Group; 6] = [
     ("report", |run| {
         packed::families(run);
