@@ -129,19 +129,23 @@ fn delimiter(text: &[u8], at: usize) -> Result<usize, Refusal> {
     }
 }
 
-/// The number that digits spell, or code 4.
+/// The number that bytes spell, and whether they are digits.
 #[inline(always)]
-fn digits(bytes: &[u8], at: usize) -> Result<u16, Refusal> {
-    let (mut number, mut fine) = (0, true);
-    for byte in bytes {
+fn digits(bytes: &[u8]) -> (u16, bool) {
+    bytes.iter().fold((0, true), |(number, fine), byte| {
         let digit = byte.wrapping_sub(b'0');
-        fine &= digit <= 9;
-        number = number * 10 + u16::from(digit);
-    }
-    if fine {
+        (number * 10 + u16::from(digit), fine & (digit <= 9))
+    })
+}
+
+/// A number in its range: 4 for a byte that is no digit, `code` for another number.
+#[inline(always)]
+fn ranged(bytes: &[u8], low: u16, high: u16, code: u8, at: usize) -> Result<u16, Refusal> {
+    let (number, fine) = digits(bytes);
+    if fine & (low <= number) & (number <= high) {
         Ok(number)
     } else {
-        refuse(BYTE, at)
+        refuse(if fine { code } else { BYTE }, at)
     }
 }
 
@@ -150,12 +154,7 @@ fn number(of: &Number, text: &[u8], at: usize) -> Result<u16, Refusal> {
     let Some(bytes) = text[at..].get(..of.bytes) else {
         return refuse(END, at);
     };
-    let number = digits(bytes, at)?;
-    if of.low <= number && number <= of.high {
-        Ok(number)
-    } else {
-        refuse(of.code, at)
-    }
+    ranged(bytes, of.low, of.high, of.code, at)
 }
 
 #[inline(always)]
@@ -169,11 +168,7 @@ fn numbers(section: usize, row: &[Number], text: &[u8], mut at: usize, keep: &mu
 
 #[inline(always)]
 fn count(most: u16, text: &[u8], at: usize) -> Result<u8, Refusal> {
-    let count = digits(field::<2>(text, at)?, at)?;
-    if count > most {
-        return refuse(RANGE, at);
-    }
-    Ok(count as u8)
+    ranged(field::<2>(text, at)?, 0, most, RANGE, at).map(|count| count as u8)
 }
 
 #[inline(always)]
@@ -224,18 +219,19 @@ fn region(text: &[u8], at: usize) -> Result<Region, Refusal> {
 #[inline(always)]
 fn edge<const N: usize>(circle: &Circle, text: &[u8], at: usize) -> Result<Edge, Refusal> {
     let field = field::<N>(text, at)?;
-    let degrees = digits(&field[..N - 1], at)?;
     let letter = field[N - 1];
-    if !circle.has(letter) {
-        return refuse(BYTE, at);
+    let (degrees, fine) = digits(&field[..N - 1]);
+    let spelt = (degrees != 0) | (letter != circle.below);
+    let ranged = degrees <= u16::from(circle.most);
+    if fine & circle.has(letter) & spelt & ranged {
+        return Ok(Edge { degrees: degrees as u8, letter });
     }
-    if degrees == 0 && letter == circle.below {
-        return refuse(SPELLING, at);
-    }
-    if degrees > u16::from(circle.most) {
-        return refuse(RANGE, at);
-    }
-    Ok(Edge { degrees: degrees as u8, letter })
+    let code = match (fine && circle.has(letter), spelt) {
+        (false, _) => BYTE,
+        (true, false) => SPELLING,
+        _ => RANGE,
+    };
+    refuse(code, at)
 }
 
 /// Each section that is met takes the place of what was held of it.

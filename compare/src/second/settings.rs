@@ -122,7 +122,7 @@ pub const LONGITUDE: Circle = Circle { most: 180, above: b'E', below: b'W' };
 impl Circle {
     #[inline(always)]
     pub fn has(&self, letter: u8) -> bool {
-        letter == self.above || letter == self.below
+        (letter == self.above) | (letter == self.below)
     }
 
     /// Degrees from zero, north and east positive.
