@@ -29,6 +29,14 @@ pub trait Case {
     /// The words behind `case` on the comparison's command line that repeat it.
     fn words(&self) -> String;
 
+    /// A case of many calls as cases of one each, as the calls before left things; none where it is one already.
+    fn parts(&self) -> Vec<Self>
+    where
+        Self: Sized,
+    {
+        Vec::new()
+    }
+
     fn mismatch<T>(&self, call: &'static str, ours: String, second: String) -> Result<T, Box<Mismatch>> {
         Err(Box::new(Mismatch { call, input: self.input(), ours, second, words: self.words() }))
     }

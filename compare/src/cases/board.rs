@@ -128,6 +128,10 @@ impl super::Case for Case {
         format!("{events}{BREAK}{count} slots, area of {bytes} bytes{}", slots.collect::<String>())
     }
 
+    fn parts(&self) -> Vec<Case> {
+        (0..self.events.len()).map(|index| self.alone(index)).collect()
+    }
+
     /// Of a case with one event.
     fn words(&self) -> String {
         let slots: Vec<u8> = self.slots.iter().flat_map(|slot| bytes_of(slot).to_vec()).collect();

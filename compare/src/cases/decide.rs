@@ -57,8 +57,7 @@ impl super::Case for Case {
             let second = decide(&held, &question.meant());
             let (got, want) = (replies.one(), meet::decided(second));
             if got != want {
-                let alone = Case { settings: self.settings.clone(), questions: vec![*question] };
-                return alone.answered("esk_decide", got, want);
+                return self.alone(question).answered("esk_decide", got, want);
             }
             tally.count(match second {
                 Ok(Decision::Silent) => Outcome::Silent,
@@ -75,10 +74,20 @@ impl super::Case for Case {
         format!("{}{BREAK}{}", questions.join(BREAK), tell::uplink::settings(&self.settings).join(BREAK))
     }
 
+    fn parts(&self) -> Vec<Case> {
+        self.questions.iter().map(|question| self.alone(question)).collect()
+    }
+
     /// Of a case with one question.
     fn words(&self) -> String {
         let Question { phase, hour, latitude, longitude, .. } = self.questions[0];
         let airfield = hex(self.questions[0].airfield());
         format!("decide {} {phase} {latitude} {longitude} {hour} {airfield}", hex(bytes_of(&*self.settings)))
+    }
+}
+
+impl Case {
+    fn alone(&self, question: &Question) -> Case {
+        Case { settings: self.settings.clone(), questions: vec![*question] }
     }
 }

@@ -2,7 +2,7 @@
 
 use crate::run::Done;
 use desk_compare::asked::{Asked, Replies};
-use desk_compare::cases::Case;
+use desk_compare::cases::{Case, Mismatch};
 use desk_compare::tally::Tally;
 use std::process::exit;
 
@@ -66,17 +66,33 @@ impl<C: Case> Queue<C> {
     /// The program that makes the calls ended in a batch: asks its cases one by one, to find which ended it.
     fn fatal_case(&mut self) -> Done {
         for case in &self.under_way {
-            let mut asked = start_again(C::PROGRAM);
-            let mut question = Vec::new();
-            case.question(&mut question);
-            match asked.ask(&question).and_then(|()| asked.replies()) {
-                Ok(replies) => hold(std::slice::from_ref(case), &replies, &mut self.tally)?,
-                Err(why) => return case.mismatch("a call", why, "an answer".to_string()),
+            if let Err(why) = alone(case, &mut self.tally)? {
+                for part in case.parts() {
+                    if let Err(why) = alone(&part, &mut self.tally)? {
+                        return ended(&part, why);
+                    }
+                }
+                return ended(case, why);
             }
         }
         println!("the program that calls ours ended in a batch, and in none of its cases alone");
         exit(1);
     }
+}
+
+/// Asks a case by itself; the inner error says that the program ended.
+fn alone<C: Case>(case: &C, tally: &mut Tally) -> Result<Result<(), String>, Box<Mismatch>> {
+    let mut asked = start_again(C::PROGRAM);
+    let mut question = Vec::new();
+    case.question(&mut question);
+    match asked.ask(&question).and_then(|()| asked.replies()) {
+        Ok(replies) => hold(std::slice::from_ref(case), &replies, tally).map(Ok),
+        Err(why) => Ok(Err(why)),
+    }
+}
+
+fn ended<C: Case>(case: &C, why: String) -> Done {
+    case.mismatch("a call", why, "an answer".to_string())
 }
 
 fn start_again(program: &str) -> Asked {
