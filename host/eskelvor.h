@@ -23,14 +23,20 @@ extern "C" {
 /* ---- the numbers that come back ------------------------------------------------------------------------------ */
 
 enum {
-    ESK_ACCEPTED = 0,    /* accepted; place 0 */
-    ESK_LENGTH = 1,      /* report not 220 bytes; packed field not 1 to 5 bytes; place 0 */
-    ESK_ROOM = 2,        /* output buffer shorter than the text to be written; place 0 */
-    ESK_FIXED = 3,       /* a fixed byte is wrong (AMDAR3, CR LF); place: the first byte of the fixed group */
-    ESK_BYTE = 4,        /* a byte not allowed in its field; place: the field's first byte */
-    ESK_RANGE = 5,       /* number outside its range; place: the field's first byte */
-    ESK_SPELLING = 6,    /* a number in a spelling other than its one spelling; place: the field's first byte */
-    ESK_DISAGREE = 7     /* fields disagree; place: the first byte of the last field of the group */
+    ESK_ACCEPTED = 0,  /* accepted; place 0 */
+    ESK_LENGTH = 1,    /* report not 220 bytes; command over 835 bytes; packed field not 1 to 5 bytes; place 0 */
+    ESK_ROOM = 2,      /* output buffer shorter than the text to be written; place 0 */
+    ESK_FIXED = 3,     /* a fixed byte is wrong (AWR04, AMDAR3, CR LF, a delimiter); place: the group's first byte */
+    ESK_BYTE = 4,      /* a byte not allowed in its field; place: the field's first byte */
+    ESK_RANGE = 5,     /* number outside its range; place: the field's first byte */
+    ESK_SPELLING = 6,  /* a number in a spelling other than its one spelling; place: the field's first byte */
+    ESK_DISAGREE = 7,  /* fields disagree; place: the first byte of the last field of the group */
+    ESK_END = 8,       /* command ends inside a field: place, the field's first byte; or has bytes after its last
+                          delimiter: place, the first of them */
+    ESK_NO_SLOT = 9,   /* nothing waits for that aircraft and no slot is free; place 0 */
+    ESK_BOARD = 10,    /* board not valid; place 0 */
+    ESK_NOTHING = 11,  /* nothing waits for that aircraft; place 0 */
+    ESK_SETTINGS = 12  /* configuration not valid; place 0 */
 };
 
 /* The answer of a call that checks or writes. 8 bytes, no padding. */
@@ -139,6 +145,226 @@ esk_report_got esk_report_read(const uint8_t *text, size_t length);
  *   2  room below 220
  */
 esk_answer esk_report_write(esk_report report, uint8_t *out, size_t room);
+
+/* ---- the uplink command, 22 to 835 bytes ----------------------------------------------------------------------- */
+
+#define ESK_COMMAND_BYTES 835 /* of the longest command */
+
+/* All values are numbers, not the bytes that spell them; letters and airfields are ASCII. */
+
+/* An edge of a box. 2 bytes. Zero degrees have the letter 'N' or 'E'. */
+typedef struct esk_edge {
+    uint8_t degrees; /* 0 to 90 north or south, 0 to 180 east or west */
+    uint8_t letter;  /* 'N' or 'S'; 'E' or 'W' */
+} esk_edge;
+
+/* A box. 8 bytes. */
+typedef struct esk_region {
+    esk_edge north, south; /* north not below south */
+    esk_edge west, east;   /* west not above east */
+} esk_region;
+
+/* A list of boxes. 129 bytes. */
+typedef struct esk_boxes {
+    uint8_t count;          /* 0 to 16 */
+    esk_region regions[16]; /* those from count on are 0 in every byte */
+} esk_boxes;
+
+/* A list of airfields. 81 bytes. */
+typedef struct esk_airfields {
+    uint8_t count;     /* 0 to 20 */
+    uint8_t names[80]; /* four bytes each, 'A' to 'Z' or '0' to '9'; those from 4 * count on are 0 */
+} esk_airfields;
+
+/* Section 2. 258 bytes. */
+typedef struct esk_regions {
+    esk_boxes reporting, inhibiting;
+} esk_regions;
+
+/* A list for each phase that has one. 162 bytes. */
+typedef struct esk_by_phase {
+    esk_airfields ascent, descent;
+} esk_by_phase;
+
+/* Section 3. 325 bytes. */
+typedef struct esk_airports {
+    esk_by_phase selected, inhibited;
+    uint8_t routine; /* 0 or 1 */
+} esk_airports;
+
+/* Section 4. 2 bytes. */
+typedef struct esk_enroute {
+    uint8_t interval; /* minutes, 1 to 60 */
+    uint8_t wind;     /* maximum wind: 0 or 1 */
+} esk_enroute;
+
+/* Section 5. 10 bytes, no padding. */
+typedef struct esk_ascent {
+    uint8_t mode;      /* 0 or 1 */
+    uint8_t interval1; /* of series 1: 3 to 20 */
+    uint16_t duration; /* of series 1: 30 to 600 */
+    uint8_t interval2; /* of series 2: 3 to 60 */
+    uint8_t total;     /* 51 to 111 */
+    uint16_t top;      /* 150 to 350 */
+    uint8_t list;      /* 1 or 2 */
+    uint8_t timer;     /* 0 or 1 */
+} esk_ascent;
+
+/* Section 9. 2 bytes. */
+typedef struct esk_hours {
+    uint8_t start, end; /* 0 to 23 each */
+} esk_hours;
+
+/* Seven flags and every section: the configuration that an aircraft holds, and what a command carries of it.
+ * 606 bytes, aligned to 2, no padding. */
+typedef struct esk_settings {
+    uint8_t flags[7]; /* AMDAR, inhibit hours, regions, airports, ascent, enroute, descent: 0 or 1; in a command also
+                         9, no change */
+    esk_regions regions;
+    esk_airports airports;
+    esk_enroute enroute;
+    esk_ascent ascent;
+    uint8_t routine6, routine8; /* sections 6 and 8, for ascent and descent: 0 or 1 */
+    esk_hours hours;
+} esk_settings;
+
+/* A command. 615 bytes and one of padding, which is not looked at. */
+typedef struct esk_command {
+    esk_settings settings; /* a section that is not named is 0 in every byte */
+    uint8_t downlink;      /* 0, 1 or 2 */
+    uint8_t named[8];      /* for sections 2 to 9: the section's number where it is named, else 0; 7 is never named */
+} esk_command;
+
+/* The answer of esk_command_read. 624 bytes. Where the answer is a refusal the command is 0 in every member. */
+typedef struct esk_command_got {
+    esk_answer answer;
+    esk_command command;
+} esk_command_got;
+
+/*
+ * Checks a command's text, field by field from left to right, and builds nothing. length is 0.
+ *   1  over 835 bytes
+ *   8  the text ends inside a field (at the field), or has bytes after its last delimiter (at the first of them)
+ *   3  AWR04 or a delimiter is wrong                    (at the group's first byte)
+ *   4  a flag, the downlink digit, an indicator, a mode, list or timer is another byte; a number has a non-digit; an
+ *      edge has a non-digit or another letter; an airfield has a byte that is not allowed
+ *   6  zero degrees spelt 00S or 000W
+ *   5  a number outside its range
+ *   7  north below south (at the south edge), west above east (at the east edge)
+ */
+esk_answer esk_command_check(const uint8_t *text, size_t length);
+
+/* Reads a command. Its answer is that of esk_command_check. */
+esk_command_got esk_command_read(const uint8_t *text, size_t length);
+
+/*
+ * Writes a command at the start of `out`; on success length is the text's. The record is checked first, as its text
+ * would be, with the place where the field would stand:
+ *   4  a flag, the downlink digit, an indicator, a mode, list, timer, letter or airfield byte that is not allowed
+ *   6  zero degrees with the letter 'S' or 'W'
+ *   5  a count, or a number, outside its range
+ *   7  unused entries of a list that are not 0 (at the list's count, after its own check); north below south, west
+ *      above east, as above; a section that is not named and not 0 (where it would begin)
+ * and then
+ *   2  room below the text's length
+ */
+esk_answer esk_command_write(esk_command command, uint8_t *out, size_t room);
+
+/* ---- the configuration ----------------------------------------------------------------------------------------- */
+
+/* The configuration after reset. */
+esk_settings esk_reset(void);
+
+/* 1 where the flags are 0 or 1 and every section would pass the checks of esk_command_write, else 0. */
+uint8_t esk_settings_valid(esk_settings settings);
+
+/* The answer of esk_apply. 8 bytes, no padding. */
+typedef struct esk_applied {
+    uint32_t place;   /* offset in the text, from 0; 0 with code 12 */
+    uint8_t code;     /* 0, 12 or a code of esk_command_check */
+    uint8_t downlink; /* the command's downlink digit where code is 0; else 0 */
+    uint8_t spare[2]; /* 0 */
+} esk_applied;
+
+/*
+ * Applies a command's text to the caller's own configuration, in place: sets every flag that is not 9 and replaces
+ * every named section whole. A refusal leaves the configuration as it was.
+ *   12  the configuration is not valid
+ * and then the refusals of esk_command_check.
+ */
+esk_applied esk_apply(esk_settings *settings, const uint8_t *text, size_t length);
+
+/* ---- whether to report ------------------------------------------------------------------------------------------ */
+
+enum { ESK_ASCENT = 0, ESK_LEVEL = 1, ESK_DESCENT = 2 };  /* phases */
+enum { ESK_SILENT = 0, ESK_ROUTINE = 1, ESK_SCHEME = 2 }; /* decisions */
+
+/* The answer of esk_decide. 2 bytes. */
+typedef struct esk_decided {
+    uint8_t code;     /* 0, 12, 5 or 4; the place is always 0 */
+    uint8_t decision; /* ESK_SILENT, ESK_ROUTINE or ESK_SCHEME; 0 on refusal */
+} esk_decided;
+
+/*
+ * Whether an aircraft with this configuration reports: in a phase (ESK_ASCENT..), at a latitude and longitude in
+ * minutes, in an hour, at an airfield.
+ *   12  the configuration is not valid
+ *   5   phase above 2, hour above 23, latitude not -5400 to 5400 or longitude not -10800 to 10800
+ *   4   the airfield is not four bytes 'A' to 'Z' or '0' to '9', in every phase
+ */
+esk_decided esk_decide(esk_settings settings, uint8_t phase, int32_t latitude, int32_t longitude, uint8_t hour,
+                       const uint8_t *airfield, size_t length);
+
+/* ---- joining two commands --------------------------------------------------------------------------------------- */
+
+/*
+ * Joins two commands' texts into one at the start of `out`: each flag and section from the second where it sets one,
+ * else from the first, and the larger downlink digit. On success length is the joined text's, at most 835.
+ *   the refusals of esk_command_check for the first text, with text 1,
+ *   those for the second, with text 2, and then
+ *   2  room below the joined text's length, with text 0
+ */
+esk_answer esk_join(const uint8_t *first, size_t first_length, const uint8_t *second, size_t second_length,
+                    uint8_t *out, size_t room);
+
+/* ---- the waiting board ------------------------------------------------------------------------------------------ */
+
+#define ESK_BOARD_SLOTS 64 /* the most */
+
+/* A slot. 8 bytes, no padding. Its text is the first `length` bytes of its 835 in the area. */
+typedef struct esk_slot {
+    uint8_t designator[6]; /* 'A' to 'Z' or '0' to '9'; of a free slot, any bytes */
+    uint16_t length;       /* of the text that waits; 0: the slot is free */
+} esk_slot;
+
+/*
+ * Checks a board: n slots, and an area of 835 bytes for each. length is 0.
+ *   10  more than 64 slots, an area of another length, a used slot whose designator has a byte that is not allowed or
+ *       is another used slot's, or whose text is not an accepted command
+ */
+esk_answer esk_board_check(const esk_slot *slots, size_t n, const uint8_t *area, size_t area_length);
+
+/*
+ * Adds a command for an aircraft: joined onto the text that waits for it, or into the lowest free slot. On success
+ * length is that of the text that then waits. Only that slot and the bytes of that text change.
+ *   10  the board is not valid
+ *   4   the designator is not six bytes 'A' to 'Z' or '0' to '9'; place 0
+ *   the refusals of esk_command_check, and then
+ *   9   nothing waits for that aircraft and no slot is free
+ */
+esk_answer esk_board_add(esk_slot *slots, size_t n, uint8_t *area, size_t area_length, const uint8_t *designator,
+                         size_t designator_length, const uint8_t *text, size_t length);
+
+/*
+ * Takes what waits for an aircraft: copies it to the start of `out` and frees its slot. On success length is the
+ * text's. The slot's length becomes 0; its designator and the area stay.
+ *   10  the board is not valid
+ *   4   the designator is not six bytes 'A' to 'Z' or '0' to '9'; place 0
+ *   11  nothing waits for that aircraft
+ *   2   room below the text's length
+ */
+esk_answer esk_board_take(esk_slot *slots, size_t n, const uint8_t *area, size_t area_length,
+                          const uint8_t *designator, size_t designator_length, uint8_t *out, size_t room);
 
 #ifdef __cplusplus
 }

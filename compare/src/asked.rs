@@ -1,7 +1,7 @@
-//! The proved calls, asked through the C program host/test/answer.c, which links the archive.
+//! The proved calls, asked through the C programs host/test/answer*.c, which link the archive.
 //!
-//! The archive is for x86-64; host/tool runs the C program on any machine that the kit supports. Questions go in
-//! batches, so that the way there and back costs little.
+//! The archive is for x86-64; host/tool runs a C program on any machine that the kit supports. Questions go in batches,
+//! so that the way there and back costs little.
 
 use std::io::{Read, Write};
 use std::process::{Child, Command, Stdio};
@@ -11,14 +11,14 @@ pub struct Asked {
 }
 
 impl Asked {
-    /// Starts the C program; the folder that this one runs in is the repository's root.
-    pub fn start() -> Result<Asked, String> {
+    /// Starts a C program; the folder that this one runs in is the repository's root.
+    pub fn start(program: &str) -> Result<Asked, String> {
         let child = Command::new("host/tool")
-            .args(["run", "answer"])
+            .args(["run", program])
             .stdin(Stdio::piped())
             .stdout(Stdio::piped())
             .spawn()
-            .map_err(|why| format!("host/tool run answer: {why} (run from the repository's root, 'make compare')"))?;
+            .map_err(|why| format!("host/tool run {program}: {why} (run from the repository's root)"))?;
         Ok(Asked { child })
     }
 

@@ -1,36 +1,64 @@
 //! One case each: what to ask the proved calls, and their replies held against the second program, every member of both
-//! answers and every byte that was lent.
+//! answers and every byte that was lent. Each group of calls has its own kind of case and its own C program.
+
+pub mod board;
+pub mod command;
+pub mod config;
+pub mod decide;
+pub mod join;
+pub mod report;
 
 use crate::asked::Replies;
-use crate::meet;
-use crate::ours::{self, bytes_of};
-use crate::second::record::BYTES;
-use crate::second::{packed, report, write, Refusal};
+use crate::ours::Answer;
+use crate::tally::Tally;
 use crate::tell::{self, BREAK};
 
-pub enum Case {
-    /// A lone packed field.
-    PackedRead(Vec<u8>),
-    PackedWrite {
-        figure: ours::Figure,
-        width: usize,
-        room: usize,
-    },
-    /// A report's text: checked, read, and where it is accepted its record written back.
-    Report(Vec<u8>),
-    /// A record of the header, written into a room; where it is written, its text read back.
-    Record {
-        record: Box<ours::Report>,
-        room: usize,
-    },
-}
+pub trait Case {
+    /// The program in host/test that makes the calls.
+    const PROGRAM: &'static str;
 
-/// How a case came out on both sides: the code, with a missing figure told apart from a given one.
-#[derive(Clone, Copy, Debug, PartialEq, Eq)]
-pub enum Outcome {
-    Accepted,
-    Missing,
-    Refused(u8),
+    /// The question in the bytes that the program reads.
+    fn question(&self, into: &mut Vec<u8>);
+
+    /// Takes the replies to this case, holds them against the second program, and counts how they came out.
+    fn hold(&self, replies: &mut Replies, tally: &mut Tally) -> Held;
+
+    /// What the case hands to the calls, to be read.
+    fn input(&self) -> String;
+
+    /// The words behind `case` on the comparison's command line that repeat it.
+    fn words(&self) -> String;
+
+    /// A case of many calls as cases of one each, as the calls before left things; none where it is one already.
+    fn parts(&self) -> Vec<Self>
+    where
+        Self: Sized,
+    {
+        Vec::new()
+    }
+
+    fn mismatch<T>(&self, call: &'static str, ours: String, second: String) -> Result<T, Box<Mismatch>> {
+        Err(Box::new(Mismatch { call, input: self.input(), ours, second, words: self.words() }))
+    }
+
+    /// The answer of a writer and all that it left in and round the room that it was lent.
+    fn written(&self, call: &'static str, want: Answer, left: &[u8], replies: &mut Replies) -> Held {
+        let got: Answer = replies.one();
+        let ours = replies.take(left.len());
+        if got != want || ours != left {
+            let words = |answer, left| format!("{answer:?}{BREAK}lent {}", tell::bytes(left));
+            return self.mismatch(call, words(got, ours), words(want, left));
+        }
+        Ok(())
+    }
+
+    /// An answer of which every member is told.
+    fn answered<T: PartialEq + std::fmt::Debug>(&self, call: &'static str, got: T, want: T) -> Held {
+        if got != want {
+            return self.mismatch(call, format!("{got:?}"), format!("{want:?}"));
+        }
+        Ok(())
+    }
 }
 
 /// Two answers that differ: the call, what it was handed, both answers, and the words that repeat the case.
@@ -43,148 +71,30 @@ pub struct Mismatch {
     pub words: String,
 }
 
-pub type Held = Result<Outcome, Box<Mismatch>>;
+pub type Held = Result<(), Box<Mismatch>>;
 
-fn outcome<T>(answer: &Result<T, Refusal>) -> Outcome {
-    match answer {
-        Ok(_) => Outcome::Accepted,
-        Err(refusal) => Outcome::Refused(refusal.code),
-    }
-}
-
-/// A lent buffer has a guard on both sides; all of it is compared afterwards.
+/// What is lent for writing has a guard on both sides; all of it is compared afterwards.
 const GUARD: usize = 8;
 
-/// What the second program leaves in an arena of the same room and pattern as host/test/answer.c lends.
+/// The pattern that host/test/answer.h fills what it lends with, from a guard's first byte on.
+fn pattern(length: usize) -> Vec<u8> {
+    (0..length).map(|index| (index * 37) as u8 ^ 0xa5).collect()
+}
+
+/// What the second program leaves in a room, and the guards round it.
 fn arena<T>(room: usize, call: impl FnOnce(&mut [u8]) -> T) -> (T, Vec<u8>) {
-    let mut arena: Vec<u8> = (0..room + 2 * GUARD).map(|index| (index * 37) as u8 ^ 0xa5).collect();
+    let mut arena = pattern(room + 2 * GUARD);
     let answer = call(&mut arena[GUARD..GUARD + room]);
     (answer, arena)
 }
 
-impl Case {
-    /// The question in the bytes that host/test/answer.c reads.
-    pub fn question(&self, into: &mut Vec<u8>) {
-        let number = |number: usize| (number as u16).to_le_bytes();
-        match self {
-            Case::PackedRead(bytes) | Case::Report(bytes) => {
-                into.push(if matches!(self, Case::Report(_)) { 3 } else { 1 });
-                into.extend(number(bytes.len()));
-                into.extend(bytes);
-            }
-            Case::PackedWrite { figure, width, room } => {
-                into.push(2);
-                into.extend(bytes_of(figure));
-                into.extend((*width as u64).to_le_bytes());
-                into.extend(number(*room));
-            }
-            Case::Record { record, room } => {
-                into.push(4);
-                into.extend(bytes_of(&**record));
-                into.extend(number(*room));
-            }
-        }
-    }
+/// A number of a question, in two bytes.
+fn short(number: usize) -> [u8; 2] {
+    u16::try_from(number).expect("lengths and rooms of questions have two bytes").to_le_bytes()
+}
 
-    /// Takes the replies to this case and holds them against the second program.
-    pub fn hold(&self, replies: &mut Replies) -> Held {
-        match self {
-            Case::PackedRead(field) => self.packed_read(field, replies),
-            Case::PackedWrite { figure, width, room } => self.packed_write(*figure, *width, *room, replies),
-            Case::Report(text) => self.report(text, replies),
-            Case::Record { record, room } => self.record(record, *room, replies),
-        }
-    }
-
-    pub fn mismatch<T>(&self, call: &'static str, ours: String, second: String) -> Result<T, Box<Mismatch>> {
-        Err(Box::new(Mismatch { call, input: tell::input(self), ours, second, words: tell::words(self) }))
-    }
-
-    fn packed_read(&self, field: &[u8], replies: &mut Replies) -> Held {
-        let second = packed::read(field);
-        let want = meet::packed(second);
-        let got: ours::Packed = replies.one();
-        if got != want {
-            return self.mismatch("esk_packed_read", format!("{got:?}"), format!("{want:?}"));
-        }
-        Ok(if second == Ok(None) { Outcome::Missing } else { outcome(&second) })
-    }
-
-    fn packed_write(&self, figure: ours::Figure, width: usize, room: usize, replies: &mut Replies) -> Held {
-        let (second, left) = arena(room, |out| packed::write(meet::meant(figure), width, out));
-        self.written("esk_packed_write", &second, &left, replies)?;
-        Ok(outcome(&second))
-    }
-
-    fn report(&self, text: &[u8], replies: &mut Replies) -> Held {
-        let second = report::read(text);
-        let checked = report::check(text);
-        if checked.err() != second.as_ref().err().copied() {
-            let (ours, second) = (format!("check: {checked:?}"), format!("read: {second:?}"));
-            return self.mismatch("the second program's own check and read", ours, second);
-        }
-        let want = meet::answer(checked.map(|()| 0));
-        let got: ours::Answer = replies.one();
-        if got != want {
-            return self.mismatch("esk_report_check", format!("{got:?}"), format!("{want:?}"));
-        }
-        self.read("esk_report_read", &second, replies)?;
-        if second.is_ok() {
-            let (_, mut left) = arena(BYTES, |_| ());
-            left[GUARD..GUARD + BYTES].copy_from_slice(text);
-            self.written("esk_report_write of the record that esk_report_read gave", &Ok(BYTES), &left, replies)?;
-        }
-        Ok(outcome(&second))
-    }
-
-    fn record(&self, record: &ours::Report, room: usize, replies: &mut Replies) -> Held {
-        let meant = meet::meant_record(record);
-        let (second, left) = arena(room, |out| write::write(&meant, out));
-        self.written("esk_report_write", &second, &left, replies)?;
-        if second.is_ok() {
-            self.read("esk_report_read of what was written", &Ok(meant), replies)?;
-            let back = report::read(&left[GUARD..GUARD + BYTES]);
-            if back != Ok(meant) {
-                let (ours, second) = (format!("the record: {meant:?}"), format!("read back: {back:?}"));
-                return self.mismatch("the second program's read of what it wrote", ours, second);
-            }
-        }
-        Ok(outcome(&second))
-    }
-
-    /// The answer of a writer and all that it left in and round the room that it was lent.
-    fn written(
-        &self,
-        call: &'static str,
-        second: &Result<usize, Refusal>,
-        left: &[u8],
-        replies: &mut Replies,
-    ) -> Result<(), Box<Mismatch>> {
-        let want = meet::answer(*second);
-        let got: ours::Answer = replies.one();
-        let ours = replies.take(left.len());
-        if got != want || ours != left {
-            let words = |answer, left| format!("{answer:?}{BREAK}lent {}", tell::bytes(left));
-            return self.mismatch(call, words(got, ours), words(want, left));
-        }
-        Ok(())
-    }
-
-    /// The answer of the reader, every member of its record; of the records only the lines that differ are told.
-    fn read(
-        &self,
-        call: &'static str,
-        second: &Result<crate::second::record::Report, Refusal>,
-        replies: &mut Replies,
-    ) -> Result<(), Box<Mismatch>> {
-        let want = meet::got(second);
-        let got: ours::ReportGot = replies.one();
-        if got != want {
-            let words = |one: &ours::ReportGot, other: &ours::ReportGot| {
-                format!("{:?}{BREAK}{}", one.answer, tell::differing(&one.report, &other.report))
-            };
-            return self.mismatch(call, words(&got, &want), words(&want, &got));
-        }
-        Ok(())
-    }
+/// A byte string of a question, behind its length.
+fn counted(into: &mut Vec<u8>, bytes: &[u8]) {
+    into.extend(short(bytes.len()));
+    into.extend(bytes);
 }

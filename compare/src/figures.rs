@@ -1,4 +1,4 @@
-//! Document 01, "Figures to hold against the code", as far as packed figures and reports go.
+//! Document 01, "Figures to hold against the code".
 
 /// What a printed packed field stands for.
 #[derive(Clone, Copy, Debug, PartialEq, Eq)]
@@ -31,3 +31,10 @@ A  K  K    K  K K K K/////////////////////////////\r\n\
 //////////////////////////////////////////////\r\n\
 //////////////////////////////////////////////\r\n\
 //////////////////////////////////////////////\r\n";
+
+/// The command that changes nothing.
+pub const NO_CHANGE: &[u8; 22] = b"AWR049999999000000000/";
+
+/// Two commands and what they join to.
+pub const JOIN: [&[u8]; 3] =
+    [b"AWR041999999000400000/151/", b"AWR049199999100400009/300/2301/", b"AWR041199999100400009/300/2301/"];

@@ -14,4 +14,5 @@ pub mod meet;
 pub mod ours;
 pub mod random;
 pub mod second;
+pub mod tally;
 pub mod tell;

@@ -1,5 +1,7 @@
 //! The proved calls, linked into this program: for the benchmark, on x86-64 alone, which the archive is for.
 
+pub mod uplink;
+
 use crate::ours::{Answer, Figure, Packed, Report, ReportGot};
 
 extern "C" {

@@ -1,4 +1,7 @@
-//! Inputs: packed fields, reports and records, valid, nearly valid and damaged.
+//! Inputs: packed fields, reports and records, valid, nearly valid and damaged. What goes up is in its own files.
+
+pub mod faults;
+pub mod uplink;
 
 use crate::ours;
 use crate::random::Random;
@@ -95,7 +98,8 @@ pub fn any_figure(random: &mut Random) -> i32 {
     }
 }
 
-fn name<const N: usize>(random: &mut Random) -> [u8; N] {
+/// A well-formed airfield or designator.
+pub fn name<const N: usize>(random: &mut Random) -> [u8; N] {
     std::array::from_fn(|_| random.of(NAME))
 }
 

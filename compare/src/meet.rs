@@ -1,6 +1,8 @@
 //! Where the two programs meet: the second one's answers said in the header's structs, member for member, and the
 //! header's records said in the second program's types.
 
+pub mod uplink;
+
 use crate::ours;
 use crate::second::record::{Observation, Report};
 use crate::second::Refusal;

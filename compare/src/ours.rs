@@ -1,5 +1,7 @@
 //! The structs of host/eskelvor.h, as it lays them out.
 
+pub mod uplink;
+
 use std::mem::{offset_of, size_of};
 
 #[repr(C)]

@@ -1,12 +1,14 @@
-//! A mismatch in words: its input, records line by line, and the words that repeat the case.
+//! A mismatch in words: bytes as they read, and records line by line.
 
-use crate::cases::Case;
-use crate::ours::{bytes_of, Figure, Observation, Report};
+pub mod uplink;
+
+use crate::ours::{Figure, Observation, Report};
 
 /// A new line under the first one of a mismatch's part.
 pub const BREAK: &str = "\n             ";
 
-fn hex(bytes: &[u8]) -> String {
+/// Bytes in hex, as the command line takes them.
+pub fn hex(bytes: &[u8]) -> String {
     if bytes.is_empty() {
         return "-".to_string();
     }
@@ -16,28 +18,6 @@ fn hex(bytes: &[u8]) -> String {
 /// Bytes as they read, and in hex.
 pub fn bytes(bytes: &[u8]) -> String {
     format!("{} bytes \"{}\"{BREAK}hex {}", bytes.len(), bytes.escape_ascii(), hex(bytes))
-}
-
-/// What a case hands to the calls.
-pub fn input(case: &Case) -> String {
-    match case {
-        Case::PackedRead(field) => bytes(field),
-        Case::PackedWrite { figure, width, room } => format!("{figure:?}, width {width}, room {room}"),
-        Case::Report(text) => bytes(text),
-        Case::Record { record: of, room } => format!("room {room}, record{BREAK}{}", record(of).join(BREAK)),
-    }
-}
-
-/// The words behind `case` on the comparison's command line that repeat it.
-pub fn words(case: &Case) -> String {
-    match case {
-        Case::PackedRead(field) => format!("packed-read {}", hex(field)),
-        Case::PackedWrite { figure, width, room } => {
-            format!("packed-write {} {} {width} {room}", figure.number, figure.given)
-        }
-        Case::Report(text) => format!("report {}", hex(text)),
-        Case::Record { record, room } => format!("record {} {room}", hex(bytes_of(&**record))),
-    }
 }
 
 fn figure(of: &Figure) -> String {
@@ -86,8 +66,8 @@ pub fn record(of: &Report) -> Vec<String> {
 }
 
 /// Those lines of the one record that are otherwise in the other.
-pub fn differing(of: &Report, other: &Report) -> String {
-    let pairs = record(of).into_iter().zip(record(other));
+pub fn differing(of: Vec<String>, other: Vec<String>) -> String {
+    let pairs = of.into_iter().zip(other);
     let lines: Vec<String> = pairs.filter(|(one, two)| one != two).map(|(one, _)| one).collect();
     lines.join(BREAK)
 }

@@ -11,11 +11,16 @@
 #include <stdlib.h>
 #include <string.h>
 
-enum { GUARD = 32, MOST = 256 };
+/* The most bytes that a test lends. */
+#ifndef CHECK_MOST
+#define CHECK_MOST 256
+#endif
+
+enum { GUARD = 32, MOST = CHECK_MOST };
 
 static unsigned long checks;
 
-static void show(const char *label, const uint8_t *bytes, size_t length)
+static inline void show(const char *label, const uint8_t *bytes, size_t length)
 {
     fprintf(stderr, "  %-8s: %lu bytes \"", label, (unsigned long)length);
     for (size_t i = 0; i < length; i++)
@@ -23,7 +28,7 @@ static void show(const char *label, const uint8_t *bytes, size_t length)
     fprintf(stderr, "\"\n");
 }
 
-static void fail(const char *why, const char *call, const uint8_t *input, size_t length)
+static inline void fail(const char *why, const char *call, const uint8_t *input, size_t length)
 {
     fprintf(stderr, "FAILED after %lu checks: %s: %s\n", checks, call, why);
     show("input", input, length);
@@ -37,7 +42,7 @@ typedef struct lent {
 } lent;
 
 /* Lends a copy of the bytes, or a pattern where from is NULL. The empty string is lent as NULL where `null` is set. */
-static uint8_t *lend(lent *l, const void *from, size_t length, int null)
+static inline uint8_t *lend(lent *l, const void *from, size_t length, int null)
 {
     for (size_t i = 0; i < sizeof l->now; i++)
         l->now[i] = (uint8_t)(0xc3 + 29 * i);
@@ -49,21 +54,21 @@ static uint8_t *lend(lent *l, const void *from, size_t length, int null)
 }
 
 /* The first `length` of the bytes lent are now the text, and all else is as it was: with length 0, untouched. */
-static int is_written(lent *l, const void *text, size_t length)
+static inline int is_written(lent *l, const void *text, size_t length)
 {
     memcpy(l->was + GUARD, text, length);
     checks++;
     return memcmp(l->now, l->was, sizeof l->now) == 0;
 }
 
-static int is_answer(esk_answer got, unsigned code, unsigned long place, unsigned length)
+static inline int is_answer(esk_answer got, unsigned code, unsigned long place, unsigned length)
 {
     checks++;
     return got.code == code && got.place == place && got.length == length && got.text == 0;
 }
 
 /* Ends the program over an answer that is another than expected. */
-static void wrong_answer(esk_answer got, unsigned code, unsigned long place, unsigned length)
+static inline void wrong_answer(esk_answer got, unsigned code, unsigned long place, unsigned length)
 {
     fprintf(stderr, "  expected: code %u place %lu length %u text 0\n", code, place, length);
     fprintf(stderr, "  got     : code %u place %lu length %u text %u\n", (unsigned)got.code, (unsigned long)got.place,
@@ -72,7 +77,7 @@ static void wrong_answer(esk_answer got, unsigned code, unsigned long place, uns
 }
 
 /* Ends the program over lent bytes that are others than expected. */
-static void wrong_bytes(const lent *l)
+static inline void wrong_bytes(const lent *l)
 {
     show("expected", l->was, 2 * GUARD + l->length);
     show("got", l->now, 2 * GUARD + l->length);

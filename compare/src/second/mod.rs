@@ -1,14 +1,23 @@
-//! The second program: document 01's packed figures and report, written from its text alone.
+//! The second program, written from document 01's text alone: packed figures and reports; commands, the configuration,
+//! the decision, joining and the board.
 
+pub mod allowed;
+pub mod board;
+pub mod command;
+pub mod config;
+pub mod decide;
+pub mod join;
 pub mod packed;
 pub mod record;
 pub mod report;
+pub mod settings;
+pub mod spell;
 pub mod write;
 
 #[cfg(test)]
 mod tests;
 
-/// Codes of "Numbers that come back", as far as reports and packed figures need them.
+/// Codes of "Numbers that come back".
 pub const LENGTH: u8 = 1;
 pub const ROOM: u8 = 2;
 pub const FIXED: u8 = 3;
@@ -16,6 +25,11 @@ pub const BYTE: u8 = 4;
 pub const RANGE: u8 = 5;
 pub const SPELLING: u8 = 6;
 pub const DISAGREE: u8 = 7;
+pub const END: u8 = 8;
+pub const NO_SLOT: u8 = 9;
+pub const BOARD: u8 = 10;
+pub const NOTHING: u8 = 11;
+pub const SETTINGS: u8 = 12;
 
 /// A refusal carries nothing but a code and a place.
 #[derive(Clone, Copy, Debug, PartialEq, Eq)]

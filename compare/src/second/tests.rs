@@ -1,4 +1,10 @@
-//! Document 01's figures, and a case for each code and place of a report.
+//! Document 01's figures, and a case for each code and place of a report; what goes up has its own files.
+
+mod boards;
+mod commands;
+mod decisions;
+mod joins;
+mod records;
 
 use super::record::{Report, BYTES};
 use super::{packed, report, write, Refusal};

@@ -1,13 +1,26 @@
 //! The comparison run: the proved calls and the second program on the same inputs.
 //!
-//! compare [--seed N] [--long] [--only FAMILY]     every family, or one
-//! compare case packed-read HEX                    one field (- is the empty one)
-//! compare case packed-write NUMBER GIVEN WIDTH ROOM
-//! compare case report HEX                         one report's text
-//! compare case record HEX ROOM                    one record, 624 bytes as the header lays them out
+//! compare [--seed N] [--long] [--groups GROUP,..]   every family of the groups; without the word, of report and of those
+//!                                                   that Cargo.toml lists as features; all is every group
+//! compare [--seed N] [--long] --only FAMILY         one family of any group
+//! compare case WORDS                                one case, in the words of a mismatch; @FILE has them in a file:
+//!     packed-read HEX (- is no byte)                packed-write NUMBER GIVEN WIDTH ROOM
+//!     report HEX                                    record HEX ROOM
+//!     command HEX                                   command-record HEX ROOM
+//!     reset                                         apply SETTINGS TEXT
+//!     decide SETTINGS PHASE LATITUDE LONGITUDE HOUR AIRFIELD
+//!     join FIRST SECOND ROOM                        board-check SLOTS AREA
+//!     board-add SLOTS AREA DESIGNATOR TEXT          board-take SLOTS AREA DESIGNATOR ROOM
 //!
-//! It runs in the repository's root, and asks the proved calls through host/tool (`make compare ARGS=..`).
+//! It runs in the repository's root, and asks the proved calls through host/tool (`make compare ARGS=..`); each group has
+//! its own program in host/test that makes its calls.
 
+mod boards;
+mod command_records;
+mod commands;
+mod configs;
+mod decisions;
+mod joins;
 mod one;
 mod packed;
 mod queue;
@@ -18,8 +31,40 @@ mod run;
 use run::{Options, Run};
 use std::process::exit;
 
-const USAGE: &str = "compare [--seed N] [--long] [--only FAMILY] | compare case packed-read HEX | \
-case packed-write NUMBER GIVEN WIDTH ROOM | case report HEX | case record HEX ROOM";
+const USAGE: &str = "compare [--seed N] [--long] [--groups GROUP,.. | --only FAMILY] | compare case WORDS
+groups: report, command, config, decide, join, board, all";
+
+type Group = (&'static str, fn(&mut Run));
+
+/// Each group and its families.
+const GROUPS: [Group; 6] = [
+    ("report", |run| {
+        packed::families(run);
+        reports::families(run);
+        records::families(run);
+    }),
+    ("command", |run| {
+        commands::families(run);
+        command_records::families(run);
+    }),
+    ("config", configs::families),
+    ("decide", decisions::families),
+    ("join", joins::families),
+    ("board", boards::families),
+];
+
+/// The groups whose calls the archive has.
+fn standing() -> Vec<String> {
+    let groups = [
+        ("report", true),
+        ("command", cfg!(feature = "command")),
+        ("config", cfg!(feature = "config")),
+        ("decide", cfg!(feature = "decide")),
+        ("join", cfg!(feature = "join")),
+        ("board", cfg!(feature = "board")),
+    ];
+    groups.iter().filter(|(_, stands)| *stands).map(|(name, _)| name.to_string()).collect()
+}
 
 fn main() {
     let words: Vec<String> = std::env::args().skip(1).collect();
@@ -27,15 +72,17 @@ fn main() {
         exit(one::case(&words[1..]).unwrap_or_else(|why| usage(&why)));
     }
     let options = options(&words).unwrap_or_else(|why| usage(&why));
-    let mut run = Run::new(options).unwrap_or_else(|why| usage(&why));
-    packed::families(&mut run);
-    reports::families(&mut run);
-    records::families(&mut run);
+    let mut run = Run::new(options);
+    for (name, families) in GROUPS {
+        if run.group(name) {
+            families(&mut run);
+        }
+    }
     run.end();
 }
 
 fn options(words: &[String]) -> Result<Options, String> {
-    let mut options = Options { seed: 1, long: false, only: None };
+    let mut options = Options { seed: 1, long: false, only: None, groups: standing() };
     let mut words = words.iter();
     while let Some(word) = words.next() {
         match word.as_str() {
@@ -45,10 +92,17 @@ fn options(words: &[String]) -> Result<Options, String> {
                 options.seed = number.ok_or("--seed wants a number")?;
             }
             "--only" => options.only = Some(words.next().ok_or("--only wants a family")?.clone()),
+            "--groups" => options.groups = groups(words.next().ok_or("--groups wants groups")?)?,
             other => return Err(format!("no such word: {other}")),
         }
     }
     Ok(options)
+}
+
+fn groups(word: &str) -> Result<Vec<String>, String> {
+    let known = |name: &str| name == "all" || GROUPS.iter().any(|(group, _)| *group == name);
+    let one = |name: &str| if known(name) { Ok(name.to_string()) } else { Err(format!("no such group: {name}")) };
+    word.split(',').map(one).collect()
 }
 
 fn usage(why: &str) -> ! {

@@ -1,29 +1,102 @@
 //! One case from the command line, as a mismatch prints it.
 
 use crate::run;
-use desk_compare::cases::Case;
-use desk_compare::ours;
+use desk_compare::cases::{board, command, config, decide, join, report};
+use desk_compare::ours::{self, of_bytes, Plain};
 
-/// Runs the case and gives the exit status, or says what is wrong with the words.
+/// Runs the case and gives the exit status, or says what is wrong with the words. `@FILE` stands for words in a file.
 pub fn case(words: &[String]) -> Result<i32, String> {
-    let words: Vec<&str> = words.iter().map(String::as_str).collect();
-    let case = match words[..] {
-        ["packed-read", field] => Case::PackedRead(bytes(field)?),
+    let words = words.join(" ");
+    let words = match words.strip_prefix('@') {
+        Some(file) => std::fs::read_to_string(file).map_err(|why| format!("{file}: {why}"))?,
+        None => words,
+    };
+    let words: Vec<&str> = words.split_whitespace().collect();
+    match words.first() {
+        Some(&("packed-read" | "packed-write" | "report" | "record")) => run::one(report_case(&words)?),
+        Some(&("command" | "command-record")) => run::one(command_case(&words)?),
+        Some(&("reset" | "apply")) => run::one(config_case(&words)?),
+        Some(&"decide") => run::one(decide_case(&words)?),
+        Some(&"join") => run::one(join_case(&words)?),
+        Some(&("board-check" | "board-add" | "board-take")) => run::one(board_case(&words)?),
+        _ => no_such_case(),
+    }
+}
+
+fn no_such_case<T>() -> Result<T, String> {
+    Err("no such case".to_string())
+}
+
+fn report_case(words: &[&str]) -> Result<report::Case, String> {
+    Ok(match words {
+        ["packed-read", field] => report::Case::PackedRead(bytes(field)?),
         ["packed-write", number, given, width, at] => {
             let figure = ours::Figure { number: parse(number)?, given: parse(given)? };
-            Case::PackedWrite { figure, width: parse(width)?, room: room(at)? }
+            report::Case::PackedWrite { figure, width: parse(width)?, room: room(at)? }
         }
-        ["report", text] => Case::Report(bytes(text)?),
-        ["record", record, at] => {
-            let bytes = bytes(record)?;
-            if bytes.len() != size_of::<ours::Report>() {
-                return Err("a record has 624 bytes".to_string());
-            }
-            Case::Record { record: Box::new(ours::of_bytes(&bytes)), room: room(at)? }
-        }
-        _ => return Err("no such case".to_string()),
+        ["report", text] => report::Case::Report(bytes(text)?),
+        ["record", record, at] => report::Case::Record { record: plain(record)?, room: room(at)? },
+        _ => return no_such_case(),
+    })
+}
+
+fn command_case(words: &[&str]) -> Result<command::Case, String> {
+    Ok(match words {
+        ["command", text] => command::Case::Text(bytes(text)?),
+        ["command-record", record, at] => command::Case::Record { record: plain(record)?, room: room(at)? },
+        _ => return no_such_case(),
+    })
+}
+
+fn config_case(words: &[&str]) -> Result<config::Case, String> {
+    Ok(match words {
+        ["reset"] => config::Case::Reset,
+        ["apply", settings, text] => config::Case::Apply { settings: plain(settings)?, text: bytes(text)? },
+        _ => return no_such_case(),
+    })
+}
+
+fn decide_case(words: &[&str]) -> Result<decide::Case, String> {
+    let ["decide", settings, phase, latitude, longitude, hour, name] = words else {
+        return no_such_case();
     };
-    run::one(case)
+    let name = bytes(name)?;
+    let mut airfield = [0; 6];
+    airfield.get_mut(..name.len()).ok_or("an airfield has at most 6 bytes here")?.copy_from_slice(&name);
+    let question = decide::Question {
+        phase: parse(phase)?,
+        hour: parse(hour)?,
+        latitude: parse(latitude)?,
+        longitude: parse(longitude)?,
+        airfield,
+        length: name.len() as u8,
+    };
+    Ok(decide::Case { settings: plain(settings)?, questions: vec![question] })
+}
+
+fn join_case(words: &[&str]) -> Result<join::Case, String> {
+    match words {
+        ["join", first, second, at] => Ok(join::Case { first: bytes(first)?, second: bytes(second)?, room: room(at)? }),
+        _ => no_such_case(),
+    }
+}
+
+fn board_case(words: &[&str]) -> Result<board::Case, String> {
+    let (slots, area, event) = match words {
+        ["board-check", slots, area] => (slots, area, board::Event::Check),
+        ["board-add", slots, area, designator, text] => {
+            (slots, area, board::Event::Add { designator: bytes(designator)?, text: bytes(text)? })
+        }
+        ["board-take", slots, area, designator, at] => {
+            (slots, area, board::Event::Take { designator: bytes(designator)?, room: room(at)? })
+        }
+        _ => return no_such_case(),
+    };
+    let slots = bytes(slots)?;
+    if !slots.len().is_multiple_of(8) {
+        return Err("a slot has 8 bytes".to_string());
+    }
+    Ok(board::Case { slots: slots.chunks(8).map(of_bytes).collect(), area: bytes(area)?, events: vec![event] })
 }
 
 fn parse<T: std::str::FromStr>(word: &str) -> Result<T, String> {
@@ -33,6 +106,15 @@ fn parse<T: std::str::FromStr>(word: &str) -> Result<T, String> {
 /// A question has two bytes for a room.
 fn room(word: &str) -> Result<usize, String> {
     parse::<u16>(word).map(usize::from)
+}
+
+/// A struct of the header.
+fn plain<T: Plain>(word: &str) -> Result<Box<T>, String> {
+    let bytes = bytes(word)?;
+    if bytes.len() != size_of::<T>() {
+        return Err(format!("{} bytes for a record of {}", bytes.len(), size_of::<T>()));
+    }
+    Ok(Box::new(of_bytes(&bytes)))
 }
 
 fn bytes(word: &str) -> Result<Vec<u8>, String> {

@@ -1,7 +1,8 @@
 //! Families of packed fields.
 
 use crate::run::{Done, Run};
-use desk_compare::cases::Case;
+use desk_compare::cases::report::Case;
+use desk_compare::cases::Case as _;
 use desk_compare::figures::{Printed, PACKED};
 use desk_compare::make;
 use desk_compare::ours::Figure;

@@ -2,32 +2,32 @@
 
 use crate::run::Done;
 use desk_compare::asked::{Asked, Replies};
-use desk_compare::cases::{Case, Outcome};
-use std::fmt;
+use desk_compare::cases::{Case, Mismatch};
+use desk_compare::tally::Tally;
 use std::process::exit;
 
 /// Bytes of questions that make a batch.
 const BATCH: usize = 1 << 18;
 
-pub struct Queue {
+pub struct Queue<C: Case> {
     asked: Asked,
     /// Cases that are gathered, and their questions.
-    cases: Vec<Case>,
+    cases: Vec<C>,
     questions: Vec<u8>,
     /// Cases that are asked and not answered.
-    under_way: Vec<Case>,
+    under_way: Vec<C>,
     tally: Tally,
 }
 
-impl Queue {
-    pub fn start() -> Result<Queue, String> {
-        let asked = Asked::start()?;
+impl<C: Case> Queue<C> {
+    pub fn start() -> Result<Queue<C>, String> {
+        let asked = Asked::start(C::PROGRAM)?;
         let (cases, questions, under_way) = (Vec::new(), Vec::new(), Vec::new());
         Ok(Queue { asked, cases, questions, under_way, tally: Tally::default() })
     }
 
     /// Puts a case in. A mismatch may be that of an earlier case.
-    pub fn case(&mut self, case: Case) -> Done {
+    pub fn case(&mut self, case: C) -> Done {
         case.question(&mut self.questions);
         self.cases.push(case);
         if self.questions.len() >= BATCH {
@@ -66,12 +66,13 @@ impl Queue {
     /// The program that makes the calls ended in a batch: asks its cases one by one, to find which ended it.
     fn fatal_case(&mut self) -> Done {
         for case in &self.under_way {
-            let mut asked = start_again();
-            let mut question = Vec::new();
-            case.question(&mut question);
-            match asked.ask(&question).and_then(|()| asked.replies()) {
-                Ok(replies) => hold(std::slice::from_ref(case), &replies, &mut self.tally)?,
-                Err(why) => return case.mismatch("a call", why, "an answer".to_string()),
+            if let Err(why) = alone(case, &mut self.tally)? {
+                for part in case.parts() {
+                    if let Err(why) = alone(&part, &mut self.tally)? {
+                        return ended(&part, why);
+                    }
+                }
+                return ended(case, why);
             }
         }
         println!("the program that calls ours ended in a batch, and in none of its cases alone");
@@ -79,49 +80,33 @@ impl Queue {
     }
 }
 
-fn start_again() -> Asked {
-    Asked::start().unwrap_or_else(|why| {
+/// Asks a case by itself; the inner error says that the program ended.
+fn alone<C: Case>(case: &C, tally: &mut Tally) -> Result<Result<(), String>, Box<Mismatch>> {
+    let mut asked = start_again(C::PROGRAM);
+    let mut question = Vec::new();
+    case.question(&mut question);
+    match asked.ask(&question).and_then(|()| asked.replies()) {
+        Ok(replies) => hold(std::slice::from_ref(case), &replies, tally).map(Ok),
+        Err(why) => Ok(Err(why)),
+    }
+}
+
+fn ended<C: Case>(case: &C, why: String) -> Done {
+    case.mismatch("a call", why, "an answer".to_string())
+}
+
+fn start_again(program: &str) -> Asked {
+    Asked::start(program).unwrap_or_else(|why| {
         println!("{why}");
         exit(2);
     })
 }
 
-fn hold(cases: &[Case], replies: &[u8], tally: &mut Tally) -> Done {
+fn hold<C: Case>(cases: &[C], replies: &[u8], tally: &mut Tally) -> Done {
     let mut replies = Replies::new(replies);
     for case in cases {
-        tally.count(case.hold(&mut replies)?);
+        case.hold(&mut replies, tally)?;
     }
     assert!(replies.is_empty(), "every byte of the replies belongs to a case");
     Ok(())
-}
-
-/// What was compared, by outcome: accepted, missing, then codes 1 to 7.
-#[derive(Default)]
-pub struct Tally {
-    counts: [u64; 9],
-}
-
-const LABELS: [&str; 9] = ["accepted", "missing", "code 1", "code 2", "code 3", "code 4", "code 5", "code 6", "code 7"];
-
-impl Tally {
-    fn count(&mut self, outcome: Outcome) {
-        let at = match outcome {
-            Outcome::Accepted => 0,
-            Outcome::Missing => 1,
-            Outcome::Refused(code) => 1 + usize::from(code),
-        };
-        self.counts[at] += 1;
-    }
-
-    pub fn total(&self) -> u64 {
-        self.counts.iter().sum()
-    }
-}
-
-impl fmt::Display for Tally {
-    fn fmt(&self, to: &mut fmt::Formatter) -> fmt::Result {
-        let counts = self.counts.iter().zip(LABELS).filter(|(count, _)| **count > 0);
-        let parts: Vec<String> = counts.map(|(count, label)| format!("{count} {label}")).collect();
-        write!(to, "{} alike ({})", self.total(), parts.join(", "))
-    }
 }

@@ -1,13 +1,15 @@
 //! Families of records: written by both programs, compared byte for byte in and round the room, and read back.
 
-use crate::queue::Queue;
+use crate::queue;
 use crate::run::{Done, Run};
-use desk_compare::cases::Case;
+use desk_compare::cases::report::Case;
 use desk_compare::make;
 use desk_compare::meet;
 use desk_compare::ours::{Figure, Observation, Report};
 use desk_compare::random::Random;
 use desk_compare::second::record::{Field, FIRST_FIELDS, LATER_FIELDS};
+
+type Queue = queue::Queue<Case>;
 
 /// No room, too little, just enough, and more.
 const ROOMS: [usize; 6] = [0, 1, 219, 220, 221, 230];

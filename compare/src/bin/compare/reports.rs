@@ -1,13 +1,15 @@
 //! Families of report texts: check and read are compared, and an accepted one is written back.
 
-use crate::queue::Queue;
+use crate::queue;
 use crate::run::{Done, Run};
-use desk_compare::cases::Case;
+use desk_compare::cases::report::Case;
 use desk_compare::figures::REPORT;
 use desk_compare::make;
 use desk_compare::random::Random;
 use desk_compare::second::packed;
 use desk_compare::second::record::*;
+
+type Queue = queue::Queue<Case>;
 
 type Text = [u8; BYTES];
 

@@ -10,11 +10,12 @@ pub struct Options {
     pub seed: u64,
     pub long: bool,
     pub only: Option<String>,
+    /// Groups of families, unless one family alone is asked for.
+    pub groups: Vec<String>,
 }
 
 pub struct Run {
     options: Options,
-    queue: Queue,
     began: Instant,
     total: u64,
     families: u64,
@@ -22,9 +23,17 @@ pub struct Run {
 
 pub type Done = Result<(), Box<Mismatch>>;
 
+/// Where the words of a case too long for a command line are kept.
+const LONG_CASE: &str = "target/mismatch";
+
 impl Run {
-    pub fn new(options: Options) -> Result<Run, String> {
-        Ok(Run { options, queue: Queue::start()?, began: Instant::now(), total: 0, families: 0 })
+    pub fn new(options: Options) -> Run {
+        Run { options, began: Instant::now(), total: 0, families: 0 }
+    }
+
+    /// Whether a group's families are to be looked at.
+    pub fn group(&self, name: &str) -> bool {
+        self.options.only.is_some() || self.options.groups.iter().any(|group| group == name || group == "all")
     }
 
     /// So many turns, or twenty times as many in a long run.
@@ -37,13 +46,17 @@ impl Run {
     }
 
     /// Runs a family, unless another one alone was asked for, and prints one line on it.
-    pub fn family(&mut self, name: &str, says: &str, body: impl FnOnce(&mut Random, &mut Queue) -> Done) {
+    pub fn family<C: Case>(&mut self, name: &str, says: &str, body: impl FnOnce(&mut Random, &mut Queue<C>) -> Done) {
         if self.options.only.as_deref().is_some_and(|only| only != name) {
             return;
         }
         let mut random = Random::new(self.options.seed, name);
-        let done = body(&mut random, &mut self.queue).and_then(|()| self.queue.finish());
-        let tally = self.queue.tally();
+        let mut queue = Queue::start().unwrap_or_else(|why| {
+            println!("{why}");
+            exit(2);
+        });
+        let done = body(&mut random, &mut queue).and_then(|()| queue.finish());
+        let tally = queue.tally();
         if let Err(mismatch) = done {
             println!("MISMATCH in {name}, after {} cases alike: {}", tally.total(), mismatch.call);
             tell(&mismatch);
@@ -57,13 +70,16 @@ impl Run {
 
     fn repeat(&self, name: &str, mismatch: &Mismatch) {
         let long = if self.options.long { " --long" } else { "" };
-        println!("  this case: make compare ARGS='case {}'", mismatch.words);
+        println!("  this case: make compare ARGS='case {}'", short(&mismatch.words));
         println!("  the run  : make compare ARGS='--seed {}{long} --only {name}'", self.options.seed);
     }
 
     pub fn end(&self) {
         if self.families == 0 {
-            println!("no such family: {}", self.options.only.as_deref().unwrap_or(""));
+            println!(
+                "no such family or group: {}",
+                self.options.only.as_deref().unwrap_or(&self.options.groups.join(","))
+            );
             exit(2);
         }
         let seconds = self.began.elapsed().as_secs_f64();
@@ -74,6 +90,14 @@ impl Run {
     }
 }
 
+/// The words of a case, or the file that they were put into.
+fn short(words: &str) -> String {
+    if words.len() > 4000 && std::fs::write(LONG_CASE, words).is_ok() {
+        return format!("@{LONG_CASE}");
+    }
+    words.to_string()
+}
+
 pub fn tell(mismatch: &Mismatch) {
     println!("  input    : {}", mismatch.input);
     println!("  ours     : {}", mismatch.ours);
@@ -81,7 +105,7 @@ pub fn tell(mismatch: &Mismatch) {
 }
 
 /// One case by itself.
-pub fn one(case: Case) -> Result<i32, String> {
+pub fn one<C: Case>(case: C) -> Result<i32, String> {
     let mut queue = Queue::start()?;
     let held = queue.case(case).and_then(|()| queue.finish());
     let tally = queue.tally();

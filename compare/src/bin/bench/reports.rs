@@ -1,61 +1,15 @@
-//! The rows of the benchmark: both programs on the same inputs, in alternating windows.
+//! Rows of packed figures and reports.
 
+use crate::measure::{best, pass, row, INPUTS};
 use desk_compare::random::Random;
 use desk_compare::second::record::{Observation, Report, BYTES};
 use desk_compare::second::{packed, report, write, Refusal};
 use desk_compare::{linked, make, meet, ours};
 use std::hint::black_box;
-use std::time::Instant;
-
-/// Inputs of a row; windows of each program in it.
-const INPUTS: usize = 256;
-const WINDOWS: usize = 3000;
-
-const METHOD: &str = "\
-method: one process, one thread; both programs take the same inputs in the same order, each through a call that is
-not inlined. A window is one pass over a row's inputs; the windows of the two programs alternate, and each figure is
-the best window of 3000, divided by its calls. Buffers are lent as the call before left them, not cleared. Answers go
-through black_box. ratio = ours / second: below 1.00 ours is the quicker.
-";
 
 pub fn rows() {
-    println!("{METHOD}");
-    println!(
-        "{:<44} {:>9} {:>9} {:>7} {:>10} {:>10}",
-        "row", "ours ns", "second ns", "ratio", "ours MB/s", "second MB/s"
-    );
     packed_rows();
     report_rows();
-}
-
-/// Nanoseconds of the best window of each program.
-fn best(mut ours: impl FnMut(), mut second: impl FnMut()) -> [f64; 2] {
-    let mut best = [f64::MAX; 2];
-    for _ in 0..WINDOWS {
-        best[0] = best[0].min(window(&mut ours));
-        best[1] = best[1].min(window(&mut second));
-    }
-    best
-}
-
-fn window(pass: &mut impl FnMut()) -> f64 {
-    let began = Instant::now();
-    pass();
-    began.elapsed().as_nanos() as f64
-}
-
-/// One pass of a call over its inputs.
-fn pass<I, A>(inputs: &[I], mut call: impl FnMut(&I) -> A) {
-    for input in inputs {
-        black_box(&call(black_box(input)));
-    }
-}
-
-/// Prints a row; `bytes` is the text of one call where its rate means something.
-fn row(name: &str, calls: usize, bytes: Option<usize>, windows: [f64; 2]) {
-    let [ours, second] = windows.map(|window| window / calls as f64);
-    let rate = |ns: f64| bytes.map_or(String::new(), |bytes| format!("{:.0}", bytes as f64 / ns * 1000.0));
-    println!("{name:<44} {ours:>9.2} {second:>9.2} {:>7.2} {:>10} {:>10}", ours / second, rate(ours), rate(second));
 }
 
 // The second program's calls, kept apart from the loops that time them as the archive's are.

@@ -1,0 +1,33 @@
+//! Rows of joins.
+
+use crate::measure::{best, pass, row, INPUTS};
+use desk_compare::linked::uplink as linked;
+use desk_compare::make::uplink::{command_of, text, Lists};
+use desk_compare::random::Random;
+use desk_compare::second::join::{join, Fault};
+use desk_compare::second::settings::MOST;
+use std::hint::black_box;
+
+#[inline(never)]
+fn second_join(first: &[u8], second: &[u8], out: &mut [u8]) -> Result<usize, Fault> {
+    join(first, second, out)
+}
+
+pub fn rows() {
+    let mut random = Random::new(1, "bench-join");
+    for (name, bits, lists) in [
+        ("join, two short commands (22 bytes)", 0, Lists::Empty),
+        ("join, two typical commands", 0x9d, Lists::Few),
+        ("join, two full commands (835 bytes)", 0xff, Lists::Full),
+    ] {
+        let mut one = || text(&command_of(&mut random, bits, lists));
+        let pairs: Vec<[Vec<u8>; 2]> = (0..INPUTS).map(|_| [one(), one()]).collect();
+        let bytes = pairs.iter().flatten().map(Vec::len).sum::<usize>() / INPUTS;
+        let (mut out, mut other) = ([0; MOST], [0; MOST]);
+        let windows = best(
+            || pass(&pairs, |[first, second]| linked::join(first, second, black_box(&mut out))),
+            || pass(&pairs, |[first, second]| second_join(first, second, black_box(&mut other))),
+        );
+        row(name, INPUTS, Some(bytes), windows);
+    }
+}

@@ -1,0 +1,97 @@
+//! Families of command records: written by both programs, compared byte for byte in and round the room, and read back.
+
+use crate::queue;
+use crate::run::{Done, Run};
+use desk_compare::cases::command::Case;
+use desk_compare::make::faults;
+use desk_compare::make::uplink::{self, Lists};
+use desk_compare::meet::uplink as meet;
+use desk_compare::ours::uplink::Command;
+use desk_compare::ours::{bytes_of, of_bytes};
+use desk_compare::random::Random;
+use desk_compare::second::settings;
+
+type Queue = queue::Queue<Case>;
+
+pub fn families(run: &mut Run) {
+    let turns = run.turns(30_000);
+    run.family("command-record-allowed", "random allowed commands x rooms round their length", |random, queue| {
+        for _ in 0..turns {
+            let command = uplink::command(random);
+            let length = uplink::text(&command).len();
+            for room in rooms(length) {
+                write(queue, &litter(random, &command), room)?;
+            }
+        }
+        Ok(())
+    });
+    run.family("command-record-bytes", "every byte of 3 commands made every other", |random, queue| {
+        for (bits, lists) in [(0xff, Lists::Full), (0xff, Lists::Few), (0, Lists::Empty)] {
+            let command = uplink::command_of(random, bits, lists);
+            let command = litter(random, &command);
+            bytes(&command, random, queue)?;
+        }
+        Ok(())
+    });
+    let turns = run.turns(120_000);
+    run.family(
+        "command-record-damaged",
+        "random commands, one to four members not allowed, x rooms",
+        |random, queue| {
+            for _ in 0..turns {
+                let mut damaged = any(random);
+                for _ in 0..1 + random.below(4) {
+                    faults::command(random, &mut damaged);
+                }
+                for room in [0, 835, random.below(840)] {
+                    write(queue, &damaged, room)?;
+                }
+            }
+            Ok(())
+        },
+    );
+    let turns = run.turns(20_000);
+    run.family("command-record-noise", "any bytes as a command", |random, queue| {
+        for _ in 0..turns {
+            let mut noise = any(random);
+            if random.percent(50) {
+                noise.settings = faults::noise(random);
+            }
+            if random.percent(50) {
+                noise.named = std::array::from_fn(|index| random.of(&[0, index as u8 + 2]));
+            }
+            write(queue, &noise, random.below(900))?;
+        }
+        Ok(())
+    });
+}
+
+/// No room, too little, just enough, and more.
+fn rooms(length: usize) -> [usize; 6] {
+    [0, 21, length - 1, length, length + 1, 840]
+}
+
+/// A command in the header's struct, with anything in its padding.
+fn litter(random: &mut Random, command: &settings::Command) -> Command {
+    Command { padding: random.byte(), ..meet::command(command) }
+}
+
+fn any(random: &mut Random) -> Command {
+    let command = uplink::command(random);
+    litter(random, &command)
+}
+
+fn write(queue: &mut Queue, record: &Command, room: usize) -> Done {
+    queue.case(Case::Record { record: Box::new(*record), room })
+}
+
+fn bytes(command: &Command, random: &mut Random, queue: &mut Queue) -> Done {
+    for at in 0..size_of::<Command>() {
+        for byte in 0..=255 {
+            let mut changed = bytes_of(command).to_vec();
+            changed[at] = byte;
+            write(queue, &of_bytes(&changed), random.of(&[835, 835, 835, 840, 0, 400]))?;
+        }
+    }
+    Ok(())
+}

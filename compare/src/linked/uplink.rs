@@ -1,0 +1,99 @@
+//! The calls of what goes up. A call that the archive lacks does not matter as long as nothing uses it.
+
+use crate::ours::uplink::{Applied, Command, CommandGot, Decided, Settings, Slot};
+use crate::ours::Answer;
+
+extern "C" {
+    fn esk_command_check(text: *const u8, length: usize) -> Answer;
+    fn esk_command_read(text: *const u8, length: usize) -> CommandGot;
+    fn esk_command_write(command: Command, out: *mut u8, room: usize) -> Answer;
+    fn esk_settings_valid(settings: Settings) -> u8;
+    fn esk_apply(settings: *mut Settings, text: *const u8, length: usize) -> Applied;
+    fn esk_decide(
+        settings: Settings,
+        phase: u8,
+        latitude: i32,
+        longitude: i32,
+        hour: u8,
+        airfield: *const u8,
+        length: usize,
+    ) -> Decided;
+    fn esk_join(
+        first: *const u8,
+        first_length: usize,
+        second: *const u8,
+        second_length: usize,
+        out: *mut u8,
+        room: usize,
+    ) -> Answer;
+    fn esk_board_add(
+        slots: *mut Slot,
+        n: usize,
+        area: *mut u8,
+        area_length: usize,
+        designator: *const u8,
+        designator_length: usize,
+        text: *const u8,
+        length: usize,
+    ) -> Answer;
+    fn esk_board_take(
+        slots: *mut Slot,
+        n: usize,
+        area: *const u8,
+        area_length: usize,
+        designator: *const u8,
+        designator_length: usize,
+        out: *mut u8,
+        room: usize,
+    ) -> Answer;
+}
+
+#[inline(always)]
+pub fn command_check(text: &[u8]) -> Answer {
+    unsafe { esk_command_check(text.as_ptr(), text.len()) }
+}
+
+#[inline(always)]
+pub fn command_read(text: &[u8]) -> CommandGot {
+    unsafe { esk_command_read(text.as_ptr(), text.len()) }
+}
+
+#[inline(always)]
+pub fn command_write(command: Command, out: &mut [u8]) -> Answer {
+    unsafe { esk_command_write(command, out.as_mut_ptr(), out.len()) }
+}
+
+#[inline(always)]
+pub fn settings_valid(settings: Settings) -> u8 {
+    unsafe { esk_settings_valid(settings) }
+}
+
+#[inline(always)]
+pub fn apply(settings: &mut Settings, text: &[u8]) -> Applied {
+    unsafe { esk_apply(settings, text.as_ptr(), text.len()) }
+}
+
+/// Phase, hour; latitude, longitude.
+#[inline(always)]
+pub fn decide(settings: Settings, [phase, hour]: [u8; 2], [north, east]: [i32; 2], airfield: &[u8]) -> Decided {
+    unsafe { esk_decide(settings, phase, north, east, hour, airfield.as_ptr(), airfield.len()) }
+}
+
+#[inline(always)]
+pub fn join(first: &[u8], second: &[u8], out: &mut [u8]) -> Answer {
+    unsafe { esk_join(first.as_ptr(), first.len(), second.as_ptr(), second.len(), out.as_mut_ptr(), out.len()) }
+}
+
+#[inline(always)]
+pub fn board_add(slots: &mut [Slot], area: &mut [u8], designator: &[u8], text: &[u8]) -> Answer {
+    let (n, bytes) = (slots.len(), area.len());
+    let (slots, area) = (slots.as_mut_ptr(), area.as_mut_ptr());
+    unsafe { esk_board_add(slots, n, area, bytes, designator.as_ptr(), designator.len(), text.as_ptr(), text.len()) }
+}
+
+#[inline(always)]
+pub fn board_take(slots: &mut [Slot], area: &[u8], designator: &[u8], out: &mut [u8]) -> Answer {
+    let (n, bytes) = (slots.len(), area.len());
+    let (slots, area) = (slots.as_mut_ptr(), area.as_ptr());
+    unsafe { esk_board_take(slots, n, area, bytes, designator.as_ptr(), designator.len(), out.as_mut_ptr(), out.len()) }
+}

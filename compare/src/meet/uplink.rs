@@ -1,0 +1,145 @@
+//! Where the two programs meet in what goes up: commands, configurations, decisions, joins and boards.
+
+use super::answer;
+use crate::ours::uplink as ours;
+use crate::ours::Answer;
+use crate::second::board::Slot;
+use crate::second::decide::Decision;
+use crate::second::join::Fault;
+use crate::second::settings::*;
+use crate::second::Refusal;
+
+/// What esk_command_read ought to answer: the command is 0 where it refuses.
+pub fn got(read: &Result<Command, Refusal>) -> ours::CommandGot {
+    match read {
+        Ok(read) => ours::CommandGot { answer: answer(Ok(0)), command: command(read) },
+        Err(refusal) => ours::CommandGot { answer: answer(Err(*refusal)), command: Default::default() },
+    }
+}
+
+/// What esk_apply ought to answer.
+pub fn applied(applied: Result<u8, Refusal>) -> ours::Applied {
+    match applied {
+        Ok(downlink) => ours::Applied { downlink, ..Default::default() },
+        Err(Refusal { code, place }) => ours::Applied { code, place, ..Default::default() },
+    }
+}
+
+/// What esk_decide ought to answer.
+pub fn decided(decided: Result<Decision, Refusal>) -> ours::Decided {
+    let decision = |decision| ours::Decided { code: 0, decision };
+    match decided {
+        Ok(Decision::Silent) => decision(0),
+        Ok(Decision::Routine) => decision(1),
+        Ok(Decision::Scheme) => decision(2),
+        Err(Refusal { code, .. }) => ours::Decided { code, decision: 0 },
+    }
+}
+
+/// What esk_join ought to answer.
+pub fn joined(joined: Result<usize, Fault>) -> Answer {
+    match joined {
+        Ok(length) => answer(Ok(length)),
+        Err(Fault { text, refusal }) => Answer { text, ..answer(Err(refusal)) },
+    }
+}
+
+pub fn command(from: &Command) -> ours::Command {
+    ours::Command {
+        settings: settings(from.flags, &from.sections),
+        downlink: from.downlink,
+        named: from.named,
+        padding: 0,
+    }
+}
+
+/// What the header's command means; its padding is not looked at.
+pub fn meant_command(from: &ours::Command) -> Command {
+    let Configuration { flags, sections } = meant_settings(&from.settings);
+    Command { flags, downlink: from.downlink, named: from.named, sections }
+}
+
+pub fn configuration(from: &Configuration) -> ours::Settings {
+    settings(from.flags, &from.sections)
+}
+
+/// A record's numbers, each of which the header's own type holds.
+fn settings(flags: Flags, sections: &Sections) -> ours::Settings {
+    let byte = |number: u16| u8::try_from(number).expect("a byte in the header");
+    let [mode, interval1, duration, interval2, total, top, list, timer] = sections.ascent;
+    let [reporting, inhibiting] = sections.boxes.map(boxes);
+    let lists = sections.airfields.map(|list| ours::Airfields { count: list.count, names: list.entries });
+    ours::Settings {
+        flags,
+        regions: ours::Regions { reporting, inhibiting },
+        airports: ours::Airports {
+            selected: ours::ByPhase { ascent: lists[0], descent: lists[1] },
+            inhibited: ours::ByPhase { ascent: lists[2], descent: lists[3] },
+            routine: byte(sections.airports[0]),
+        },
+        enroute: ours::Enroute { interval: byte(sections.enroute[0]), wind: byte(sections.enroute[1]) },
+        ascent: ours::Ascent {
+            mode: byte(mode),
+            interval1: byte(interval1),
+            duration,
+            interval2: byte(interval2),
+            total: byte(total),
+            top,
+            list: byte(list),
+            timer: byte(timer),
+        },
+        routine6: byte(sections.routine6[0]),
+        routine8: byte(sections.routine8[0]),
+        hours: ours::Hours { start: byte(sections.hours[0]), end: byte(sections.hours[1]) },
+    }
+}
+
+fn boxes(list: Boxes) -> ours::Boxes {
+    let edge = |edge: Edge| ours::Edge { degrees: edge.degrees, letter: edge.letter };
+    let region = |region: Region| ours::Region {
+        north: edge(region.north),
+        south: edge(region.south),
+        west: edge(region.west),
+        east: edge(region.east),
+    };
+    ours::Boxes { count: list.count, regions: list.entries.map(region) }
+}
+
+/// What the header's configuration means.
+pub fn meant_settings(from: &ours::Settings) -> Configuration {
+    let ours::Airports { selected, inhibited, routine } = from.airports;
+    let lists = [selected.ascent, selected.descent, inhibited.ascent, inhibited.descent];
+    let number = u16::from;
+    let ours::Ascent { mode, interval1, duration, interval2, total, top, list, timer } = from.ascent;
+    let [mode, interval1, interval2, total] = [mode, interval1, interval2, total].map(number);
+    let sections = Sections {
+        boxes: [from.regions.reporting, from.regions.inhibiting].map(meant_boxes),
+        airfields: lists.map(|list| Airfields { count: list.count, entries: list.names }),
+        airports: [number(routine)],
+        enroute: [from.enroute.interval, from.enroute.wind].map(number),
+        ascent: [mode, interval1, duration, interval2, total, top, number(list), number(timer)],
+        routine6: [number(from.routine6)],
+        routine8: [number(from.routine8)],
+        hours: [from.hours.start, from.hours.end].map(number),
+    };
+    Configuration { flags: from.flags, sections }
+}
+
+fn meant_boxes(list: ours::Boxes) -> Boxes {
+    let edge = |edge: ours::Edge| Edge { degrees: edge.degrees, letter: edge.letter };
+    let region = |region: ours::Region| Region {
+        north: edge(region.north),
+        south: edge(region.south),
+        west: edge(region.west),
+        east: edge(region.east),
+    };
+    Boxes { count: list.count, entries: list.regions.map(region) }
+}
+
+pub fn slot(from: &Slot) -> ours::Slot {
+    ours::Slot { designator: from.designator, length: from.length }
+}
+
+pub fn meant_slot(from: &ours::Slot) -> Slot {
+    Slot { designator: from.designator, length: from.length }
+}

@@ -1,0 +1,160 @@
+//! The header's structs for commands, the configuration, the decision and the board.
+
+use super::{Answer, Plain};
+use std::mem::{offset_of, size_of};
+
+#[repr(C)]
+#[derive(Clone, Copy, Debug, Default, PartialEq, Eq)]
+pub struct Edge {
+    pub degrees: u8,
+    pub letter: u8,
+}
+
+#[repr(C)]
+#[derive(Clone, Copy, Debug, Default, PartialEq, Eq)]
+pub struct Region {
+    pub north: Edge,
+    pub south: Edge,
+    pub west: Edge,
+    pub east: Edge,
+}
+
+#[repr(C)]
+#[derive(Clone, Copy, Debug, Default, PartialEq, Eq)]
+pub struct Boxes {
+    pub count: u8,
+    pub regions: [Region; 16],
+}
+
+/// The header has the names as 80 bytes.
+#[repr(C)]
+#[derive(Clone, Copy, Debug, Default, PartialEq, Eq)]
+pub struct Airfields {
+    pub count: u8,
+    pub names: [[u8; 4]; 20],
+}
+
+#[repr(C)]
+#[derive(Clone, Copy, Debug, Default, PartialEq, Eq)]
+pub struct Regions {
+    pub reporting: Boxes,
+    pub inhibiting: Boxes,
+}
+
+#[repr(C)]
+#[derive(Clone, Copy, Debug, Default, PartialEq, Eq)]
+pub struct ByPhase {
+    pub ascent: Airfields,
+    pub descent: Airfields,
+}
+
+#[repr(C)]
+#[derive(Clone, Copy, Debug, Default, PartialEq, Eq)]
+pub struct Airports {
+    pub selected: ByPhase,
+    pub inhibited: ByPhase,
+    pub routine: u8,
+}
+
+#[repr(C)]
+#[derive(Clone, Copy, Debug, Default, PartialEq, Eq)]
+pub struct Enroute {
+    pub interval: u8,
+    pub wind: u8,
+}
+
+#[repr(C)]
+#[derive(Clone, Copy, Debug, Default, PartialEq, Eq)]
+pub struct Ascent {
+    pub mode: u8,
+    pub interval1: u8,
+    pub duration: u16,
+    pub interval2: u8,
+    pub total: u8,
+    pub top: u16,
+    pub list: u8,
+    pub timer: u8,
+}
+
+#[repr(C)]
+#[derive(Clone, Copy, Debug, Default, PartialEq, Eq)]
+pub struct Hours {
+    pub start: u8,
+    pub end: u8,
+}
+
+#[repr(C)]
+#[derive(Clone, Copy, Debug, Default, PartialEq, Eq)]
+pub struct Settings {
+    pub flags: [u8; 7],
+    pub regions: Regions,
+    pub airports: Airports,
+    pub enroute: Enroute,
+    pub ascent: Ascent,
+    pub routine6: u8,
+    pub routine8: u8,
+    pub hours: Hours,
+}
+
+/// `padding` is no member of the header's: the byte that C adds at the end.
+#[repr(C)]
+#[derive(Clone, Copy, Debug, Default, PartialEq, Eq)]
+pub struct Command {
+    pub settings: Settings,
+    pub downlink: u8,
+    pub named: [u8; 8],
+    pub padding: u8,
+}
+
+#[repr(C)]
+#[derive(Clone, Copy, Debug, Default, PartialEq, Eq)]
+pub struct CommandGot {
+    pub answer: Answer,
+    pub command: Command,
+}
+
+#[repr(C)]
+#[derive(Clone, Copy, Debug, Default, PartialEq, Eq)]
+pub struct Applied {
+    pub place: u32,
+    pub code: u8,
+    pub downlink: u8,
+    pub spare: [u8; 2],
+}
+
+#[repr(C)]
+#[derive(Clone, Copy, Debug, Default, PartialEq, Eq)]
+pub struct Decided {
+    pub code: u8,
+    pub decision: u8,
+}
+
+#[repr(C)]
+#[derive(Clone, Copy, Debug, Default, PartialEq, Eq)]
+pub struct Slot {
+    pub designator: [u8; 6],
+    pub length: u16,
+}
+
+const _: () = {
+    assert!(size_of::<Region>() == 8 && size_of::<Boxes>() == 129 && size_of::<Airfields>() == 81);
+    assert!(size_of::<Regions>() == 258 && size_of::<Airports>() == 325 && size_of::<Ascent>() == 10);
+    assert!(offset_of!(Ascent, duration) == 2 && offset_of!(Ascent, interval2) == 4);
+    assert!(offset_of!(Ascent, top) == 6 && offset_of!(Ascent, list) == 8);
+    assert!(size_of::<Settings>() == 606 && align_of::<Settings>() == 2);
+    assert!(offset_of!(Settings, regions) == 7 && offset_of!(Settings, airports) == 265);
+    assert!(offset_of!(Settings, enroute) == 590 && offset_of!(Settings, ascent) == 592);
+    assert!(offset_of!(Settings, routine6) == 602 && offset_of!(Settings, hours) == 604);
+    assert!(size_of::<Command>() == 616 && offset_of!(Command, downlink) == 606);
+    assert!(offset_of!(Command, named) == 607 && offset_of!(Command, padding) == 615);
+    assert!(size_of::<CommandGot>() == 624 && offset_of!(CommandGot, command) == 8);
+    assert!(size_of::<Applied>() == 8 && offset_of!(Applied, downlink) == 5 && size_of::<Decided>() == 2);
+    assert!(size_of::<Slot>() == 8 && offset_of!(Slot, length) == 6);
+};
+
+unsafe impl Plain for Settings {}
+unsafe impl Plain for Command {}
+unsafe impl Plain for CommandGot {}
+unsafe impl Plain for Applied {}
+unsafe impl Plain for Decided {}
+unsafe impl Plain for Slot {}
