@@ -39,12 +39,13 @@ enum {
     ESK_SETTINGS = 12  /* configuration not valid; place 0 */
 };
 
-/* The answer of a call that checks or writes. 8 bytes, no padding. */
+/* The answer of a call that checks or writes. 16 bytes, no padding. */
 typedef struct esk_answer {
-    uint32_t place;  /* offset of the byte that the code speaks of, from 0 */
-    uint16_t length; /* of the text written; 0 on refusal, and from a call that writes nothing */
-    uint8_t code;    /* ESK_.. above */
-    uint8_t text;    /* for a join: which text is at fault, 1 or 2; else 0 */
+    size_t place;     /* offset of the byte that the code speaks of, from 0 */
+    uint32_t length;  /* of the text written; 0 on refusal, and from a call that writes nothing */
+    uint8_t code;     /* ESK_.. above */
+    uint8_t text;     /* for a join: which text is at fault, 1 or 2; else 0 */
+    uint8_t spare[2]; /* 0 */
 } esk_answer;
 
 /* A figure, given or missing. 8 bytes, no padding. A call that answers one sets number to 0 where given is 0; a call
@@ -100,7 +101,8 @@ typedef struct esk_observation {
     uint8_t kind;              /* 'A' 'D' 'R' 'W' 'U' or 'E'; 0 in an absent one */
     uint8_t quality;           /* '0' to '9' or '/'; 0 in an absent one */
     uint16_t present;          /* 1, or 0 for a later observation that is absent: its other members are then not
-                                  looked at, and 0 in what is read. Not looked at in the first observation */
+                                  looked at, and 0 in what is read; any other value than 0 is present. Not looked
+                                  at in the first observation */
 } esk_observation;
 
 /* A report. 624 bytes, no padding. */
@@ -113,7 +115,7 @@ typedef struct esk_report {
     esk_observation later[7];
 } esk_report;
 
-/* The answer of esk_report_read. 632 bytes, no padding. Where the answer is a refusal every byte of the report is 0. */
+/* The answer of esk_report_read. 640 bytes, no padding. Where the answer is a refusal every byte of the report is 0. */
 typedef struct esk_report_got {
     esk_answer answer;
     esk_report report;

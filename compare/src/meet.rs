@@ -19,8 +19,8 @@ pub fn packed(answer: Result<Option<i32>, Refusal>) -> ours::Packed {
 /// What a call that checks or writes ought to answer; a check has the length 0.
 pub fn answer(answer: Result<usize, Refusal>) -> ours::Answer {
     match answer {
-        Ok(length) => ours::Answer { length: length as u16, ..Default::default() },
-        Err(Refusal { code, place }) => ours::Answer { code, place, ..Default::default() },
+        Ok(length) => ours::Answer { length: length as u32, ..Default::default() },
+        Err(Refusal { code, place }) => ours::Answer { code, place: place.into(), ..Default::default() },
     }
 }
 

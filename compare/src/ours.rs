@@ -7,10 +7,11 @@ use std::mem::{offset_of, size_of};
 #[repr(C)]
 #[derive(Clone, Copy, Debug, Default, PartialEq, Eq)]
 pub struct Answer {
-    pub place: u32,
-    pub length: u16,
+    pub place: u64,
+    pub length: u32,
     pub code: u8,
     pub text: u8,
+    pub spare: [u8; 2],
 }
 
 #[repr(C)]
@@ -66,8 +67,8 @@ pub struct ReportGot {
 
 // The header promises sizes without padding; where a size is the sum of its members, so are the offsets.
 const _: () = {
-    assert!(size_of::<Answer>() == 8 && offset_of!(Answer, length) == 4);
-    assert!(offset_of!(Answer, code) == 6 && offset_of!(Answer, text) == 7);
+    assert!(size_of::<Answer>() == 16 && offset_of!(Answer, length) == 8);
+    assert!(offset_of!(Answer, code) == 12 && offset_of!(Answer, text) == 13);
     assert!(size_of::<Figure>() == 8 && offset_of!(Figure, given) == 4);
     assert!(size_of::<Packed>() == 8 && offset_of!(Packed, place) == 4);
     assert!(offset_of!(Packed, code) == 6 && offset_of!(Packed, given) == 7);
@@ -80,7 +81,7 @@ const _: () = {
     assert!(size_of::<Report>() == 624 && offset_of!(Report, arrival) == 4);
     assert!(offset_of!(Report, designator) == 8 && offset_of!(Report, spare) == 14);
     assert!(offset_of!(Report, first) == 16 && offset_of!(Report, later) == 92);
-    assert!(size_of::<ReportGot>() == 632 && offset_of!(ReportGot, report) == 8);
+    assert!(size_of::<ReportGot>() == 640 && offset_of!(ReportGot, report) == 16);
 };
 
 /// A struct of the header, as bytes: all members are numbers, and there is no padding.

@@ -182,8 +182,8 @@ static void layout(void)
     HOLD(sizeof(esk_report) == 624 && offsetof(esk_report, departure) == 0 && offsetof(esk_report, arrival) == 4);
     HOLD(offsetof(esk_report, designator) == 8 && offsetof(esk_report, spare) == 14);
     HOLD(offsetof(esk_report, first) == 16 && offsetof(esk_report, later) == 92);
-    HOLD(sizeof(esk_report_got) == 632 && offsetof(esk_report_got, answer) == 0);
-    HOLD(offsetof(esk_report_got, report) == 8);
+    HOLD(sizeof(esk_report_got) == 640 && offsetof(esk_report_got, answer) == 0);
+    HOLD(offsetof(esk_report_got, report) == 16);
 }
 
 int main(void)

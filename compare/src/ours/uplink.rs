@@ -147,7 +147,7 @@ const _: () = {
     assert!(offset_of!(Settings, routine6) == 602 && offset_of!(Settings, hours) == 604);
     assert!(size_of::<Command>() == 616 && offset_of!(Command, downlink) == 606);
     assert!(offset_of!(Command, named) == 607 && offset_of!(Command, padding) == 615);
-    assert!(size_of::<CommandGot>() == 624 && offset_of!(CommandGot, command) == 8);
+    assert!(size_of::<CommandGot>() == 632 && offset_of!(CommandGot, command) == 16);
     assert!(size_of::<Applied>() == 8 && offset_of!(Applied, downlink) == 5 && size_of::<Decided>() == 2);
     assert!(size_of::<Slot>() == 8 && offset_of!(Slot, length) == 6);
 };

@@ -14,10 +14,10 @@ use Rattle.desk.specs.declared.PackedAnswer.{PackedAnswer}
 -- ---- Answers that carry a code, a place and a length
 
 abbrev pub accepted : ℕ → Answer
-accepted n = record { place = 0; length = n; code = 0; text = 0 }
+accepted n = record { place = 0; length = n; code = 0; text = 0; spare = 0 }
 
 abbrev pub refusal : ℕ → ℕ → Answer
-refusal c p = record { place = p; length = 0; code = c; text = 0 }
+refusal c p = record { place = p; length = 0; code = c; text = 0; spare = 0 }
 
 -- ---- Packed figures
 

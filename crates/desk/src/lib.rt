@@ -1,13 +1,16 @@
 // The exported calls, for the host program in C. Each takes numbers and byte strings, and its answer is made of numbers.
 mod packed_calls;
+mod records;
+mod report_calls;
 
 // The answer of a call that checks or writes.
 #[repr(C)]
 pub struct Answer {
-    pub place: u32,
-    pub length: u16,
+    pub place: usize,
+    pub length: u32,
     pub code: u8,
     pub text: u8,
+    pub spare: u16,
 }
 
 // A figure as C has it: `given` is 1, or 0 for a missing one.
@@ -24,4 +27,38 @@ pub struct PackedAnswer {
     pub place: u16,
     pub code: u8,
     pub given: u8,
+}
+
+// An observation as C has it: `present` is 1, or 0 for an absent one.
+#[repr(C)]
+pub struct HostObservation {
+    pub latitude: HostFigure,
+    pub longitude: HostFigure,
+    pub time: HostFigure,
+    pub altitude: HostFigure,
+    pub temperature: HostFigure,
+    pub direction: HostFigure,
+    pub speed: HostFigure,
+    pub gust: HostFigure,
+    pub vapour: HostFigure,
+    pub kind: u8,
+    pub quality: u8,
+    pub present: u16,
+}
+
+#[repr(C)]
+pub struct HostReport {
+    pub departure: [u8; 4],
+    pub arrival: [u8; 4],
+    pub designator: [u8; 6],
+    pub spare: u16,
+    pub first: HostObservation,
+    pub later: [HostObservation; 7],
+}
+
+// The answer of reading a report.
+#[repr(C)]
+pub struct ReportAnswer {
+    pub answer: Answer,
+    pub report: HostReport,
 }

@@ -72,13 +72,21 @@ pub extern "C" fn esk_packed_read(field: &[u8]) -> PackedAnswer
     packed_answer(read(&t, field))
 }
 
-fn figure_from(f: HostFigure) -> Figure
+pub fn figure_from(f: HostFigure) -> Figure
     ensures { λ r. ⌜ r ≡ figureOf f ⌝ }
 {
     if f.given == 0 {
         return Figure::Missing;
     }
     Figure::Given(f.number)
+}
+
+// A field's width is small.
+fn wide(width: usize) -> u32
+    requires { ⌜ width ≤ 5 ⌝ }
+    ensures { λ r. ⌜ r ≡ width ⌝ }
+{
+    width as u32
 }
 
 fn write_answer(code: u8, width: usize) -> Answer
@@ -88,9 +96,10 @@ fn write_answer(code: u8, width: usize) -> Answer
     if code == 0 {
         return Answer {
             place: 0,
-            length: narrow(width),
+            length: wide(width),
             code: 0,
             text: 0,
+            spare: 0,
         };
     }
     Answer {
@@ -98,6 +107,7 @@ fn write_answer(code: u8, width: usize) -> Answer
         length: 0,
         code,
         text: 0,
+        spare: 0,
     }
 }
 
