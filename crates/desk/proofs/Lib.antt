@@ -1,0 +1,2 @@
+-- The laws of the desk.
+pub mod Each

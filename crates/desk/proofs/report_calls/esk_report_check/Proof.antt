@@ -1,0 +1,34 @@
+use borrow.Author.Needs.{needs}
+use Rattle.desk.proofs.report_calls.esk_report_check.Statement.{statement}
+use Rattle.desk.proofs.report_calls.esk_report_check.Tie as tie
+use Rattle.desk.proofs.report_calls.esk_report_check.Reads as reads
+use Rattle.desk.proofs.report_calls.esk_report_check.Lts as lts
+use Rattle.desk.proofs.report_calls.numbers.Reads as numbers-reads
+use Rattle.packed.proofs.table.worth_table.Reads as worth-table-reads
+use Rattle.report.proofs.check.check.Reads as check-reads
+use mathlib.Core.Path.{_≡_, refl, sym, _∙_, ap}
+use Rattle.desk.specs.Records.{checkNumbers, writeNumbers}
+use Rattle.text.specs.declared.Seen.{Seen}
+use Rattle.text.specs.declared.Seen.the-variants.{Fine, Bad}
+
+-- [extra
+same : (x : Seen) → writeNumbers x 0 ≡ checkNumbers x
+same Fine = refl
+same (Bad c p) = refl
+-- extra]
+
+worth-table-requires : tie.Need-worth-table-requires
+worth-table-requires c κs = search needs
+
+check-requires : tie.Need-check-requires
+check-requires c κs = search needs
+
+numbers-requires : tie.Need-numbers-requires
+numbers-requires c κs = search needs
+
+returns : tie.Need-returns
+returns c = c .numbers .ensures ∙ rw (c .before .check .ensures) (same _)
+
+pub esk-report-check-spec : {M : Type 1} → statement M
+esk-report-check-spec =
+    tie.close (tie.spec worth-table-requires check-requires numbers-requires returns)

@@ -1,0 +1,25 @@
+use borrow.Author.Needs.{needs}
+use Rattle.desk.proofs.report_calls.numbers.Statement.{statement}
+use Rattle.desk.proofs.report_calls.numbers.Tie as tie
+use Rattle.desk.proofs.report_calls.numbers.Reads as reads
+use Rattle.desk.proofs.report_calls.numbers.Lts as lts
+use Rattle.desk.proofs.report_calls.refused.Reads as refused-reads
+use mathlib.Core.Path.{_≡_, refl, sym, _∙_, ap}
+
+enum-told : tie.Need-enum-told
+enum-told c = search needs
+
+enum-known-seen : tie.Need-enum-known-seen
+enum-known-seen c = search needs
+
+refused-requires : tie.Need-refused-requires
+refused-requires c κs = search needs
+
+returns : tie.Need-returns
+returns c = rw (c .enum-told .given .1)
+
+returns-2 : tie.Need-returns-2
+returns-2 c = c .refused .ensures ∙ rw (c .before .before .code .given .1)
+
+pub numbers-spec : {M : Type 1} → statement M
+numbers-spec = tie.close (tie.spec enum-told enum-known-seen refused-requires returns returns-2)

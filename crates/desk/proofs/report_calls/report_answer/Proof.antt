@@ -1,0 +1,22 @@
+use borrow.Author.Needs.{needs}
+use Rattle.desk.proofs.report_calls.report_answer.Statement.{statement}
+use Rattle.desk.proofs.report_calls.report_answer.Tie as tie
+use Rattle.desk.proofs.report_calls.report_answer.Reads as reads
+use Rattle.desk.proofs.report_calls.report_answer.Lts as lts
+use Rattle.desk.proofs.records.host_report.Reads as host-report-reads
+use Rattle.desk.proofs.report_calls.refused.Reads as refused-reads
+use mathlib.Core.Path.{_≡_, refl, sym, _∙_, ap}
+use Rattle.desk.specs.Records.{reportNumbers}
+
+refused-requires : tie.Need-refused-requires
+refused-requires c κs = search needs
+
+host-report-requires : tie.Need-host-report-requires
+host-report-requires c κs = search needs
+
+returns : tie.Need-returns
+unfolding reportNumbers
+returns c = rw (c .before .refused .ensures, c .host-report .ensures)
+
+pub report-answer-spec : {M : Type 1} → statement M
+report-answer-spec = tie.close (tie.spec refused-requires host-report-requires returns)
