@@ -4,3 +4,4 @@ pub mod Accepted
 pub mod Spelling
 pub mod Turns
 pub mod RoundTrip
+pub mod Within

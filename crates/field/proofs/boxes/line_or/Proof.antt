@@ -4,20 +4,16 @@ use Rattle.field.proofs.boxes.line_or.Statement.{statement}
 use Rattle.field.proofs.boxes.line_or.Tie as tie
 use borrow.Author.Tests.{le-ltb, lt-ltb, not-true, not-false, lt-leb, le-leb, eq-eqb, ne-eqb}
 use Rattle.field.specs.Steps.{lineOr}
-use Rattle.field.specs.Boxes.{lineOf}
+use Rattle.field.specs.Boxes.{lineOf, isLetter}
 use mathlib.Core.Path.{_≡_}
 use mathlib.Core.Bool.{true, false}
-use Rattle.field.specs.Boxes.{isLetter}
 
--- [extra
 -- the letter is one of the two, or not
 letter : (c : tie.Else2) → isLetter (c .before .before .before .before .args .c) (c .before .before .before .before .args .l) ≡ true
 letter c = not-false _ (c .if2 .left)
 
 other : (c : tie.Then2) → isLetter (c .before .before .before .before .args .c) (c .before .before .before .before .args .l) ≡ false
 other c = not-true _ (c .if2 .taken)
-
--- extra]
 
 returns : tie.Need-returns
 unfolding lineOr

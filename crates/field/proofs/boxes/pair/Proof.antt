@@ -2,7 +2,7 @@
 use borrow.Author.Needs.{needs}
 use Rattle.field.proofs.boxes.pair.Statement.{statement}
 use Rattle.field.proofs.boxes.pair.Tie as tie
-use mathlib.Core.Path.{sym, _∙_}
+use mathlib.Core.Path.{sym}
 use denote.Ref.{now}
 use Rattle.field.proofs.Edges.{pair-lines}
 

@@ -12,7 +12,6 @@ use Rattle.field.specs.Fields.{checkAirfield}
 use borrow.Author.Tests.{le-leb, lt-leb, not-true, not-false}
 use native.Mathlib.Omega.{arith}
 
--- [extra
 -- what is tested is the four bytes
 seen : (c : tie.After-all-allowed)
     → let a = c .before .before .before .before .args in
@@ -21,8 +20,6 @@ seen c =
     let a = c .before .before .before .before .args in
     let four : a .at + 4 - a .at ≡ 4 = omega arith in
     c .all-allowed .ensures ∙ ap (λ (n : ℕ). allAllowed (take n (drop (a .at) (now (a .s))))) four
-
--- extra]
 
 add-end : tie.Need-add-end
 add-end c = search needs

@@ -3,14 +3,12 @@ use borrow.Author.Needs.{needs}
 use Rattle.field.proofs.digits.three.Statement.{statement}
 use Rattle.field.proofs.digits.three.Tie as tie
 use mathlib.Core.Path.{_≡_, sym, _∙_}
-use mathlib.Core.Bool.{true, false, _&&_}
+use mathlib.Core.Bool.{true, _&&_}
 use Rattle.field.specs.Decimal.{isDigit}
-use Rattle.field.specs.Steps.{numberOr}
 use Rattle.text.proofs.Cases.{both-left, both-right}
 use Rattle.field.proofs.Decimal.{digit-low}
 use Rattle.field.proofs.Number.{three-digits, three-other}
 
--- [extra
 -- the three bytes are digits
 digits : (c : tie.Then1)
     → let a = c .before .before .before .before .args in
@@ -21,8 +19,6 @@ digits c =
     let z = c .before .is-digit3 in
     let xy = both-left (x .result && y .result) (z .result) (c .if1 .taken) in
     (sym (x .ensures) ∙ both-left (x .result) (y .result) xy, sym (y .ensures) ∙ both-right (x .result) (y .result) xy, sym (z .ensures) ∙ both-right (x .result && y .result) (z .result) (c .if1 .taken))
-
--- extra]
 
 is-digit-requires : tie.Need-is-digit-requires
 is-digit-requires c κs = search needs

@@ -3,22 +3,18 @@ use borrow.Author.Needs.{needs}
 use Rattle.field.proofs.digits.two.Statement.{statement}
 use Rattle.field.proofs.digits.two.Tie as tie
 use mathlib.Core.Path.{_≡_, sym, _∙_}
-use mathlib.Core.Bool.{true, false, _&&_}
+use mathlib.Core.Bool.{true}
 use Rattle.field.specs.Decimal.{isDigit}
-use Rattle.field.specs.Steps.{numberOr}
 use Rattle.text.proofs.Cases.{both-left, both-right}
 use Rattle.field.proofs.Decimal.{digit-low}
 use Rattle.field.proofs.Number.{two-digits, two-other}
 
--- [extra
 -- both bytes are digits
 digits : (c : tie.Then1) → let a = c .before .before .before .args in (isDigit (a .a) ≡ true) × (isDigit (a .b) ≡ true)
 digits c =
     let x = c .before .before .is-digit in
     let y = c .before .is-digit2 in
     (sym (x .ensures) ∙ both-left (x .result) (y .result) (c .if1 .taken), sym (y .ensures) ∙ both-right (x .result) (y .result) (c .if1 .taken))
-
--- extra]
 
 is-digit-requires : tie.Need-is-digit-requires
 is-digit-requires c κs = search needs

@@ -2,20 +2,16 @@
 use Rattle.field.proofs.read.edge_at.Statement.{statement}
 use Rattle.field.proofs.read.edge_at.Tie as tie
 use native.Mathlib.Omega.{arith}
-use Prim.Native.Nat.{_+_}
+use Prim.Native.Nat.{_+_, _<_}
 use denote.Ref.{now}
 use Rattle.field.specs.Boxes.{edgeAt}
 use Rattle.field.proofs.Accepted.{Side, edge}
 use Rattle.text.specs.Parts.{part}
 use Rattle.field.specs.Decimal.{value}
-use Prim.Native.Nat.{_<_}
 
--- [extra
 -- the edge was accepted
 side : (c : tie.Start) → Side (c .args .c) (now (c .args .s)) (c .args .at) (c .args .at + (c .args .c .width + 1))
 side c = edge _ _ _ _ (c .pre .1)
-
--- extra]
 
 add-last : tie.Need-add-last
 add-last c = omega (arith, side (c .before) .room)

@@ -12,15 +12,12 @@ use Rattle.field.specs.declared.Step.the-variants.{Next}
 use Rattle.field.specs.Boxes.{regionAt, longitude}
 use Rattle.field.proofs.Accepted.{Box, box, edge}
 
--- [extra
 -- the box was accepted
 boxed : (c : tie.Start) → Box (now (c .args .s)) (c .args .at)
 boxed c = box _ _ _ (c .pre) .1
 
 room : (c : tie.Start) → c .args .at + 10 + 4 ≤ length (now (c .args .s))
 room c = edge longitude (now (c .args .s)) (c .args .at + 10) (c .args .at + 14) (boxed c .east) .room
-
--- extra]
 
 add-south : tie.Need-add-south
 add-south c = omega (arith, room (c .before))

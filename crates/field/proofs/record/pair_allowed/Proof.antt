@@ -7,7 +7,6 @@ use Rattle.text.specs.declared.Seen.the-variants.{Fine}
 use Rattle.field.specs.Boxes.{edgeAllowed}
 use Rattle.field.specs.Steps.{pairAllowed, inOrder}
 
--- [extra
 -- each edge is allowed
 first : (c : tie.After-enum-told) → let a = c .before .before .before .args in edgeAllowed (a .c) (a .at) (a .first) ≡ Fine
 first c = sym (c .before .before .edge-allowed .ensures) ∙ c .enum-told .given .1
@@ -20,8 +19,6 @@ tested : (c : tie.After-in-order)
     → let a = c .before .before .before .before .before .before .before .before .before .args in
     inOrder (a .falling) (a .c) (a .first) (a .second) ≡ c .in-order .result
 tested c = sym (c .in-order .ensures ∙ rw (c .before .line-of2 .ensures, c .before .before .line-of .ensures))
-
--- extra]
 
 edge-allowed-requires : tie.Need-edge-allowed-requires
 edge-allowed-requires c κs = search needs

@@ -5,18 +5,14 @@ use Rattle.field.proofs.record.region_allowed.Tie as tie
 use mathlib.Core.Path.{_≡_, sym, _∙_}
 use mathlib.Core.Bool.{true}
 use Prim.Native.Nat.{_+_}
-use Rattle.text.specs.declared.Seen.the-variants.{Fine}
 use Rattle.field.specs.Boxes.{latitude}
 use Rattle.field.specs.Steps.{pairAllowed}
 use Rattle.field.proofs.Pairs.{region-pairs}
 
--- [extra
 latitude-pair : (c : tie.After-pair-allowed)
     → let a = c .before .before .before .before .before .before .args in
     c .pair-allowed .result ≡ pairAllowed true latitude (a .b .north) (a .b .south) (a .at) (a .at + 3)
 latitude-pair c = c .pair-allowed .ensures ∙ rw (c .before .latitudes .ensures)
-
--- extra]
 
 latitudes-requires : tie.Need-latitudes-requires
 latitudes-requires c κs = search needs

@@ -3,7 +3,7 @@ use borrow.Author.Needs.{needs}
 use Rattle.field.proofs.write.put_edge.Statement.{statement}
 use Rattle.field.proofs.write.put_edge.Tie as tie
 use native.Mathlib.Omega.{arith}
-use Prim.Native.Nat.{_+_, _-_}
+use Prim.Native.Nat.{_-_}
 use mathlib.Core.Path.{_≡_, refl, ap, _∙_}
 use mathlib.Core.List.{[]}
 use lib.ListN.{length, take, drop}
@@ -16,7 +16,6 @@ use Rattle.field.specs.Decimal.{decimal}
 use Rattle.field.proofs.Decimal.{decimal-length}
 use Rattle.field.proofs.Spelling.{edge-text}
 
--- [extra
 -- the buffer after the digits
 spelt : (c : tie.After-put-decimal)
     → let a = c .before .before .before .before .args in
@@ -30,8 +29,6 @@ spelt c =
     let wide : length (take (w - 0) (drop 0 (now (a .d)))) ≡ w = omega (arith, part-length (now (a .d)) 0 w (omega (arith, start .pre))) in
     then-whole (now (a .d)) (now (a .d)) (c .put-decimal .last .0) [] t 0 0 w (over-none (now (a .d)) 0) refl (omega arith) (omega (arith, start .pre))
     (c .put-decimal .ensures ∙ rw (wide, c .before .wide .ensures))
-
--- extra]
 
 sub-put-decimal : tie.Need-sub-put-decimal
 sub-put-decimal c = search needs

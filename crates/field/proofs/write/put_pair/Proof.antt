@@ -14,7 +14,6 @@ use Rattle.text.proofs.Over.{over-none, then-part}
 use Rattle.field.specs.Boxes.{edgeText}
 use Rattle.field.proofs.Spelling.{edge-length}
 
--- [extra
 -- the buffer after the first edge
 first : (c : tie.After-put-edge)
     → let a = c .before .before .before .before .args in
@@ -26,8 +25,6 @@ first c =
     let long : length (edgeText (a .c) (a .first)) ≡ w = edge-length (a .c) (a .first) in
     then-part (now (a .d)) (now (a .d)) (c .put-edge .last .1 .1 .0) [] (edgeText (a .c) (a .first)) 0 0 w
     (over-none (now (a .d)) 0) refl (omega arith) (omega (arith, start .pre)) (c .put-edge .ensures)
-
--- extra]
 
 add-mid : tie.Need-add-mid
 add-mid c = search needs

@@ -4,7 +4,6 @@ use Rattle.field.proofs.write.put_region.Statement.{statement}
 use Rattle.field.proofs.write.put_region.Tie as tie
 use native.Mathlib.Omega.{arith}
 use lib.Dec.{lit≤}
-use Prim.Native.Nat.{_+_, _-_}
 use mathlib.Core.Path.{_≡_, refl, ap, _∙_}
 use mathlib.Core.List.{[], _++_}
 use lib.ListN.{length}
@@ -15,7 +14,6 @@ use Rattle.text.proofs.Over.{over-none, then-part}
 use Rattle.field.specs.Boxes.{latitude, longitude, edgeText}
 use Rattle.field.proofs.Spelling.{pair-length, region-text}
 
--- [extra
 -- the buffer after the latitudes
 first : (c : tie.After-put-pair)
     → let a = c .before .before .before .before .before .before .before .before .args in
@@ -28,8 +26,6 @@ first c =
     let long : length lat ≡ 6 = pair-length latitude (a .b .north) (a .b .south) in
     then-part (now (a .d)) (now (a .d)) (c .put-pair .last .1 .1 .1 .0) [] lat 0 0 6
     (over-none (now (a .d)) 0) refl (omega arith) (omega (arith, start .pre)) (c .put-pair .ensures ∙ rw (c .before .before .latitudes .ensures))
-
--- extra]
 
 latitudes-requires : tie.Need-latitudes-requires
 latitudes-requires c κs = search needs
