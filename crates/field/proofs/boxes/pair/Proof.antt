@@ -1,4 +1,5 @@
 -- `field::boxes::pair` meets its contract: the check of a pair goes by its two lines.
+use native.Mathlib.Omega.{arith}
 use borrow.Author.Needs.{needs}
 use Rattle.field.proofs.boxes.pair.Statement.{statement}
 use Rattle.field.proofs.boxes.pair.Tie as tie
@@ -7,13 +8,13 @@ use denote.Ref.{now}
 use Rattle.field.proofs.Edges.{pair-lines}
 
 add-w : tie.Need-add-w
-add-w c = search needs
+add-w c = omega arith
 
 add-mid : tie.Need-add-mid
-add-mid c = search needs
+add-mid c = omega arith
 
 add-end : tie.Need-add-end
-add-end c = search needs
+add-end c = omega arith
 
 edge-line-requires : tie.Need-edge-line-requires
 edge-line-requires c κs = search needs

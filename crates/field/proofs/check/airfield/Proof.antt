@@ -22,7 +22,7 @@ seen c =
     c .all-allowed .ensures ∙ ap (λ (n : ℕ). allAllowed (take n (drop (a .at) (now (a .s))))) four
 
 add-end : tie.Need-add-end
-add-end c = search needs
+add-end c = omega arith
 
 returns : tie.Need-returns
 unfolding checkAirfield
@@ -31,13 +31,13 @@ returns c =
     rw (lt-leb (a .at + 4) (length (now (a .s))) (c .if1 .taken))
 
 sub-all-allowed : tie.Need-sub-all-allowed
-sub-all-allowed c = search needs
+sub-all-allowed c = omega arith
 
 part-all-allowed-start : tie.Need-part-all-allowed-start
-part-all-allowed-start c = search needs
+part-all-allowed-start c = omega arith
 
 part-all-allowed-end : tie.Need-part-all-allowed-end
-part-all-allowed-end c = search needs
+part-all-allowed-end c = omega arith
 
 all-allowed-requires : tie.Need-all-allowed-requires
 all-allowed-requires c κs = search needs

@@ -25,7 +25,7 @@ found c h =
     (n .0, e ∙ n .1)
 
 add-end : tie.Need-add-end
-add-end c = search needs
+add-end c = omega arith
 
 returns : tie.Need-returns
 returns c = sym (number-cut _ _ _ _ _ (c .if1 .taken))

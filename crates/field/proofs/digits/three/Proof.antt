@@ -1,4 +1,5 @@
 -- `field::digits::three` meets its contract: three digits are worth what the definition says.
+use native.Mathlib.Omega.{arith}
 use borrow.Author.Needs.{needs}
 use Rattle.field.proofs.digits.three.Statement.{statement}
 use Rattle.field.proofs.digits.three.Tie as tie
@@ -33,22 +34,22 @@ worth-requires : tie.Need-worth-requires
 worth-requires c κs = digit-low _ (digits c .0)
 
 mul-result : tie.Need-mul-result
-mul-result c = search needs
+mul-result c = omega arith
 
 worth-requires-2 : tie.Need-worth-requires-2
 worth-requires-2 c κs = digit-low _ (digits (c .before) .1)
 
 mul-result-2 : tie.Need-mul-result-2
-mul-result-2 c = search needs
+mul-result-2 c = omega arith
 
 add-result : tie.Need-add-result
-add-result c = search needs
+add-result c = omega arith
 
 worth-requires-3 : tie.Need-worth-requires-3
 worth-requires-3 c κs = digit-low _ (digits (c .before .before) .2)
 
 add-result-2 : tie.Need-add-result-2
-add-result-2 c = search needs
+add-result-2 c = omega arith
 
 returns : tie.Need-returns
 returns c =

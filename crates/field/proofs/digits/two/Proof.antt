@@ -1,4 +1,5 @@
 -- `field::digits::two` meets its contract: two digits are worth what the definition says.
+use native.Mathlib.Omega.{arith}
 use borrow.Author.Needs.{needs}
 use Rattle.field.proofs.digits.two.Statement.{statement}
 use Rattle.field.proofs.digits.two.Tie as tie
@@ -26,13 +27,13 @@ worth-requires : tie.Need-worth-requires
 worth-requires c κs = digit-low _ (digits c .0)
 
 mul-result : tie.Need-mul-result
-mul-result c = search needs
+mul-result c = omega arith
 
 worth-requires-2 : tie.Need-worth-requires-2
 worth-requires-2 c κs = digit-low _ (digits (c .before) .1)
 
 add-result : tie.Need-add-result
-add-result c = search needs
+add-result c = omega arith
 
 returns : tie.Need-returns
 returns c =

@@ -1,4 +1,5 @@
 -- `field::record::line_of` meets its contract.
+use native.Mathlib.Omega.{arith}
 use borrow.Author.Needs.{needs}
 use Rattle.field.proofs.record.line_of.Statement.{statement}
 use Rattle.field.proofs.record.line_of.Tie as tie
@@ -9,10 +10,10 @@ wide-requires : tie.Need-wide-requires
 wide-requires c κs = search needs
 
 sub-result : tie.Need-sub-result
-sub-result c = search needs
+sub-result c = omega arith
 
 add-result : tie.Need-add-result
-add-result c = search needs
+add-result c = omega arith
 
 returns : tie.Need-returns
 unfolding lineOf

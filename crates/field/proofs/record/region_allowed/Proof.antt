@@ -1,4 +1,5 @@
 -- `field::record::region_allowed` meets its contract: the latitudes, then the longitudes.
+use native.Mathlib.Omega.{arith}
 use borrow.Author.Needs.{needs}
 use Rattle.field.proofs.record.region_allowed.Statement.{statement}
 use Rattle.field.proofs.record.region_allowed.Tie as tie
@@ -18,7 +19,7 @@ latitudes-requires : tie.Need-latitudes-requires
 latitudes-requires c κs = search needs
 
 add-pair-allowed : tie.Need-add-pair-allowed
-add-pair-allowed c = search needs
+add-pair-allowed c = omega arith
 
 pair-allowed-requires : tie.Need-pair-allowed-requires
 pair-allowed-requires c κs = search needs
@@ -33,10 +34,10 @@ longitudes-requires : tie.Need-longitudes-requires
 longitudes-requires c κs = search needs
 
 add-pair-allowed-2 : tie.Need-add-pair-allowed-2
-add-pair-allowed-2 c = search needs
+add-pair-allowed-2 c = omega arith
 
 add-pair-allowed-3 : tie.Need-add-pair-allowed-3
-add-pair-allowed-3 c = search needs
+add-pair-allowed-3 c = omega arith
 
 pair-allowed-requires-2 : tie.Need-pair-allowed-requires-2
 pair-allowed-requires-2 c κs = search needs

@@ -31,13 +31,13 @@ spelt c =
     (c .put-decimal .ensures ∙ rw (wide, c .before .wide .ensures))
 
 sub-put-decimal : tie.Need-sub-put-decimal
-sub-put-decimal c = search needs
+sub-put-decimal c = omega arith
 
 part-put-decimal-start : tie.Need-part-put-decimal-start
-part-put-decimal-start c = search needs
+part-put-decimal-start c = omega arith
 
 part-put-decimal-end : tie.Need-part-put-decimal-end
-part-put-decimal-end c = search needs
+part-put-decimal-end c = omega arith
 
 wide-requires : tie.Need-wide-requires
 wide-requires c κs = search needs
@@ -46,7 +46,7 @@ put-decimal-requires : tie.Need-put-decimal-requires
 put-decimal-requires c κs = search needs
 
 slice-write-d : tie.Need-slice-write-d
-slice-write-d c = search needs
+slice-write-d c = omega arith
 
 same-length : tie.Need-same-length
 same-length c = search needs

@@ -27,31 +27,31 @@ first c =
     (over-none (now (a .d)) 0) refl (omega arith) (omega (arith, start .pre)) (c .put-edge .ensures)
 
 add-mid : tie.Need-add-mid
-add-mid c = search needs
+add-mid c = omega arith
 
 add-end : tie.Need-add-end
-add-end c = search needs
+add-end c = omega arith
 
 sub-put-edge : tie.Need-sub-put-edge
-sub-put-edge c = search needs
+sub-put-edge c = omega arith
 
 part-put-edge-start : tie.Need-part-put-edge-start
-part-put-edge-start c = search needs
+part-put-edge-start c = omega arith
 
 part-put-edge-end : tie.Need-part-put-edge-end
-part-put-edge-end c = search needs
+part-put-edge-end c = omega arith
 
 put-edge-requires : tie.Need-put-edge-requires
 put-edge-requires c κs = search needs
 
 sub-put-edge-2 : tie.Need-sub-put-edge-2
-sub-put-edge-2 c = search needs
+sub-put-edge-2 c = omega arith
 
 part-put-edge-start-2 : tie.Need-part-put-edge-start-2
-part-put-edge-start-2 c = search needs
+part-put-edge-start-2 c = omega arith
 
 part-put-edge-end-2 : tie.Need-part-put-edge-end-2
-part-put-edge-end-2 c = search needs
+part-put-edge-end-2 c = omega arith
 
 put-edge-requires-2 : tie.Need-put-edge-requires-2
 put-edge-requires-2 c κs = search needs

@@ -31,13 +31,13 @@ latitudes-requires : tie.Need-latitudes-requires
 latitudes-requires c κs = search needs
 
 sub-put-pair : tie.Need-sub-put-pair
-sub-put-pair c = search needs
+sub-put-pair c = omega arith
 
 part-put-pair-start : tie.Need-part-put-pair-start
-part-put-pair-start c = search needs
+part-put-pair-start c = omega arith
 
 part-put-pair-end : tie.Need-part-put-pair-end
-part-put-pair-end c = search needs
+part-put-pair-end c = omega arith
 
 put-pair-requires : tie.Need-put-pair-requires
 put-pair-requires c κs = rw (c .before .latitudes .ensures) (lit≤ tt, search needs)
@@ -46,13 +46,13 @@ longitudes-requires : tie.Need-longitudes-requires
 longitudes-requires c κs = search needs
 
 sub-put-pair-2 : tie.Need-sub-put-pair-2
-sub-put-pair-2 c = search needs
+sub-put-pair-2 c = omega arith
 
 part-put-pair-start-2 : tie.Need-part-put-pair-start-2
-part-put-pair-start-2 c = search needs
+part-put-pair-start-2 c = omega arith
 
 part-put-pair-end-2 : tie.Need-part-put-pair-end-2
-part-put-pair-end-2 c = search needs
+part-put-pair-end-2 c = omega arith
 
 put-pair-requires-2 : tie.Need-put-pair-requires-2
 put-pair-requires-2 c κs = rw (c .before .longitudes .ensures) (lit≤ tt, search needs)
