@@ -25,7 +25,7 @@ shared-slice-read-line-or : tie.Need-shared-slice-read-line-or
 shared-slice-read-line-or c = omega arith
 
 line-or-requires : tie.Need-line-or-requires
-line-or-requires c κs = search needs
+line-or-requires c κs = tt
 
 returns-2 : tie.Need-returns-2
 unfolding edgeLine

@@ -1,5 +1,4 @@
 -- `field::boxes::latitude_pair` meets its contract: byte by byte where the text has both edges whole.
-use borrow.Author.Needs.{needs}
 use Rattle.field.proofs.boxes.latitude_pair.Statement.{statement}
 use Rattle.field.proofs.boxes.latitude_pair.Tie as tie
 use native.Mathlib.Omega.{arith}
@@ -14,7 +13,7 @@ add-end : tie.Need-add-end
 add-end c = omega arith
 
 latitudes-requires : tie.Need-latitudes-requires
-latitudes-requires c κs = search needs
+latitudes-requires c κs = tt
 
 pair-requires : tie.Need-pair-requires
 pair-requires c κs = rw (c .latitudes .ensures) (c .before .before .before .pre, lit≤ tt)
@@ -41,7 +40,7 @@ shared-slice-read-latitude-of-3 : tie.Need-shared-slice-read-latitude-of-3
 shared-slice-read-latitude-of-3 c = omega arith
 
 latitude-of-requires : tie.Need-latitude-of-requires
-latitude-of-requires c κs = search needs
+latitude-of-requires c κs = tt
 
 shared-slice-read-latitude-of-4 : tie.Need-shared-slice-read-latitude-of-4
 shared-slice-read-latitude-of-4 c = omega arith
@@ -59,10 +58,10 @@ shared-slice-read-latitude-of-6 : tie.Need-shared-slice-read-latitude-of-6
 shared-slice-read-latitude-of-6 c = omega arith
 
 latitude-of-requires-2 : tie.Need-latitude-of-requires-2
-latitude-of-requires-2 c κs = search needs
+latitude-of-requires-2 c κs = tt
 
 two-lines-requires : tie.Need-two-lines-requires
-two-lines-requires c κs = search needs
+two-lines-requires c κs = tt
 
 returns-2 : tie.Need-returns-2
 returns-2 c =

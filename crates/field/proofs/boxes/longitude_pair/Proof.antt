@@ -1,5 +1,4 @@
 -- `field::boxes::longitude_pair` meets its contract: byte by byte where the text has both edges whole.
-use borrow.Author.Needs.{needs}
 use Rattle.field.proofs.boxes.longitude_pair.Statement.{statement}
 use Rattle.field.proofs.boxes.longitude_pair.Tie as tie
 use native.Mathlib.Omega.{arith}
@@ -14,7 +13,7 @@ add-end : tie.Need-add-end
 add-end c = omega arith
 
 longitudes-requires : tie.Need-longitudes-requires
-longitudes-requires c κs = search needs
+longitudes-requires c κs = tt
 
 pair-requires : tie.Need-pair-requires
 pair-requires c κs = rw (c .longitudes .ensures) (c .before .before .before .pre, lit≤ tt)
@@ -47,7 +46,7 @@ shared-slice-read-longitude-of-4 : tie.Need-shared-slice-read-longitude-of-4
 shared-slice-read-longitude-of-4 c = omega arith
 
 longitude-of-requires : tie.Need-longitude-of-requires
-longitude-of-requires c κs = search needs
+longitude-of-requires c κs = tt
 
 shared-slice-read-longitude-of-5 : tie.Need-shared-slice-read-longitude-of-5
 shared-slice-read-longitude-of-5 c = omega arith
@@ -71,10 +70,10 @@ shared-slice-read-longitude-of-8 : tie.Need-shared-slice-read-longitude-of-8
 shared-slice-read-longitude-of-8 c = omega arith
 
 longitude-of-requires-2 : tie.Need-longitude-of-requires-2
-longitude-of-requires-2 c κs = search needs
+longitude-of-requires-2 c κs = tt
 
 two-lines-requires : tie.Need-two-lines-requires
-two-lines-requires c κs = search needs
+two-lines-requires c κs = tt
 
 returns-2 : tie.Need-returns-2
 returns-2 c =

@@ -23,7 +23,7 @@ edge-line-requires-2 : tie.Need-edge-line-requires-2
 edge-line-requires-2 c κs = search needs
 
 two-lines-requires : tie.Need-two-lines-requires
-two-lines-requires c κs = search needs
+two-lines-requires c κs = tt
 
 returns : tie.Need-returns
 returns c =

@@ -1,5 +1,4 @@
 -- `field::check::airfield` meets its contract.
-use borrow.Author.Needs.{needs}
 use Rattle.field.proofs.check.airfield.Statement.{statement}
 use Rattle.field.proofs.check.airfield.Tie as tie
 use Prim.Native.Nat.{ℕ, _+_, _-_}
@@ -40,7 +39,7 @@ part-all-allowed-end : tie.Need-part-all-allowed-end
 part-all-allowed-end c = omega arith
 
 all-allowed-requires : tie.Need-all-allowed-requires
-all-allowed-requires c κs = search needs
+all-allowed-requires c κs = tt
 
 returns-2 : tie.Need-returns-2
 unfolding checkAirfield

@@ -1,6 +1,5 @@
 -- `field::digits::three` meets its contract: three digits are worth what the definition says.
 use native.Mathlib.Omega.{arith}
-use borrow.Author.Needs.{needs}
 use Rattle.field.proofs.digits.three.Statement.{statement}
 use Rattle.field.proofs.digits.three.Tie as tie
 use mathlib.Core.Path.{_≡_, sym, _∙_}
@@ -22,13 +21,13 @@ digits c =
     (sym (x .ensures) ∙ both-left (x .result) (y .result) xy, sym (y .ensures) ∙ both-right (x .result) (y .result) xy, sym (z .ensures) ∙ both-right (x .result && y .result) (z .result) (c .if1 .taken))
 
 is-digit-requires : tie.Need-is-digit-requires
-is-digit-requires c κs = search needs
+is-digit-requires c κs = tt
 
 is-digit-requires-2 : tie.Need-is-digit-requires-2
-is-digit-requires-2 c κs = search needs
+is-digit-requires-2 c κs = tt
 
 is-digit-requires-3 : tie.Need-is-digit-requires-3
-is-digit-requires-3 c κs = search needs
+is-digit-requires-3 c κs = tt
 
 worth-requires : tie.Need-worth-requires
 worth-requires c κs = digit-low _ (digits c .0)

@@ -1,6 +1,5 @@
 -- `field::digits::two` meets its contract: two digits are worth what the definition says.
 use native.Mathlib.Omega.{arith}
-use borrow.Author.Needs.{needs}
 use Rattle.field.proofs.digits.two.Statement.{statement}
 use Rattle.field.proofs.digits.two.Tie as tie
 use mathlib.Core.Path.{_≡_, sym, _∙_}
@@ -18,10 +17,10 @@ digits c =
     (sym (x .ensures) ∙ both-left (x .result) (y .result) (c .if1 .taken), sym (y .ensures) ∙ both-right (x .result) (y .result) (c .if1 .taken))
 
 is-digit-requires : tie.Need-is-digit-requires
-is-digit-requires c κs = search needs
+is-digit-requires c κs = tt
 
 is-digit-requires-2 : tie.Need-is-digit-requires-2
-is-digit-requires-2 c κs = search needs
+is-digit-requires-2 c κs = tt
 
 worth-requires : tie.Need-worth-requires
 worth-requires c κs = digit-low _ (digits c .0)

@@ -21,7 +21,7 @@ tested : (c : tie.After-in-order)
 tested c = sym (c .in-order .ensures ∙ rw (c .before .line-of2 .ensures, c .before .before .line-of .ensures))
 
 edge-allowed-requires : tie.Need-edge-allowed-requires
-edge-allowed-requires c κs = search needs
+edge-allowed-requires c κs = tt
 
 enum-known-code : tie.Need-enum-known-code
 enum-known-code c = search needs
@@ -30,7 +30,7 @@ enum-told : tie.Need-enum-told
 enum-told c = search needs
 
 edge-allowed-requires-2 : tie.Need-edge-allowed-requires-2
-edge-allowed-requires-2 c κs = search needs
+edge-allowed-requires-2 c κs = tt
 
 enum-known-code-2 : tie.Need-enum-known-code-2
 enum-known-code-2 c = search needs
@@ -39,13 +39,13 @@ enum-told-2 : tie.Need-enum-told-2
 enum-told-2 c = search needs
 
 line-of-requires : tie.Need-line-of-requires
-line-of-requires c κs = search needs
+line-of-requires c κs = tt
 
 line-of-requires-2 : tie.Need-line-of-requires-2
-line-of-requires-2 c κs = search needs
+line-of-requires-2 c κs = tt
 
 in-order-requires : tie.Need-in-order-requires
-in-order-requires c κs = search needs
+in-order-requires c κs = tt
 
 returns : tie.Need-returns
 unfolding pairAllowed

@@ -16,13 +16,13 @@ latitude-pair : (c : tie.After-pair-allowed)
 latitude-pair c = c .pair-allowed .ensures ∙ rw (c .before .latitudes .ensures)
 
 latitudes-requires : tie.Need-latitudes-requires
-latitudes-requires c κs = search needs
+latitudes-requires c κs = tt
 
 add-pair-allowed : tie.Need-add-pair-allowed
 add-pair-allowed c = omega arith
 
 pair-allowed-requires : tie.Need-pair-allowed-requires
-pair-allowed-requires c κs = search needs
+pair-allowed-requires c κs = tt
 
 enum-known-code : tie.Need-enum-known-code
 enum-known-code c = search needs
@@ -31,7 +31,7 @@ enum-told : tie.Need-enum-told
 enum-told c = search needs
 
 longitudes-requires : tie.Need-longitudes-requires
-longitudes-requires c κs = search needs
+longitudes-requires c κs = tt
 
 add-pair-allowed-2 : tie.Need-add-pair-allowed-2
 add-pair-allowed-2 c = omega arith
@@ -40,7 +40,7 @@ add-pair-allowed-3 : tie.Need-add-pair-allowed-3
 add-pair-allowed-3 c = omega arith
 
 pair-allowed-requires-2 : tie.Need-pair-allowed-requires-2
-pair-allowed-requires-2 c κs = search needs
+pair-allowed-requires-2 c κs = tt
 
 returns : tie.Need-returns
 returns c =

@@ -40,10 +40,10 @@ part-put-decimal-end : tie.Need-part-put-decimal-end
 part-put-decimal-end c = omega arith
 
 wide-requires : tie.Need-wide-requires
-wide-requires c κs = search needs
+wide-requires c κs = tt
 
 put-decimal-requires : tie.Need-put-decimal-requires
-put-decimal-requires c κs = search needs
+put-decimal-requires c κs = tt
 
 slice-write-d : tie.Need-slice-write-d
 slice-write-d c = omega arith
