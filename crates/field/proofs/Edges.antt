@@ -1,18 +1,17 @@
 -- Edges and pairs of edges by where they lie.
-use mathlib.Core.Path.{_≡_, refl, sym, ap, _∙_}
-use mathlib.Core.Bool.{Bool, true, false, cond, _&&_}
+use mathlib.Core.Path.{_≡_, refl, ap, _∙_}
+use mathlib.Core.Bool.{Bool, true, false, cond}
 use mathlib.Core.List.{List, [], _∷_}
 use Prim.Native.Nat.{ℕ, _+_, _≤_, _<_}
 use native.Mathlib.Omega.{arith}
 use native.Mathlib.Nat.{add-zero}
-use lib.Dec.{leb, ltb, lit≤}
+use lib.Dec.{leb, lit≤}
 use lib.ListN.{length, getD}
 use borrow.Author.Tests.{lt-ltb, le-leb, lt-leb}
 use Rattle.text.specs.Parts.{part}
 use Rattle.text.proofs.Cases.{by-test, by-le}
 use Rattle.text.proofs.Parts.{part-bytes}
 use Rattle.field.specs.declared.Circle.{Circle}
-use Rattle.field.specs.declared.Edge.{Edge}
 use Rattle.field.specs.declared.Step.{Step}
 use Rattle.field.specs.declared.Step.the-variants.{Next, Stop}
 use Rattle.field.specs.declared.boxes.Line.{Line}

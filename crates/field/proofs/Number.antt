@@ -1,5 +1,5 @@
 -- The number that a few digits spell, or 1000.
-use mathlib.Core.Path.{_≡_, refl, sym, _∙_}
+use mathlib.Core.Path.{_≡_, refl}
 use mathlib.Core.Bool.{Bool, true, false, _&&_, and-assoc, and-true}
 use mathlib.Core.List.{List, [], _∷_}
 use Prim.Native.Nat.{ℕ, _+_, _-_, _*_, _≤_, _<_}
@@ -13,7 +13,7 @@ use Rattle.field.specs.declared.Step.the-variants.{Next, Stop}
 use Rattle.field.specs.Decimal.{isDigit, allDigits, valueFrom, value}
 use Rattle.field.specs.Fields.{checkNumber}
 use Rattle.field.specs.Steps.{numberOr}
-use Rattle.field.proofs.Decimal.{part-long, value-small}
+use Rattle.field.proofs.Decimal.{value-small}
 
 -- two digits, from their bytes
 pub two-digits : (a b : ℕ) → isDigit a ≡ true → isDigit b ≡ true → numberOr (a ∷ b ∷ []) ≡ (a - 48) * 10 + (b - 48)

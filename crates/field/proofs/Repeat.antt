@@ -4,8 +4,7 @@ use mathlib.Core.Bool.{true}
 use mathlib.Core.List.{List, _++_}
 use Prim.Native.Nat.{ℕ, zero, suc, _+_, _-_, _*_, _≤_, _<_}
 use native.Mathlib.Omega.{arith}
-use native.Mathlib.Nat.{add-zero}
-use lib.ListN.{length, take, drop}
+use lib.ListN.{length, drop}
 use lib.Seq.{take-add, drop-drop}
 use borrow.Author.Tests.{le-leb}
 use Rattle.text.specs.Names.{allAllowed}
@@ -14,7 +13,7 @@ use Rattle.text.proofs.Cases.{both-left, both-right}
 use Rattle.text.proofs.Names.{allowed-append}
 use Rattle.field.specs.declared.Step.{Step}
 use Rattle.field.specs.declared.Step.the-variants.{Next, Stop}
-use Rattle.field.specs.Fields.{after, checkAirfield, repeat}
+use Rattle.field.specs.Fields.{checkAirfield, repeat}
 use Rattle.field.specs.Boxes.{checkBox}
 use Rattle.field.proofs.Accepted.{Both, both, next-same, airfield, box}
 

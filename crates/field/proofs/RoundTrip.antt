@@ -1,15 +1,14 @@
 -- Fields both ways: what a record that is allowed writes is accepted and reads back, and what is accepted is written back as the same bytes.
-use mathlib.Core.Path.{_≡_, refl, sym, ap, _∙_}
-use mathlib.Core.Bool.{Bool, true, false, not}
+use mathlib.Core.Path.{_≡_, sym, ap, _∙_}
+use mathlib.Core.Bool.{true, false, not}
 use mathlib.Core.List.{List, [], _∷_, _++_}
 use Prim.Native.Nat.{ℕ, _+_, _^_, _≤_, _<_}
 use native.Mathlib.Omega.{arith}
 use native.Mathlib.Numerals.{add-one}
 use lib.Dec.{leb, lit<}
-use lib.ListN.{length, getD, take, drop, length-drop}
+use lib.ListN.{length, getD, drop, length-drop}
 use lib.Seq.{take-suc, getD-drop}
-use borrow.Author.Tests.{le-leb, leb-true, eq-eqb, not-true}
-use Rattle.text.specs.declared.Seen.{Seen}
+use borrow.Author.Tests.{le-leb, leb-true, not-true}
 use Rattle.text.specs.declared.Seen.the-variants.{Fine}
 use Rattle.text.specs.Checks.{must, _andThen_}
 use Rattle.text.specs.Parts.{part}
@@ -24,8 +23,8 @@ use Rattle.field.specs.Fields.{checkNumber, checkMark, checkDelimiter}
 use Rattle.field.specs.Boxes.{latitude, longitude, isLetter, belowZero, northFirst, westFirst, edgeAt, edgeText, edgeAllowed, checkEdge, regionAt, regionText, regionAllowed, checkBox}
 use Rattle.field.proofs.Decimal.{part-long, decimal-length, decimal-digits, value-decimal, decimal-value}
 use Rattle.field.proofs.Number.{number-fine}
-use Rattle.field.proofs.Accepted.{Number, number, Side, edge, Box, box, box-next}
-use Rattle.field.proofs.Spelling.{edge-length, pair-length, region-text}
+use Rattle.field.proofs.Accepted.{number, edge, box, box-next}
+use Rattle.field.proofs.Spelling.{edge-length}
 
 -- ---- Numbers, marks, delimiters
 

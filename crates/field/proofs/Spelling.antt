@@ -1,40 +1,44 @@
 -- The texts of edges and boxes: how long they are and what they are made of.
-use mathlib.Core.Path.{_≡_, refl, sym, _∙_}
-use mathlib.Core.List.{List, [], _∷_, _++_, append-assoc}
+use mathlib.Core.Path.{_≡_, refl, ap, _∙_}
+use mathlib.Core.List.{[], _∷_, _++_, append-assoc}
 use Prim.Native.Nat.{ℕ, _+_}
-use native.Mathlib.Omega.{arith}
 use lib.ListN.{length, length-append}
 use Rattle.field.specs.declared.Circle.{Circle}
 use Rattle.field.specs.declared.Edge.{Edge}
 use Rattle.field.specs.declared.Region.{Region}
 use Rattle.field.specs.Decimal.{decimal}
-use Rattle.field.specs.Boxes.{latitude, longitude, edgeText, regionText}
+use Rattle.field.specs.Boxes.{edgeText, regionText}
+use Rattle.field.specs.Steps.{edgeBytes}
 use Rattle.field.proofs.Decimal.{decimal-length}
 
 -- an edge is its digits and its letter
+pub bytes-length : (w : ℕ) (e : Edge) → length (edgeBytes w e) ≡ w + 1
+unfolding edgeBytes
+bytes-length w e = length-append (decimal w (e .degrees)) (e .letter ∷ []) ∙ rw (decimal-length w (e .degrees))
+
+pub bytes-are : (w : ℕ) (e : Edge) → decimal w (e .degrees) ++ (e .letter ∷ []) ≡ edgeBytes w e
+unfolding edgeBytes
+bytes-are w e = refl
+
+edge-bytes : (c : Circle) (e : Edge) → edgeText c e ≡ edgeBytes (c .width) e
+unfolding edgeText edgeBytes
+edge-bytes c e = refl
+
 pub edge-length : (c : Circle) (e : Edge) → length (edgeText c e) ≡ c .width + 1
-unfolding edgeText
-edge-length c e = length-append (decimal (c .width) (e .degrees)) (e .letter ∷ []) ∙ rw (decimal-length (c .width) (e .degrees))
+edge-length c e = ap length (edge-bytes c e) ∙ bytes-length (c .width) e
 
-pub edge-text : (c : Circle) (e : Edge) → decimal (c .width) (e .degrees) ++ (e .letter ∷ []) ≡ edgeText c e
-unfolding edgeText
-edge-text c e = refl
-
-pub pair-length : (c : Circle) (a b : Edge) → length (edgeText c a ++ edgeText c b) ≡ c .width + 1 + (c .width + 1)
-pair-length c a b = length-append (edgeText c a) (edgeText c b) ∙ rw (edge-length c a, edge-length c b)
+pub pair-length : (w : ℕ) (a b : Edge) → length (edgeBytes w a ++ edgeBytes w b) ≡ w + 1 + (w + 1)
+pair-length w a b = length-append (edgeBytes w a) (edgeBytes w b) ∙ rw (bytes-length w a, bytes-length w b)
 
 -- a box is its latitudes and then its longitudes
 pub region-text : (b : Region)
-    → (edgeText latitude (b .north) ++ edgeText latitude (b .south)) ++ (edgeText longitude (b .west) ++ edgeText longitude (b .east))
-    ≡ regionText b
-unfolding regionText
-region-text b =
-    append-assoc (edgeText latitude (b .north)) (edgeText latitude (b .south)) (edgeText longitude (b .west) ++ edgeText longitude (b .east))
+    → (edgeBytes 2 (b .north) ++ edgeBytes 2 (b .south)) ++ (edgeBytes 3 (b .west) ++ edgeBytes 3 (b .east)) ≡ regionText b
+unfolding regionText edgeText edgeBytes
+region-text b = append-assoc (edgeBytes 2 (b .north)) (edgeBytes 2 (b .south)) (edgeBytes 3 (b .west) ++ edgeBytes 3 (b .east))
 
 -- 14 bytes
 pub region-length : (b : Region) → length (regionText b) ≡ 14
 region-length b =
-    let lat = edgeText latitude (b .north) ++ edgeText latitude (b .south) in
-    let lon = edgeText longitude (b .west) ++ edgeText longitude (b .east) in
-    rw (← (region-text b))
-    (length-append lat lon ∙ rw (pair-length latitude (b .north) (b .south), pair-length longitude (b .west) (b .east)))
+    let lat = edgeBytes 2 (b .north) ++ edgeBytes 2 (b .south) in
+    let lon = edgeBytes 3 (b .west) ++ edgeBytes 3 (b .east) in
+    rw (← (region-text b)) (length-append lat lon ∙ rw (pair-length 2 (b .north) (b .south), pair-length 3 (b .west) (b .east)))

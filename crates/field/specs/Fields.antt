@@ -1,5 +1,5 @@
 -- A command's smallest fields, in a text s from a place on. Within a field: 8, then 3 or 4, 6, 5.
-use mathlib.Core.Bool.{Bool, cond, _&&_}
+use mathlib.Core.Bool.{cond, _&&_}
 use mathlib.Core.List.{List}
 use Prim.Native.Nat.{ℕ, zero, suc, _+_}
 use lib.Dec.{leb, eqb}

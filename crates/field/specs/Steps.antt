@@ -1,13 +1,13 @@
 -- What the inner functions answer. No promise to a caller rests on these names.
 use mathlib.Core.Bool.{Bool, cond, _&&_}
-use mathlib.Core.List.{List}
+use mathlib.Core.List.{List, [], _∷_, _++_}
 use Prim.Native.Nat.{ℕ, _+_}
 use lib.Dec.{leb, ltb}
 use lib.ListN.{length, getD}
 use Rattle.text.specs.Parts.{part}
 use Rattle.text.specs.Checks.{must, _andThen_}
 use Rattle.text.specs.declared.Seen.{Seen}
-use Rattle.field.specs.Decimal.{allDigits, value}
+use Rattle.field.specs.Decimal.{allDigits, value, decimal}
 use Rattle.field.specs.Boxes.{isLetter, belowZero, lineOf, edgeAllowed}
 use Rattle.field.specs.declared.Circle.{Circle}
 use Rattle.field.specs.declared.Edge.{Edge}
@@ -51,3 +51,11 @@ twoLines falling (Lies x) (Lies y) at mid end = cond (orderly falling x y) (Next
 unfoldable pub pairAllowed : Bool → Circle → Edge → Edge → ℕ → ℕ → Seen
 pairAllowed falling c first second at mid =
     edgeAllowed c at first andThen edgeAllowed c mid second andThen must (inOrder falling c first second) 7 mid
+
+-- the edge that stands at a place, its degrees in w digits
+abbrev pub edgeFrom : ℕ → List ℕ → ℕ → Edge
+edgeFrom w s at = record { degrees = value (part at w s); letter = getD s (at + w) 0 }
+
+-- an edge's bytes, its degrees in w digits
+unfoldable pub edgeBytes : ℕ → Edge → List ℕ
+edgeBytes w e = decimal w (e .degrees) ++ e .letter ∷ []

@@ -1,21 +1,24 @@
 // Boxes as records, from a text whose check went on.
-use crate::Circle;
 use crate::Edge;
 use crate::Region;
-use crate::boxes::latitudes;
-use crate::boxes::longitudes;
 use crate::digits::small_at;
 ghost use mathlib.Core.Path.{_≡_};
-ghost use Prim.Native.Nat.{_+_, _≤_};
+ghost use mathlib.Core.Bool.{true};
+ghost use Prim.Native.Nat.{_+_, _≤_, _<_};
+ghost use lib.ListN.{length};
+ghost use Rattle.text.specs.Parts.{part};
 ghost use Rattle.field.specs.declared.Step.the-variants.{Next};
-ghost use Rattle.field.specs.Boxes.{edgeAt, regionAt, checkEdge, checkBox, noRegion};
+ghost use Rattle.field.specs.Boxes.{regionAt, checkBox, noRegion};
+ghost use Rattle.field.specs.Decimal.{allDigits, value};
+ghost use Rattle.field.specs.Steps.{edgeFrom};
 
-fn edge_at(c: Circle, s: &[u8], at: usize) -> Edge
-    requires { ⌜ (c .width ≤ 3) × (c .most ≤ 255) ⌝ }
-    requires { ⌜ checkEdge c (now s) at ≡ Next (at + (c .width + 1)) ⌝ }
-    ensures { λ r. ⌜ r ≡ edgeAt c (now (s .entry)) at ⌝ }
+// The edge that stands at a place, its degrees in w digits.
+fn edge_at(w: usize, s: &[u8], at: usize) -> Edge
+    requires { ⌜ (at + (w + 1) ≤ length (now s)) × (w ≤ 3) ⌝ }
+    requires { ⌜ allDigits (part at w (now s)) ≡ true ⌝ }
+    requires { ⌜ value (part at w (now s)) < 256 ⌝ }
+    ensures { λ r. ⌜ r ≡ edgeFrom w (now (s .entry)) at ⌝ }
 {
-    let w = c.width;
     let last = at + w;
     Edge {
         degrees: small_at(s, at, w),
@@ -32,10 +35,10 @@ pub fn region_at(s: &[u8], at: usize) -> Region
     let west = at + 6;
     let east = at + 10;
     Region {
-        north: edge_at(latitudes(), s, at),
-        south: edge_at(latitudes(), s, south),
-        west: edge_at(longitudes(), s, west),
-        east: edge_at(longitudes(), s, east),
+        north: edge_at(2, s, at),
+        south: edge_at(2, s, south),
+        west: edge_at(3, s, west),
+        east: edge_at(3, s, east),
     }
 }
 

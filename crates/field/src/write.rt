@@ -1,9 +1,6 @@
 // Fields written into parts of a text.
-use crate::Circle;
 use crate::Edge;
 use crate::Region;
-use crate::boxes::latitudes;
-use crate::boxes::longitudes;
 use crate::record::wide;
 ghost use mathlib.Core.Path.{_≡_};
 ghost use mathlib.Core.List.{_++_};
@@ -11,7 +8,8 @@ ghost use Prim.Native.Nat.{_+_, _*_, _≤_, _<_};
 ghost use lib.ListN.{length};
 ghost use Rattle.text.specs.Over.{over};
 ghost use Rattle.field.specs.Decimal.{decimal};
-ghost use Rattle.field.specs.Boxes.{edgeText, regionText};
+ghost use Rattle.field.specs.Boxes.{regionText};
+ghost use Rattle.field.specs.Steps.{edgeBytes};
 
 fn figure(n: usize) -> u8
     requires { ⌜ n < 10 ⌝ }
@@ -33,25 +31,24 @@ pub fn put_decimal(d: &mut [u8], v: usize)
     }
 }
 
-// Degrees and letter, over the start of `d`.
-fn put_edge(c: Circle, e: Edge, d: &mut [u8])
-    requires { ⌜ c .width + 1 ≤ length (now d) ⌝ }
-    ensures { λ _. ⌜ now (d .exit) ≡ over (now (d .entry)) 0 (edgeText c e) ⌝ }
+// Degrees, in w digits, and letter, over the start of `d`.
+fn put_edge(w: usize, e: Edge, d: &mut [u8])
+    requires { ⌜ w + 1 ≤ length (now d) ⌝ }
+    ensures { λ _. ⌜ now (d .exit) ≡ over (now (d .entry)) 0 (edgeBytes w e) ⌝ }
 {
-    let w = c.width;
     put_decimal(&mut d[0..w], wide(e.degrees));
     d[w] = e.letter;
 }
 
 // Two edges, one after the other.
-fn put_pair(c: Circle, first: Edge, second: Edge, d: &mut [u8])
-    requires { ⌜ (c .width ≤ 3) × ((c .width + 1) + (c .width + 1) ≤ length (now d)) ⌝ }
-    ensures { λ _. ⌜ now (d .exit) ≡ over (now (d .entry)) 0 (edgeText c first ++ edgeText c second) ⌝ }
+fn put_pair(w: usize, first: Edge, second: Edge, d: &mut [u8])
+    requires { ⌜ (w ≤ 3) × ((w + 1) + (w + 1) ≤ length (now d)) ⌝ }
+    ensures { λ _. ⌜ now (d .exit) ≡ over (now (d .entry)) 0 (edgeBytes w first ++ edgeBytes w second) ⌝ }
 {
-    let mid = c.width + 1;
+    let mid = w + 1;
     let end = mid + mid;
-    put_edge(c, first, &mut d[0..mid]);
-    put_edge(c, second, &mut d[mid..end]);
+    put_edge(w, first, &mut d[0..mid]);
+    put_edge(w, second, &mut d[mid..end]);
 }
 
 // A box's 14 bytes over the start of `d`.
@@ -63,6 +60,6 @@ pub fn put_region(b: Region, d: &mut [u8])
     let south = b.south;
     let west = b.west;
     let east = b.east;
-    put_pair(latitudes(), north, south, &mut d[0..6]);
-    put_pair(longitudes(), west, east, &mut d[6..14]);
+    put_pair(2, north, south, &mut d[0..6]);
+    put_pair(3, west, east, &mut d[6..14]);
 }

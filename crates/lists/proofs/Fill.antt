@@ -1,10 +1,10 @@
 -- Lists that are filled from the front, entry by entry.
 use mathlib.Core.Path.{_≡_, refl, sym, ap, _∙_}
 use mathlib.Core.List.{List, [], _∷_, _++_, append-assoc}
-use Prim.Native.Nat.{ℕ, zero, suc, _+_, _-_, _*_, _≤_, _<_}
+use Prim.Native.Nat.{ℕ, zero, suc, _+_, _-_, _*_, _<_}
 use native.Mathlib.Omega.{arith}
 use native.Mathlib.Numerals.{add-one}
-use lib.ListN.{length, getD, set, take, drop, replicate, length-drop}
+use lib.ListN.{length, getD, set, drop, replicate, length-drop}
 use lib.Seq.{set-at, take-suc, getD-drop}
 use Rattle.text.specs.Parts.{part}
 use Rattle.field.specs.Boxes.{regionAt}

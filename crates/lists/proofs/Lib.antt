@@ -5,3 +5,4 @@ pub mod Accepted
 pub mod Spelling
 pub mod Turns
 pub mod RoundTrip
+pub mod Within

@@ -1,13 +1,13 @@
 -- The counted lists both ways: what a record that is allowed writes is accepted and reads back, and what is accepted is written back as the same bytes.
 use mathlib.Core.Path.{_≡_, refl, sym, ap, _∙_}
-use mathlib.Core.Bool.{Bool, true, _&&_}
+use mathlib.Core.Bool.{true, _&&_}
 use mathlib.Core.List.{List, [], _∷_, _++_}
 use Prim.Native.Nat.{ℕ, zero, suc, _+_, _-_, _*_, _≤_, _<_}
 use native.Mathlib.Omega.{arith}
 use lib.Dec.{leb, eqb, lit<}
 use lib.ListN.{length, take, drop, replicate, length-append, length-drop, length-replicate, take-append-drop}
 use lib.Seq.{length-take-le, take-at, drop-at, take-add}
-use borrow.Author.Tests.{le-leb, leb-true, eqb-true, eq-eqb}
+use borrow.Author.Tests.{le-leb, leb-true, eqb-true}
 use Rattle.text.specs.declared.Seen.the-variants.{Fine}
 use Rattle.text.specs.Checks.{must, _andThen_}
 use Rattle.text.specs.Names.{allAllowed}
@@ -20,10 +20,10 @@ use Rattle.field.specs.declared.Edge.{Edge}
 use Rattle.field.specs.declared.Region.{Region}
 use Rattle.field.specs.declared.Step.{Step}
 use Rattle.field.specs.declared.Step.the-variants.{Next}
-use Rattle.field.specs.Decimal.{value, decimal}
+use Rattle.field.specs.Decimal.{decimal}
 use Rattle.field.specs.Fields.{checkAirfield, repeat}
 use Rattle.field.specs.Boxes.{checkBox, regionAt, regionAllowed, regionText, noRegion}
-use Rattle.field.proofs.Accepted.{both, box, box-room}
+use Rattle.field.proofs.Accepted.{both, box}
 use Rattle.field.proofs.Decimal.{part-long, decimal-length}
 use Rattle.field.proofs.Repeat.{airfields-next}
 use Rattle.field.proofs.RoundTrip.{number-value, number-stands, digits-read, region-held, region-fine, region-back, box-stands, region-allowed, region-read}
@@ -33,8 +33,6 @@ use Rattle.lists.specs.declared.Boxes.{Boxes}
 use Rattle.lists.specs.Lists.{countAt, checkList, checkAirfields, checkBoxes, airfieldsAt, allZero, namesAllowed, airfieldsAllowed, airfieldsText, regionsAt, boxesAt, edgeZero, regionZero, regionsZero, regionsAllowed, boxesAllowed, regionsText, boxesText}
 use Rattle.lists.proofs.Accepted.{Counted, counted, Named, airfields}
 use Rattle.lists.proofs.Fill.{regions-length}
-use Rattle.lists.proofs.Turns.{regions-text-length}
-use Rattle.lists.proofs.Spelling.{airfields-length, boxes-length}
 
 -- ---- The count, before any entries
 

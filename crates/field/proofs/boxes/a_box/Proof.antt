@@ -8,14 +8,11 @@ use Rattle.field.specs.Boxes.{checkBox, checkPair, latitude, northFirst}
 use Rattle.field.specs.declared.Step.the-variants.{Next}
 use Rattle.field.proofs.Within.{pair-within}
 
--- [extra
 -- the latitudes are in order
 seen : (c : tie.After-known-told2)
     → let a = c .before .before .before .before .before .args in
     checkPair latitude northFirst (now (a .s)) (a .at) ≡ Next (c .before .latitudes2 .given .0 .0)
 seen c = sym (c .before .before .before .latitude-pair .ensures) ∙ c .before .latitudes2 .given .1
-
--- extra]
 
 latitude-pair-requires : tie.Need-latitude-pair-requires
 latitude-pair-requires c κs = search needs

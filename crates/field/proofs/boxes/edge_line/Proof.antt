@@ -10,7 +10,7 @@ use borrow.Author.Tests.{le-leb, lt-leb}
 use Rattle.field.specs.Steps.{edgeLine}
 
 add-last : tie.Need-add-last
-add-last c = search needs
+add-last c = omega arith
 
 returns : tie.Need-returns
 unfolding edgeLine
@@ -22,10 +22,10 @@ number-at-requires : tie.Need-number-at-requires
 number-at-requires c κs = search needs
 
 shared-slice-read-line-or : tie.Need-shared-slice-read-line-or
-shared-slice-read-line-or c = search needs
+shared-slice-read-line-or c = omega arith
 
 line-or-requires : tie.Need-line-or-requires
-line-or-requires c κs = search needs
+line-or-requires c κs = tt
 
 returns-2 : tie.Need-returns-2
 unfolding edgeLine

@@ -1,16 +1,15 @@
 -- `field::boxes::latitude_of` meets its contract.
-use borrow.Author.Needs.{needs}
 use Rattle.field.proofs.boxes.latitude_of.Statement.{statement}
 use Rattle.field.proofs.boxes.latitude_of.Tie as tie
 
 latitudes-requires : tie.Need-latitudes-requires
-latitudes-requires c κs = search needs
+latitudes-requires c κs = tt
 
 two-requires : tie.Need-two-requires
-two-requires c κs = search needs
+two-requires c κs = tt
 
 line-or-requires : tie.Need-line-or-requires
-line-or-requires c κs = search needs
+line-or-requires c κs = tt
 
 returns : tie.Need-returns
 returns c = rw (c .line-or .ensures, c .before .two .ensures, c .before .before .latitudes .ensures)

@@ -1,23 +1,19 @@
 -- `field::boxes::line_or` meets its contract: each exit is the case that the tests before it leave.
-use borrow.Author.Needs.{needs}
+use native.Mathlib.Omega.{arith}
 use Rattle.field.proofs.boxes.line_or.Statement.{statement}
 use Rattle.field.proofs.boxes.line_or.Tie as tie
 use borrow.Author.Tests.{le-ltb, lt-ltb, not-true, not-false, lt-leb, le-leb, eq-eqb, ne-eqb}
 use Rattle.field.specs.Steps.{lineOr}
-use Rattle.field.specs.Boxes.{lineOf}
+use Rattle.field.specs.Boxes.{lineOf, isLetter}
 use mathlib.Core.Path.{_≡_}
 use mathlib.Core.Bool.{true, false}
-use Rattle.field.specs.Boxes.{isLetter}
 
--- [extra
 -- the letter is one of the two, or not
 letter : (c : tie.Else2) → isLetter (c .before .before .before .before .args .c) (c .before .before .before .before .args .l) ≡ true
 letter c = not-false _ (c .if2 .left)
 
 other : (c : tie.Then2) → isLetter (c .before .before .before .before .args .c) (c .before .before .before .before .args .l) ≡ false
 other c = not-true _ (c .if2 .taken)
-
--- extra]
 
 returns : tie.Need-returns
 unfolding lineOr
@@ -36,10 +32,10 @@ unfolding lineOr
 returns-4 c = rw (lt-ltb _ 1000 (c .before .before .before .before .before .before .before .if1 .left), letter (c .before .before .before .before), c .before .before .if3 .left, lt-leb _ _ (c .if4 .taken))
 
 sub-t9 : tie.Need-sub-t9
-sub-t9 c = search needs
+sub-t9 c = omega arith
 
 add-t10 : tie.Need-add-t10
-add-t10 c = search needs
+add-t10 c = omega arith
 
 returns-5 : tie.Need-returns-5
 unfolding lineOr lineOf

@@ -1,16 +1,15 @@
 -- `field::boxes::longitude_of` meets its contract.
-use borrow.Author.Needs.{needs}
 use Rattle.field.proofs.boxes.longitude_of.Statement.{statement}
 use Rattle.field.proofs.boxes.longitude_of.Tie as tie
 
 longitudes-requires : tie.Need-longitudes-requires
-longitudes-requires c κs = search needs
+longitudes-requires c κs = tt
 
 three-requires : tie.Need-three-requires
-three-requires c κs = search needs
+three-requires c κs = tt
 
 line-or-requires : tie.Need-line-or-requires
-line-or-requires c κs = search needs
+line-or-requires c κs = tt
 
 returns : tie.Need-returns
 returns c = rw (c .line-or .ensures, c .before .three .ensures, c .before .before .longitudes .ensures)

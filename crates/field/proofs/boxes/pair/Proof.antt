@@ -1,19 +1,20 @@
 -- `field::boxes::pair` meets its contract: the check of a pair goes by its two lines.
+use native.Mathlib.Omega.{arith}
 use borrow.Author.Needs.{needs}
 use Rattle.field.proofs.boxes.pair.Statement.{statement}
 use Rattle.field.proofs.boxes.pair.Tie as tie
-use mathlib.Core.Path.{sym, _∙_}
+use mathlib.Core.Path.{sym}
 use denote.Ref.{now}
 use Rattle.field.proofs.Edges.{pair-lines}
 
 add-w : tie.Need-add-w
-add-w c = search needs
+add-w c = omega arith
 
 add-mid : tie.Need-add-mid
-add-mid c = search needs
+add-mid c = omega arith
 
 add-end : tie.Need-add-end
-add-end c = search needs
+add-end c = omega arith
 
 edge-line-requires : tie.Need-edge-line-requires
 edge-line-requires c κs = search needs
@@ -22,7 +23,7 @@ edge-line-requires-2 : tie.Need-edge-line-requires-2
 edge-line-requires-2 c κs = search needs
 
 two-lines-requires : tie.Need-two-lines-requires
-two-lines-requires c κs = search needs
+two-lines-requires c κs = tt
 
 returns : tie.Need-returns
 returns c =

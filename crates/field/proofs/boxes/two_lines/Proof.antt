@@ -17,7 +17,7 @@ enum-known-second-2 : tie.Need-enum-known-second-2
 enum-known-second-2 c = search needs
 
 in-order-requires : tie.Need-in-order-requires
-in-order-requires c κs = search needs
+in-order-requires c κs = tt
 
 returns : tie.Need-returns
 returns c = rw (c .before .first .given .1)

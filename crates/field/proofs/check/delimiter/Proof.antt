@@ -1,5 +1,4 @@
 -- `field::check::delimiter` meets its contract.
-use borrow.Author.Needs.{needs}
 use Rattle.field.proofs.check.delimiter.Statement.{statement}
 use Rattle.field.proofs.check.delimiter.Tie as tie
 use native.Mathlib.Omega.{arith}
@@ -16,7 +15,7 @@ returns c =
     rw (lt-leb (a .at + 1) (length (now (a .s))) (omega arith))
 
 shared-slice-read-if2 : tie.Need-shared-slice-read-if2
-shared-slice-read-if2 c = search needs
+shared-slice-read-if2 c = omega arith
 
 returns-2 : tie.Need-returns-2
 unfolding checkDelimiter
@@ -25,7 +24,7 @@ returns-2 c =
     rw (le-leb (a .at + 1) (length (now (a .s))) (omega arith), ne-eqb (getD (now (a .s)) (a .at) 0) 47 (c .if2 .taken))
 
 add-t3 : tie.Need-add-t3
-add-t3 c = search needs
+add-t3 c = omega arith
 
 returns-3 : tie.Need-returns-3
 unfolding checkDelimiter

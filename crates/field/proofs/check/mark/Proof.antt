@@ -1,5 +1,4 @@
 -- `field::check::mark` meets its contract.
-use borrow.Author.Needs.{needs}
 use Rattle.field.proofs.check.mark.Statement.{statement}
 use Rattle.field.proofs.check.mark.Tie as tie
 use native.Mathlib.Omega.{arith}
@@ -16,10 +15,10 @@ returns c =
     rw (lt-leb (a .at + 1) (length (now (a .s))) (omega arith))
 
 shared-slice-read-b : tie.Need-shared-slice-read-b
-shared-slice-read-b c = search needs
+shared-slice-read-b c = omega arith
 
 add-if2 : tie.Need-add-if2
-add-if2 c = search needs
+add-if2 c = omega arith
 
 returns-2 : tie.Need-returns-2
 unfolding checkMark
@@ -28,7 +27,7 @@ returns-2 c =
     rw (le-leb (a .at + 1) (length (now (a .s))) (omega arith), lt-leb (48 + a .least) (getD (now (a .s)) (a .at) 0) (c .if2 .taken))
 
 add-if3 : tie.Need-add-if3
-add-if3 c = search needs
+add-if3 c = omega arith
 
 returns-3 : tie.Need-returns-3
 unfolding checkMark
@@ -41,7 +40,7 @@ returns-3 c =
     )
 
 add-t6 : tie.Need-add-t6
-add-t6 c = search needs
+add-t6 c = omega arith
 
 returns-4 : tie.Need-returns-4
 unfolding checkMark

@@ -3,18 +3,16 @@ use borrow.Author.Needs.{needs}
 use Rattle.field.proofs.check.number.Statement.{statement}
 use Rattle.field.proofs.check.number.Tie as tie
 use native.Mathlib.Omega.{arith}
-use Prim.Native.Nat.{_+_, _≤_, _<_}
+use Prim.Native.Nat.{_+_, _≤_}
 use mathlib.Core.Path.{_≡_, sym, _∙_}
 use lib.ListN.{length}
 use denote.Ref.{now}
 use Rattle.text.specs.Parts.{part}
 use Rattle.field.specs.Decimal.{allDigits, value}
-use Rattle.field.specs.Steps.{numberOr}
 use Rattle.field.proofs.Decimal.{part-long}
 use Rattle.field.proofs.Number.{number-is, number-none, number-cut, number-other, number-above, number-below, number-fine}
 use mathlib.Core.Bool.{true}
 
--- [extra
 -- below 1000, the number is what the digits spell
 found : (c : tie.After-number-at) → c .number-at .result ≤ 999
     → let a = c .before .before .before .args in
@@ -26,10 +24,8 @@ found c h =
     let n = number-is (part (a .at) (a .w) (now (a .s))) (rw e at h) in
     (n .0, e ∙ n .1)
 
--- extra]
-
 add-end : tie.Need-add-end
-add-end c = search needs
+add-end c = omega arith
 
 returns : tie.Need-returns
 returns c = sym (number-cut _ _ _ _ _ (c .if1 .taken))

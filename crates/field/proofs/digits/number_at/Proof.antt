@@ -3,10 +3,10 @@ use Rattle.field.proofs.digits.number_at.Statement.{statement}
 use Rattle.field.proofs.digits.number_at.Tie as tie
 use native.Mathlib.Omega.{arith}
 use Prim.Native.Nat.{ℕ, _≤_, _<_, _+_, _-_, _*_, _^_}
-use lib.ListN.{length, drop, getD}
+use lib.ListN.{drop, getD}
 use lib.Dec.{lit<}
 use lib.Arith.{digits-lt}
-use mathlib.Core.Path.{_≡_, refl, sym, _∙_}
+use mathlib.Core.Path.{_≡_, refl, _∙_}
 use native.Mathlib.Nat.{pow-le-pow-right, pow-suc}
 use native.Mathlib.Numerals.{add-one}
 use denote.Ref.{now}
@@ -21,14 +21,11 @@ Inv-loop s at w n₀ i₀ n i = (i ≤ w) × (n < 10 ^ i) × (allDigits (part at
 abbrev μ-loop : tie.MeasureT-loop
 μ-loop s at w n₀ i₀ n i = w - i
 
--- [extra
 -- the digits so far, and one more, fit
 room : (c : tie.In-loop Inv-loop μ-loop) → c .before .loop .n * 10 + 10 < 2 ^ 31
 room c =
     let h : c .before .loop .i ≤ 2 = omega (arith, c .before .before .before .pre .1) in
     omega (arith, c .before .loop .inv .1, pow-le-pow-right {n = 10} (lit< tt) {i = c .before .loop .i} {j = 2} h)
-
--- extra]
 
 loop-holds : tie.Need-loop-holds Inv-loop μ-loop
 loop-holds c = (omega arith, lit< tt, refl, refl)

@@ -1,16 +1,14 @@
 -- `field::digits::three` meets its contract: three digits are worth what the definition says.
-use borrow.Author.Needs.{needs}
+use native.Mathlib.Omega.{arith}
 use Rattle.field.proofs.digits.three.Statement.{statement}
 use Rattle.field.proofs.digits.three.Tie as tie
 use mathlib.Core.Path.{_≡_, sym, _∙_}
-use mathlib.Core.Bool.{true, false, _&&_}
+use mathlib.Core.Bool.{true, _&&_}
 use Rattle.field.specs.Decimal.{isDigit}
-use Rattle.field.specs.Steps.{numberOr}
 use Rattle.text.proofs.Cases.{both-left, both-right}
 use Rattle.field.proofs.Decimal.{digit-low}
 use Rattle.field.proofs.Number.{three-digits, three-other}
 
--- [extra
 -- the three bytes are digits
 digits : (c : tie.Then1)
     → let a = c .before .before .before .before .args in
@@ -22,37 +20,35 @@ digits c =
     let xy = both-left (x .result && y .result) (z .result) (c .if1 .taken) in
     (sym (x .ensures) ∙ both-left (x .result) (y .result) xy, sym (y .ensures) ∙ both-right (x .result) (y .result) xy, sym (z .ensures) ∙ both-right (x .result && y .result) (z .result) (c .if1 .taken))
 
--- extra]
-
 is-digit-requires : tie.Need-is-digit-requires
-is-digit-requires c κs = search needs
+is-digit-requires c κs = tt
 
 is-digit-requires-2 : tie.Need-is-digit-requires-2
-is-digit-requires-2 c κs = search needs
+is-digit-requires-2 c κs = tt
 
 is-digit-requires-3 : tie.Need-is-digit-requires-3
-is-digit-requires-3 c κs = search needs
+is-digit-requires-3 c κs = tt
 
 worth-requires : tie.Need-worth-requires
 worth-requires c κs = digit-low _ (digits c .0)
 
 mul-result : tie.Need-mul-result
-mul-result c = search needs
+mul-result c = omega arith
 
 worth-requires-2 : tie.Need-worth-requires-2
 worth-requires-2 c κs = digit-low _ (digits (c .before) .1)
 
 mul-result-2 : tie.Need-mul-result-2
-mul-result-2 c = search needs
+mul-result-2 c = omega arith
 
 add-result : tie.Need-add-result
-add-result c = search needs
+add-result c = omega arith
 
 worth-requires-3 : tie.Need-worth-requires-3
 worth-requires-3 c κs = digit-low _ (digits (c .before .before) .2)
 
 add-result-2 : tie.Need-add-result-2
-add-result-2 c = search needs
+add-result-2 c = omega arith
 
 returns : tie.Need-returns
 returns c =

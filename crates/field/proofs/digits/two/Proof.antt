@@ -1,16 +1,14 @@
 -- `field::digits::two` meets its contract: two digits are worth what the definition says.
-use borrow.Author.Needs.{needs}
+use native.Mathlib.Omega.{arith}
 use Rattle.field.proofs.digits.two.Statement.{statement}
 use Rattle.field.proofs.digits.two.Tie as tie
 use mathlib.Core.Path.{_≡_, sym, _∙_}
-use mathlib.Core.Bool.{true, false, _&&_}
+use mathlib.Core.Bool.{true}
 use Rattle.field.specs.Decimal.{isDigit}
-use Rattle.field.specs.Steps.{numberOr}
 use Rattle.text.proofs.Cases.{both-left, both-right}
 use Rattle.field.proofs.Decimal.{digit-low}
 use Rattle.field.proofs.Number.{two-digits, two-other}
 
--- [extra
 -- both bytes are digits
 digits : (c : tie.Then1) → let a = c .before .before .before .args in (isDigit (a .a) ≡ true) × (isDigit (a .b) ≡ true)
 digits c =
@@ -18,25 +16,23 @@ digits c =
     let y = c .before .is-digit2 in
     (sym (x .ensures) ∙ both-left (x .result) (y .result) (c .if1 .taken), sym (y .ensures) ∙ both-right (x .result) (y .result) (c .if1 .taken))
 
--- extra]
-
 is-digit-requires : tie.Need-is-digit-requires
-is-digit-requires c κs = search needs
+is-digit-requires c κs = tt
 
 is-digit-requires-2 : tie.Need-is-digit-requires-2
-is-digit-requires-2 c κs = search needs
+is-digit-requires-2 c κs = tt
 
 worth-requires : tie.Need-worth-requires
 worth-requires c κs = digit-low _ (digits c .0)
 
 mul-result : tie.Need-mul-result
-mul-result c = search needs
+mul-result c = omega arith
 
 worth-requires-2 : tie.Need-worth-requires-2
 worth-requires-2 c κs = digit-low _ (digits (c .before) .1)
 
 add-result : tie.Need-add-result
-add-result c = search needs
+add-result c = omega arith
 
 returns : tie.Need-returns
 returns c =

@@ -1,14 +1,11 @@
 -- `field::record::edge_allowed` meets its contract: each exit is the case that the tests before it leave.
-use borrow.Author.Needs.{needs}
 use Rattle.field.proofs.record.edge_allowed.Statement.{statement}
 use Rattle.field.proofs.record.edge_allowed.Tie as tie
-use mathlib.Core.Path.{_≡_, sym, _∙_}
-use mathlib.Core.Bool.{Bool, true, false, _&&_}
-use lib.Dec.{eqb}
+use mathlib.Core.Path.{_≡_}
+use mathlib.Core.Bool.{true, false}
 use borrow.Author.Tests.{not-true, not-false, le-leb, lt-leb}
-use Rattle.field.specs.Boxes.{isLetter, belowZero, edgeAllowed}
+use Rattle.field.specs.Boxes.{isLetter, edgeAllowed}
 
--- [extra
 -- the letter is one of the two, or not
 letter : (c : tie.Else1) → let a = c .before .before .before .before .args in isLetter (a .c) (a .e .letter) ≡ true
 letter c = not-false _ (c .if1 .left)
@@ -16,10 +13,8 @@ letter c = not-false _ (c .if1 .left)
 other : (c : tie.Then1) → let a = c .before .before .before .before .args in isLetter (a .c) (a .e .letter) ≡ false
 other c = not-true _ (c .if1 .taken)
 
--- extra]
-
 wide-requires : tie.Need-wide-requires
-wide-requires c κs = search needs
+wide-requires c κs = tt
 
 returns : tie.Need-returns
 unfolding edgeAllowed

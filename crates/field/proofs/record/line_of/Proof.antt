@@ -1,18 +1,18 @@
 -- `field::record::line_of` meets its contract.
-use borrow.Author.Needs.{needs}
+use native.Mathlib.Omega.{arith}
 use Rattle.field.proofs.record.line_of.Statement.{statement}
 use Rattle.field.proofs.record.line_of.Tie as tie
 use borrow.Author.Tests.{eq-eqb, ne-eqb}
 use Rattle.field.specs.Boxes.{lineOf}
 
 wide-requires : tie.Need-wide-requires
-wide-requires c κs = search needs
+wide-requires c κs = tt
 
 sub-result : tie.Need-sub-result
-sub-result c = search needs
+sub-result c = omega arith
 
 add-result : tie.Need-add-result
-add-result c = search needs
+add-result c = omega arith
 
 returns : tie.Need-returns
 unfolding lineOf

@@ -7,7 +7,6 @@ use Rattle.text.specs.declared.Seen.the-variants.{Fine}
 use Rattle.field.specs.Boxes.{edgeAllowed}
 use Rattle.field.specs.Steps.{pairAllowed, inOrder}
 
--- [extra
 -- each edge is allowed
 first : (c : tie.After-enum-told) → let a = c .before .before .before .args in edgeAllowed (a .c) (a .at) (a .first) ≡ Fine
 first c = sym (c .before .before .edge-allowed .ensures) ∙ c .enum-told .given .1
@@ -21,10 +20,8 @@ tested : (c : tie.After-in-order)
     inOrder (a .falling) (a .c) (a .first) (a .second) ≡ c .in-order .result
 tested c = sym (c .in-order .ensures ∙ rw (c .before .line-of2 .ensures, c .before .before .line-of .ensures))
 
--- extra]
-
 edge-allowed-requires : tie.Need-edge-allowed-requires
-edge-allowed-requires c κs = search needs
+edge-allowed-requires c κs = tt
 
 enum-known-code : tie.Need-enum-known-code
 enum-known-code c = search needs
@@ -33,7 +30,7 @@ enum-told : tie.Need-enum-told
 enum-told c = search needs
 
 edge-allowed-requires-2 : tie.Need-edge-allowed-requires-2
-edge-allowed-requires-2 c κs = search needs
+edge-allowed-requires-2 c κs = tt
 
 enum-known-code-2 : tie.Need-enum-known-code-2
 enum-known-code-2 c = search needs
@@ -42,13 +39,13 @@ enum-told-2 : tie.Need-enum-told-2
 enum-told-2 c = search needs
 
 line-of-requires : tie.Need-line-of-requires
-line-of-requires c κs = search needs
+line-of-requires c κs = tt
 
 line-of-requires-2 : tie.Need-line-of-requires-2
-line-of-requires-2 c κs = search needs
+line-of-requires-2 c κs = tt
 
 in-order-requires : tie.Need-in-order-requires
-in-order-requires c κs = search needs
+in-order-requires c κs = tt
 
 returns : tie.Need-returns
 unfolding pairAllowed

@@ -1,31 +1,28 @@
 -- `field::record::region_allowed` meets its contract: the latitudes, then the longitudes.
+use native.Mathlib.Omega.{arith}
 use borrow.Author.Needs.{needs}
 use Rattle.field.proofs.record.region_allowed.Statement.{statement}
 use Rattle.field.proofs.record.region_allowed.Tie as tie
 use mathlib.Core.Path.{_≡_, sym, _∙_}
 use mathlib.Core.Bool.{true}
 use Prim.Native.Nat.{_+_}
-use Rattle.text.specs.declared.Seen.the-variants.{Fine}
 use Rattle.field.specs.Boxes.{latitude}
 use Rattle.field.specs.Steps.{pairAllowed}
 use Rattle.field.proofs.Pairs.{region-pairs}
 
--- [extra
 latitude-pair : (c : tie.After-pair-allowed)
     → let a = c .before .before .before .before .before .before .args in
     c .pair-allowed .result ≡ pairAllowed true latitude (a .b .north) (a .b .south) (a .at) (a .at + 3)
 latitude-pair c = c .pair-allowed .ensures ∙ rw (c .before .latitudes .ensures)
 
--- extra]
-
 latitudes-requires : tie.Need-latitudes-requires
-latitudes-requires c κs = search needs
+latitudes-requires c κs = tt
 
 add-pair-allowed : tie.Need-add-pair-allowed
-add-pair-allowed c = search needs
+add-pair-allowed c = omega arith
 
 pair-allowed-requires : tie.Need-pair-allowed-requires
-pair-allowed-requires c κs = search needs
+pair-allowed-requires c κs = tt
 
 enum-known-code : tie.Need-enum-known-code
 enum-known-code c = search needs
@@ -34,16 +31,16 @@ enum-told : tie.Need-enum-told
 enum-told c = search needs
 
 longitudes-requires : tie.Need-longitudes-requires
-longitudes-requires c κs = search needs
+longitudes-requires c κs = tt
 
 add-pair-allowed-2 : tie.Need-add-pair-allowed-2
-add-pair-allowed-2 c = search needs
+add-pair-allowed-2 c = omega arith
 
 add-pair-allowed-3 : tie.Need-add-pair-allowed-3
-add-pair-allowed-3 c = search needs
+add-pair-allowed-3 c = omega arith
 
 pair-allowed-requires-2 : tie.Need-pair-allowed-requires-2
-pair-allowed-requires-2 c κs = search needs
+pair-allowed-requires-2 c κs = tt
 
 returns : tie.Need-returns
 returns c =

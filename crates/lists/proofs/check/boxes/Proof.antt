@@ -4,15 +4,13 @@ use Rattle.lists.proofs.check.boxes.Statement.{statement}
 use Rattle.lists.proofs.check.boxes.Tie as tie
 use native.Mathlib.Omega.{arith}
 use lib.Dec.{lit≤}
-use Prim.Native.Nat.{ℕ, _≤_}
-use mathlib.Core.Path.{_≡_, sym, ap, _∙_}
+use mathlib.Core.Path.{_≡_, sym, _∙_}
 use denote.Ref.{now}
 use Rattle.field.specs.declared.Step.the-variants.{Next}
 use Rattle.field.specs.Fields.{checkNumber}
 use Rattle.field.proofs.Accepted.{Number, number}
 use Rattle.lists.specs.Lists.{checkList}
 
--- [extra
 -- the count is accepted
 seen : (c : tie.After-known-told2)
     → let a = c .before .before .before .before .before .args in
@@ -23,8 +21,6 @@ count : (c : tie.After-known-told2)
     → let a = c .before .before .before .before .before .args in
     Number 2 0 16 (now (a .s)) (a .at) (c .before .count2 .given .0 .0)
 count c = number _ _ _ _ _ _ (seen c)
-
--- extra]
 
 number-requires : tie.Need-number-requires
 number-requires c κs = (c .before .pre, (lit≤ tt, lit≤ tt))

@@ -3,11 +3,10 @@ use Rattle.lists.proofs.check.each_name.Statement.{statement}
 use Rattle.lists.proofs.check.each_name.Tie as tie
 use borrow.Author.Needs.{needs}
 use native.Mathlib.Omega.{arith}
-use Prim.Native.Nat.{ℕ, _≤_, _-_}
+use Prim.Native.Nat.{_≤_, _-_}
 use lib.ListN.{length}
 use mathlib.Core.Path.{_≡_, sym, _∙_}
 use denote.Ref.{now}
-use Rattle.field.specs.declared.Step.the-variants.{Next}
 use Rattle.field.proofs.Repeat.{repeat-end, repeat-turn, repeat-stop}
 use Rattle.field.proofs.Within.{airfield-within}
 use Rattle.field.specs.Fields.{checkAirfield, repeat}

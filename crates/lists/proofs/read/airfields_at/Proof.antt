@@ -4,21 +4,18 @@ use Rattle.lists.proofs.read.airfields_at.Statement.{statement}
 use Rattle.lists.proofs.read.airfields_at.Tie as tie
 use native.Mathlib.Omega.{arith}
 use lib.Dec.{lit≤}
-use Prim.Native.Nat.{ℕ, _+_, _*_, _≤_, _<_}
-use mathlib.Core.Path.{_≡_, ap, _∙_}
+use Prim.Native.Nat.{_+_, _*_, _<_}
+use mathlib.Core.Path.{_≡_, _∙_}
 use denote.Ref.{now}
 use Rattle.lists.specs.Lists.{airfieldsAt, countAt}
 use Rattle.lists.proofs.Accepted.{Named, airfields}
 
--- [extra
 -- the list was accepted
 named : (c : tie.Start) → let a = c .args in Named (now (a .s)) (a .at) (a .at + 2 + 4 * countAt (now (a .s)) (a .at))
 named c = airfields _ _ _ (c .pre .1)
 
 counted : (c : tie.After-wide) → c .wide .result ≡ countAt (now (c .before .before .before .args .s)) (c .before .before .before .args .at)
 counted c = c .wide .ensures ∙ c .before .small-at .ensures
-
--- extra]
 
 small-at-requires : tie.Need-small-at-requires
 small-at-requires c κs =

@@ -4,22 +4,19 @@ use Rattle.lists.proofs.read.boxes_at.Statement.{statement}
 use Rattle.lists.proofs.read.boxes_at.Tie as tie
 use native.Mathlib.Omega.{arith}
 use lib.Dec.{lit≤}
-use Prim.Native.Nat.{ℕ, _+_, _*_, _≤_, _<_}
-use mathlib.Core.Path.{_≡_, ap, _∙_}
+use Prim.Native.Nat.{_+_, _*_, _<_}
+use mathlib.Core.Path.{_≡_, _∙_}
 use denote.Ref.{now}
 use Rattle.field.specs.Boxes.{checkBox}
 use Rattle.lists.specs.Lists.{boxesAt, countAt}
 use Rattle.lists.proofs.Accepted.{Counted, counted}
 
--- [extra
 -- the list was accepted
 listed : (c : tie.Start) → let a = c .args in Counted 16 checkBox (now (a .s)) (a .at) (a .at + 2 + 14 * countAt (now (a .s)) (a .at))
 listed c = counted _ _ _ _ _ (c .pre .1)
 
 many : (c : tie.After-wide) → c .wide .result ≡ countAt (now (c .before .before .before .args .s)) (c .before .before .before .args .at)
 many c = c .wide .ensures ∙ c .before .small-at .ensures
-
--- extra]
 
 small-at-requires : tie.Need-small-at-requires
 small-at-requires c κs =

@@ -1,22 +1,20 @@
 -- `lists::read::regions_of` meets its contract. The loop's invariant: the boxes so far, and zeros; those that are left are accepted.
 use Rattle.lists.proofs.read.regions_of.Statement.{statement}
 use Rattle.lists.proofs.read.regions_of.Tie as tie
-use Prim.Native.Nat.{ℕ, _≤_, _+_, _-_, _*_}
-use lib.ListN.{length, set, replicate}
-use mathlib.Core.Path.{_≡_, refl, sym, ap, _∙_}
-use mathlib.Core.List.{List, _++_}
+use Prim.Native.Nat.{_≤_, _+_, _-_, _*_}
+use lib.ListN.{replicate}
+use mathlib.Core.Path.{_≡_, sym, ap, _∙_}
+use mathlib.Core.List.{_++_}
 use denote.Ref.{now}
 use Rattle.lists.proofs.Fill.{fill-turn, regions-more, regions-length}
-use Rattle.field.specs.declared.Region.{Region}
 use Rattle.field.specs.declared.Step.the-variants.{Next}
 use Rattle.field.specs.Fields.{repeat}
 use Rattle.field.specs.Boxes.{checkBox, noRegion, regionAt}
 use Rattle.field.proofs.Repeat.{repeat-next}
-use Rattle.field.proofs.Accepted.{box}
+use Rattle.field.proofs.Accepted.{box, box-room}
 use Rattle.lists.specs.Lists.{regionsAt}
 use borrow.Author.Needs.{needs}
 use native.Mathlib.Omega.{arith}
-use Rattle.field.proofs.Accepted.{box-room, next-same}
 
 abbrev Inv-loop : tie.InvT-loop
 Inv-loop s from n regions₀ p₀ i₀ regions p i = (i ≤ n) × (p ≡ from + 14 * i) × (repeat (checkBox s) (n - i) p ≡ Next (from + 14 * n)) × (regions ≡ regionsAt i s from ++ replicate (16 - i) noRegion)
@@ -24,7 +22,6 @@ Inv-loop s from n regions₀ p₀ i₀ regions p i = (i ≤ n) × (p ≡ from + 
 abbrev μ-loop : tie.MeasureT-loop
 μ-loop s from n regions₀ p₀ i₀ regions p i = n - i
 
--- [extra
 start-count : (c : tie.After-region-at Inv-loop μ-loop) → c .before .before .loop .i + 1 ≤ 16
 start-count c = omega (arith, c .before .before .before .before .before .pre .0)
 
@@ -37,8 +34,6 @@ accepted c =
     let s = now (a .s) in
     let x = repeat-next (checkBox s) (a .n) (l .i) (l .p) (a .from + 14 * a .n) (c .loop-test .taken) (l .inv .2) in
     x .first ∙ ap Next (sym (box s (l .p) (x .mid) (x .first) .0))
-
--- extra]
 
 no-region-requires : tie.Need-no-region-requires Inv-loop μ-loop
 no-region-requires c κs = search needs

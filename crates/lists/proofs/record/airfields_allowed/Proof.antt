@@ -3,15 +3,14 @@ use borrow.Author.Needs.{needs}
 use Rattle.lists.proofs.record.airfields_allowed.Statement.{statement}
 use Rattle.lists.proofs.record.airfields_allowed.Tie as tie
 use native.Mathlib.Omega.{arith}
-use Prim.Native.Nat.{_≤_, _*_}
+use Prim.Native.Nat.{_*_}
 use lib.ListN.{length, drop}
 use mathlib.Core.Path.{_≡_, sym, _∙_}
-use mathlib.Core.Bool.{true, false}
+use mathlib.Core.Bool.{true}
 use borrow.Author.Tests.{le-leb, lt-leb, not-true, not-false}
 use Rattle.lists.specs.Lists.{airfieldsAllowed, allZero}
 use lib.Dec.{leb}
 
--- [extra
 -- the array has its 80 bytes
 full : (c : tie.Start) → length (c .args .l .names) ≡ 80
 full c = search needs
@@ -23,8 +22,6 @@ zeros : (c : tie.After-zero-from)
     → let l = c .before .before .before .before .before .args .l in
     c .zero-from .result ≡ allZero (drop (4 * l .count) (l .names))
 zeros c = c .zero-from .ensures ∙ rw (c .before .before .before .before .wide .ensures)
-
--- extra]
 
 wide-requires : tie.Need-wide-requires
 wide-requires c κs = search needs

@@ -2,15 +2,13 @@
 use borrow.Author.Needs.{needs}
 use Rattle.lists.proofs.record.boxes_allowed.Statement.{statement}
 use Rattle.lists.proofs.record.boxes_allowed.Tie as tie
-use Prim.Native.Nat.{_≤_, _*_}
-use lib.ListN.{length, drop}
+use lib.ListN.{drop}
 use lib.Dec.{leb}
 use mathlib.Core.Path.{_≡_, sym, _∙_}
-use mathlib.Core.Bool.{true, false}
+use mathlib.Core.Bool.{true}
 use borrow.Author.Tests.{le-leb, lt-leb, not-true, not-false}
 use Rattle.lists.specs.Lists.{boxesAllowed, regionsZero}
 
--- [extra
 few : (c : tie.Else1) → leb (c .before .before .args .l .count) 16 ≡ true
 few c = le-leb _ 16 (rw (c .before .wide .ensures) at (c .if1 .left))
 
@@ -18,8 +16,6 @@ zeros : (c : tie.After-regions-zero)
     → let l = c .before .before .before .before .args .l in
     c .regions-zero .result ≡ regionsZero (drop (l .count) (l .regions))
 zeros c = c .regions-zero .ensures ∙ rw (c .before .before .before .wide .ensures)
-
--- extra]
 
 wide-requires : tie.Need-wide-requires
 wide-requires c κs = search needs

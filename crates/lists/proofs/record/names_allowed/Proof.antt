@@ -4,8 +4,8 @@ use Rattle.lists.proofs.record.names_allowed.Tie as tie
 use borrow.Author.Needs.{needs}
 use native.Mathlib.Omega.{arith}
 use Prim.Native.Nat.{ℕ, _≤_, _+_, _-_, _*_}
-use lib.ListN.{length, take, drop}
-use mathlib.Core.Path.{_≡_, refl, sym, ap, _∙_}
+use lib.ListN.{take, drop}
+use mathlib.Core.Path.{_≡_, sym, ap, _∙_}
 use borrow.Author.Tests.{not-true, not-false}
 use denote.Ref.{now}
 use Rattle.text.specs.Names.{allAllowed}
@@ -18,7 +18,6 @@ Inv-loop names n at p₀ q₀ i₀ p q i = (i ≤ n) × (p ≡ 4 * i) × (q ≡ 
 abbrev μ-loop : tie.MeasureT-loop
 μ-loop names n at p₀ q₀ i₀ p q i = n - i
 
--- [extra
 -- what is tested is the name's four bytes
 seen : (c : tie.After-all-allowed Inv-loop μ-loop)
     → let l = c .before .before .before in
@@ -28,8 +27,6 @@ seen c =
     let p = l .loop .p in
     let four : p + 4 - p ≡ 4 = omega arith in
     c .all-allowed .ensures ∙ ap (λ (k : ℕ). allAllowed (take k (drop p (now (l .before .before .args .names))))) four
-
--- extra]
 
 loop-holds : tie.Need-loop-holds Inv-loop μ-loop
 loop-holds c =

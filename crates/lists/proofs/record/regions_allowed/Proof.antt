@@ -3,12 +3,11 @@ use Rattle.lists.proofs.record.regions_allowed.Statement.{statement}
 use Rattle.lists.proofs.record.regions_allowed.Tie as tie
 use borrow.Author.Needs.{needs}
 use native.Mathlib.Omega.{arith}
-use Prim.Native.Nat.{_≤_, _+_, _-_, _*_}
+use Prim.Native.Nat.{_≤_, _+_, _-_, _*_, _<_}
 use lib.ListN.{length, drop}
-use mathlib.Core.Path.{_≡_, refl, sym, _∙_}
+use mathlib.Core.Path.{_≡_, sym, _∙_}
 use Rattle.lists.specs.Lists.{regionsAllowed}
 use Rattle.lists.proofs.Turns.{regions-turn, regions-stop, regions-end}
-use Prim.Native.Nat.{_<_}
 
 abbrev Inv-loop : tie.InvT-loop
 Inv-loop n at regions q₀ i₀ q i = (i ≤ n) × (q ≡ at + 14 * i) × (regionsAllowed n at regions ≡ regionsAllowed (n - i) q (drop i regions))
@@ -16,12 +15,9 @@ Inv-loop n at regions q₀ i₀ q i = (i ≤ n) × (q ≡ at + 14 * i) × (regio
 abbrev μ-loop : tie.MeasureT-loop
 μ-loop n at regions q₀ i₀ q i = n - i
 
--- [extra
 -- the array has its 16 boxes
 full : (c : tie.Start Inv-loop μ-loop) → length (c .args .t1) ≡ 16
 full c = search needs
-
--- extra]
 
 loop-holds : tie.Need-loop-holds Inv-loop μ-loop
 loop-holds c =

@@ -1,16 +1,14 @@
 -- `lists::record::regions_zero` meets its contract. The loop's invariant: from here on the boxes that are left decide.
 use Rattle.lists.proofs.record.regions_zero.Statement.{statement}
 use Rattle.lists.proofs.record.regions_zero.Tie as tie
-use Prim.Native.Nat.{_≤_, _-_}
+use Prim.Native.Nat.{_≤_, _-_, _<_}
 use mathlib.Core.Path.{_≡_, refl, sym, _∙_}
-use lib.ListN.{drop}
+use lib.ListN.{drop, length}
 use Rattle.lists.specs.Lists.{regionsZero}
 use borrow.Author.Needs.{needs}
 use native.Mathlib.Omega.{arith}
-use lib.ListN.{length}
 use borrow.Author.Tests.{not-true, not-false}
 use Rattle.lists.proofs.Turns.{regions-zero-turn, regions-zero-stop, regions-zero-end}
-use Prim.Native.Nat.{_<_}
 
 abbrev Inv-loop : tie.InvT-loop
 Inv-loop n regions i₀ i = (i ≤ 16) × (regionsZero (drop n regions) ≡ regionsZero (drop i regions))
@@ -18,12 +16,9 @@ Inv-loop n regions i₀ i = (i ≤ 16) × (regionsZero (drop n regions) ≡ regi
 abbrev μ-loop : tie.MeasureT-loop
 μ-loop n regions i₀ i = 16 - i
 
--- [extra
 -- the array has its 16 boxes
 full : (c : tie.Start Inv-loop μ-loop) → length (c .args .t1) ≡ 16
 full c = search needs
-
--- extra]
 
 loop-holds : tie.Need-loop-holds Inv-loop μ-loop
 loop-holds c = (c .pre, refl)

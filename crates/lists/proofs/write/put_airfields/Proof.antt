@@ -3,21 +3,18 @@ use borrow.Author.Needs.{needs}
 use Rattle.lists.proofs.write.put_airfields.Statement.{statement}
 use Rattle.lists.proofs.write.put_airfields.Tie as tie
 use native.Mathlib.Omega.{arith}
-use Prim.Native.Nat.{ℕ, _≤_, _+_, _-_, _*_}
+use Prim.Native.Nat.{_≤_, _+_, _*_}
 use lib.ListN.{length, take}
 use lib.Seq.{length-take-le}
-use mathlib.Core.Path.{_≡_, refl, sym, ap, _∙_}
-use mathlib.Core.List.{_++_}
+use mathlib.Core.Path.{_≡_, sym, _∙_}
 use denote.Ref.{now}
 use borrow.Rule.Slice.PartMut.{putMid}
-use Rattle.text.specs.Over.{over}
 use Rattle.text.proofs.Over.{then-copy}
 use Rattle.field.specs.Decimal.{decimal}
 use Rattle.field.proofs.Decimal.{decimal-length}
 use Rattle.lists.specs.Lists.{airfieldsText}
 use Rattle.lists.proofs.Spelling.{airfields-length, count-written}
 
--- [extra
 -- the array has its 80 bytes
 full : (c : tie.Start) → length (c .args .l .names) ≡ 80
 full c = search needs
@@ -25,8 +22,6 @@ full c = search needs
 -- the names in use lie in it
 used : (c : tie.After-wide) → 4 * c .wide .result ≤ length (c .before .before .args .l .names)
 used c = omega (arith, full (c .before .before), c .before .before .pre, c .wide .ensures)
-
--- extra]
 
 wide-requires : tie.Need-wide-requires
 wide-requires c κs = search needs

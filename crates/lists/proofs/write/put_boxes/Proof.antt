@@ -3,28 +3,22 @@ use borrow.Author.Needs.{needs}
 use Rattle.lists.proofs.write.put_boxes.Statement.{statement}
 use Rattle.lists.proofs.write.put_boxes.Tie as tie
 use native.Mathlib.Omega.{arith}
-use Prim.Native.Nat.{ℕ, _≤_, _+_, _-_, _*_}
-use lib.ListN.{length, take}
+use Prim.Native.Nat.{_+_, _*_}
+use lib.ListN.{length, take, length-map}
 use lib.Seq.{length-take-le}
-use mathlib.Core.Path.{_≡_, refl, sym, ap, _∙_}
-use mathlib.Core.List.{_++_}
+use mathlib.Core.Path.{_≡_, sym, _∙_}
 use denote.Ref.{now}
 use borrow.Rule.Slice.PartMut.{putMid}
-use Rattle.text.specs.Over.{over}
 use Rattle.text.proofs.Over.{then-part}
 use Rattle.field.specs.Decimal.{decimal}
 use Rattle.field.proofs.Decimal.{decimal-length}
 use Rattle.lists.specs.Lists.{boxesText, regionsText}
 use Rattle.lists.proofs.Turns.{regions-text-length}
 use Rattle.lists.proofs.Spelling.{boxes-length, count-written}
-use lib.ListN.{length-map}
 
--- [extra
 -- the array has its 16 boxes, as owning the record tells
 full : (c : tie.Start) → length (c .args .l .regions) ≡ 16
 full c = sym (length-map (c .args .l .regions) _) ∙ c .good .0 .1 .1 .1 .0 .1 .0 .1
-
--- extra]
 
 wide-requires : tie.Need-wide-requires
 wide-requires c κs = search needs

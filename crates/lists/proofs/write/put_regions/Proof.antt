@@ -22,7 +22,6 @@ Inv-loop n d₀ regions p₀ i₀ d p i = (i ≤ n) × (length d ≡ length d₀
 abbrev μ-loop : tie.MeasureT-loop
 μ-loop n d₀ regions p₀ i₀ d p i = n - i
 
--- [extra
 -- the array has its 16 boxes
 full : (c : tie.Start Inv-loop μ-loop) → length (c .args .t1) ≡ 16
 full c = search needs
@@ -45,8 +44,6 @@ written c =
     then-part (now (a .d)) (l .loop .d) (c .put-region .last .1 .0) (regionsText (take i (a .t1))) one 0 p (p + 14) (l .loop .inv .3) (omega arith)
     (omega (arith, region-length (getD (a .t1) i noRegion))) (omega (arith, start .pre, c .before .before .before .loop-test .taken)) (c .put-region .ensures)
     ∙ ap (over (now (a .d)) 0) (sym (regions-text-more (a .t1) i room))
-
--- extra]
 
 loop-holds : tie.Need-loop-holds Inv-loop μ-loop
 unfolding regionsText
