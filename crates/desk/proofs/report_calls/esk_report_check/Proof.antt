@@ -10,6 +10,7 @@ use mathlib.Core.Path.{_≡_, refl, sym, _∙_, ap}
 use Rattle.desk.specs.Records.{checkNumbers, writeNumbers}
 use Rattle.text.specs.declared.Seen.{Seen}
 use Rattle.text.specs.declared.Seen.the-variants.{Fine, Bad}
+use Rattle.report.specs.Report.{checkText}
 
 -- [extra
 same : (x : Seen) → writeNumbers x 0 ≡ checkNumbers x
@@ -27,7 +28,7 @@ numbers-requires : tie.Need-numbers-requires
 numbers-requires c κs = search needs
 
 returns : tie.Need-returns
-returns c = c .numbers .ensures ∙ rw (c .before .check .ensures) (same _)
+returns c = c .numbers .ensures ∙ rw (c .before .check .ensures) (same (checkText (c .before .before .before .before .before .args .text .now)))
 
 pub esk-report-check-spec : {M : Type 1} → statement M
 esk-report-check-spec =

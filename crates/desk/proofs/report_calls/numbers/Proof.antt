@@ -19,7 +19,7 @@ returns : tie.Need-returns
 returns c = rw (c .enum-told .given .1)
 
 returns-2 : tie.Need-returns-2
-returns-2 c = c .refused .ensures ∙ rw (c .before .before .code .given .1)
+returns-2 c = c .refused .ensures ∙ rw (c .before .before .seen .given .1)
 
 pub numbers-spec : {M : Type 1} → statement M
 numbers-spec = tie.close (tie.spec enum-told enum-known-seen refused-requires returns returns-2)
