@@ -1,3 +1,4 @@
 -- The laws that the layers above cite.
 pub mod Places
 pub mod Valid
+pub mod Steps
