@@ -2,3 +2,7 @@
 pub mod Places
 pub mod Valid
 pub mod Steps
+pub mod Joined
+pub mod Run
+pub mod Counted
+pub mod Demand
