@@ -101,3 +101,8 @@ pub joined-acts : (cs : List (List ℕ)) (x : Settings) → allFine cs ≡ true 
 unfolding joined
 joined-acts [] x a = act-none x
 joined-acts (c ∷ cs) x a = onto-acts cs c x (fine-first c cs a) (fine-rest c cs a)
+
+-- all accepted, each is applied
+pub acts-applied : (cs : List (List ℕ)) (x : Settings) → allFine cs ≡ true → foldl act x cs ≡ foldl applyTo x cs
+acts-applied [] x a = refl
+acts-applied (c ∷ cs) x a = rw (fine-first c cs a) (acts-applied cs (applyTo x c) (fine-rest c cs a))

@@ -7,3 +7,5 @@ pub mod Joined
 pub mod Run
 pub mod Counted
 pub mod Demand
+pub mod Words
+pub mod Night

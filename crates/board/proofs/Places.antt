@@ -129,6 +129,9 @@ waiting-any d [] = refl
 waiting-any d (x ∷ b) =
     rw (waiting-cons d x b) (by-test (isFor d x) (λ h. rw h (for-used d x h)) (λ h. rw h (waiting-any d b)))
 
+pub some-for : (d : List ℕ) (b : List Place) → isNone (waiting d b) ≡ false → any (isFor d) b ≡ true
+some-for d b e = by-test (any (isFor d) b) (λ h. h) (λ h. never (waiting-any d b ∙ rw h) e)
+
 pub nothing-for : (d : List ℕ) (b : List Place) → isNone (waiting d b) ≡ true → (j : ℕ) → isFor d (getD b j nowhere) ≡ false
 unfolding isFor isFree
 nothing-for d b e =

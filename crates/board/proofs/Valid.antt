@@ -53,6 +53,21 @@ unfolding waiting
 waiting-fine d b v h =
     valid-fine b v (lowest (isFor d) b) (for-used d (getD b (lowest (isFor d) b) nowhere) (lowest-passes (isFor d) b h))
 
+-- the aircraft of a used place is well formed
+pub valid-named : (b : List Place) → isValid b ≡ true → (i : ℕ) → isFree (getD b i nowhere) ≡ false
+    → isDesignator (getD b i nowhere .who) ≡ true
+unfolding isFree
+valid-named [] v i f = never refl f
+valid-named (x ∷ b) v zero f = used x b f (valid-first x b v) .named
+valid-named (x ∷ b) v (suc i) f = valid-named b (valid-rest x b v) i f
+
+-- so is one for which something waits
+pub waiting-named : (d : List ℕ) (b : List Place) → isValid b ≡ true → any (isFor d) b ≡ true → isDesignator d ≡ true
+waiting-named d b v h =
+    let x : Place = getD b (lowest (isFor d) b) nowhere in
+    let mine : isFor d x ≡ true = lowest-passes (isFor d) b h in
+    ap isDesignator (for-who d x mine) ∙ valid-named b v (lowest (isFor d) b) (for-used d x mine)
+
 -- ---- One place for one aircraft
 
 -- no two places of a valid board are for one aircraft
