@@ -9,3 +9,4 @@ pub mod Counted
 pub mod Demand
 pub mod Words
 pub mod Night
+pub mod Lent
