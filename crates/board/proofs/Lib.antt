@@ -10,3 +10,4 @@ pub mod Demand
 pub mod Words
 pub mod Night
 pub mod Lent
+pub mod Calls
