@@ -3,6 +3,7 @@ pub mod Codes
 pub mod Places
 pub mod Valid
 pub mod Steps
+pub mod Slots
 pub mod Joined
 pub mod Run
 pub mod Counted

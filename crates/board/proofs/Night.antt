@@ -10,8 +10,8 @@ use Rattle.section.specs.Layout.{layoutOf, checkItems, itemsSize, itemsMost}
 use Rattle.command.specs.Text.{checkEach, checkAwr04, checkHead, checkFrom, sectionsMost, longest, checkCommand}
 use Rattle.join.specs.Join.{bytesFrom, choose, joinSections, joinText}
 use Rattle.join.proofs.Printed.{first, second, both}
-use Rattle.board.specs.Board.{Place, isFree, isFor, any, lowest, waiting, isValid, Reply, Given, Refused, add, takeOut}
-use Rattle.board.specs.History.{Event, Add, Take, Entry, sinceFrom, joined, logged, member, callers, busyAmong, calledFor}
+use Rattle.board.specs.Board.{Place, nowhere, isFree, isFor, any, lowest, waiting, isValid, Reply, Given, Refused, add, takeOut}
+use Rattle.board.specs.History.{Event, Add, Take, Entry, sinceFrom, joined, after, logged, member, callers, busyAmong, calledFor}
 
 abbrev said : Event → Reply → Entry
 said e r = record { event = e; reply = r }
@@ -19,12 +19,15 @@ said e r = record { event = e; reply = r }
 abbrev asked : List Entry → List Event
 asked log = map (λ (x : Entry). x .event) log
 
--- `XY0001` and `ZZ0001`
+-- `XY0001`, `ZZ0001` and `ZY0001`
 abbrev xy : List ℕ
 xy = 88 ∷ 89 ∷ 48 ∷ 48 ∷ 48 ∷ 49 ∷ []
 
 abbrev zz : List ℕ
 zz = 90 ∷ 90 ∷ 48 ∷ 48 ∷ 48 ∷ 49 ∷ []
+
+abbrev zy : List ℕ
+zy = 90 ∷ 89 ∷ 48 ∷ 48 ∷ 48 ∷ 49 ∷ []
 
 -- ---- One slot: two commands for one aircraft, one for another, too little room, two takings, then the other again
 
@@ -68,3 +71,13 @@ pair-called = refl
 pair-logged : logged (record { who = []; text = [] } ∷ record { who = []; text = [] } ∷ []) (asked pair) ≡ pair
 unfolding logged add takeOut isValid any lowest isFor isFree waiting sameBytes allowed allAllowed first second checkCommand longest sectionsMost layoutOf itemsMost checkHead checkAwr04 checkEach checkDelimiter checkFrom checkItems checkNumber allDigits valueFrom
 pair-logged = refl
+
+-- ---- Which slots are used: the lowest free one, the freed one again
+
+abbrev refilled : List Event
+refilled = Add xy first ∷ Add zz second ∷ Take xy 31 ∷ Add zy second ∷ []
+
+slots-used : after (nowhere ∷ nowhere ∷ nowhere ∷ []) refilled
+    ≡ record { who = zy; text = second } ∷ record { who = zz; text = second } ∷ nowhere ∷ []
+unfolding after add takeOut isValid any lowest isFor isFree waiting sameBytes allowed allAllowed first second checkCommand longest sectionsMost layoutOf itemsMost checkHead checkAwr04 checkEach checkDelimiter checkFrom checkItems checkNumber allDigits valueFrom
+slots-used = refl
