@@ -1,11 +1,10 @@
 -- A run of calls on what is lent is the run of the events on the board that it stands for.
-use mathlib.Core.Path.{_≡_, refl, sym, ap, ap₂, _∙_}
-use mathlib.Core.Bool.{Bool, true, false, cond, _&&_}
-use mathlib.Core.List.{List, [], _∷_, foldl}
-use Prim.Native.Nat.{ℕ, zero, _≤_, _<_}
-use native.Mathlib.Omega.{arith}
+use mathlib.Core.Path.{_≡_, refl, ap, ap₂, _∙_}
+use mathlib.Core.Bool.{true, false}
+use mathlib.Core.List.{List, [], _∷_}
+use Prim.Native.Nat.{ℕ}
 use lib.Dec.{leb, eqb}
-use lib.ListN.{length, take, drop, getD}
+use lib.ListN.{length, drop}
 use borrow.Author.Tests.{eqb-true}
 use Rattle.text.specs.declared.Seen.{Seen}
 use Rattle.text.specs.declared.Seen.the-variants.{Fine, Bad}
@@ -13,17 +12,17 @@ use Rattle.text.proofs.Cases.{by-test, both-left, both-right}
 use Rattle.command.specs.Text.{longest, checkCommand}
 use Rattle.config.specs.Config.{isFine}
 use Rattle.join.specs.Join.{joinText}
-use Rattle.board.specs.Board.{isDesignator, Place, isFree, isFor, any, lowest, waiting, isValid, Move, Stay, Put, Free, onSeen, placed, add, takeOut, onBoard, replyOf}
-use Rattle.board.specs.History.{Event, Add, Take, Entry, since, joined, move, after, logged, isEmptyBoard, calledFor, act, Demand3}
+use Rattle.board.specs.Board.{isDesignator, Place, isFree, isFor, any, waiting, isValid, Move, Stay, onSeen, placed, add, takeOut, onBoard, replyOf}
+use Rattle.board.specs.History.{Event, Add, Take, move, after, logged, isEmptyBoard, calledFor}
 use Rattle.board.specs.Lent.{boardOf, isShaped, addLent, takeLent, isValidLent, onSlots, onArea}
 use Rattle.board.specs.Calls.{Lent, boardIn, call, onLent, afterCalls, loggedCalls, allFree, Demand3Lent}
 use Rattle.board.specs.declared.Slot.{Slot}
-use Rattle.board.proofs.Places.{both, lowest-inside}
+use Rattle.board.proofs.Places.{lowest-inside}
 use Rattle.board.proofs.Valid.{waiting-fine}
 use Rattle.board.proofs.Steps.{joins}
 use Rattle.board.proofs.Joined.{accepted-short}
 use Rattle.board.proofs.Demand.{demand3}
-use Rattle.board.proofs.Lent.{Shape, shape, shaped, length-board, Sits, moved, shape-kept}
+use Rattle.board.proofs.Lent.{shape, shaped, length-board, Sits, moved, shape-kept}
 
 -- ---- One call
 

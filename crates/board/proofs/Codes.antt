@@ -1,13 +1,12 @@
 -- A command's own refusals are codes 1 to 8: none of the board's 9, 10 and 11.
 use mathlib.Core.Path.{_≡_, refl}
-use mathlib.Core.Bool.{Bool, true, false, cond, _&&_}
+use mathlib.Core.Bool.{Bool, true, false, cond}
 use mathlib.Core.List.{List, [], _∷_}
 use Prim.Native.Nat.{ℕ, zero, suc, _+_, _≤_}
 use native.Mathlib.Omega.{arith}
 use lib.Dec.{leb, eqb}
 use lib.ListN.{length}
 use borrow.Author.Tests.{leb-true}
-use Rattle.text.specs.declared.Seen.{Seen}
 use Rattle.text.specs.declared.Seen.the-variants.{Fine, Bad}
 use Rattle.field.specs.Fields.{after, checkNumber, checkMark, checkDelimiter, checkAirfield, repeat}
 use Rattle.field.specs.Boxes.{checkEdge, checkPair, checkBox}
@@ -17,7 +16,7 @@ use Rattle.field.specs.declared.Circle.{Circle}
 use Rattle.field.specs.declared.Edge.{Edge}
 use Rattle.lists.specs.Lists.{checkList}
 use Rattle.section.specs.Layout.{Item, Number, Mark, AirfieldList, BoxList, layoutOf, checkItem, checkItems}
-use Rattle.command.specs.Text.{numbers, isNamed, headBytes, checkEach, checkAwr04, checkHead, checkFrom, longest, ended, checkCommand}
+use Rattle.command.specs.Text.{numbers, isNamed, checkEach, checkAwr04, checkHead, checkFrom, longest, ended, checkCommand}
 
 abbrev codeOf : Step → ℕ
 codeOf (Next at) = 0

@@ -11,11 +11,11 @@ use Rattle.text.specs.Equal.{sameBytes}
 use Rattle.text.proofs.Cases.{by-test, both-left, both-right}
 use Rattle.text.proofs.Equal.{same-equal, same-self}
 use Rattle.board.specs.Board.{Place, isNone, isFree, isFor, any, waiting, isValid}
-use Rattle.board.specs.History.{Event, Add, Take, Entry, aircraft, heard, sinceFrom, since, joined, member, callers, noCommands, busyAmong, busy}
+use Rattle.board.specs.History.{Event, Add, Take, Entry, aircraft, heard, sinceFrom, since, member, callers, noCommands, busyAmong, busy}
 use Rattle.board.specs.Board.{Reply, Given, Refused}
 use Rattle.board.proofs.Places.{never, both, waiting-any}
 use Rattle.board.proofs.Valid.{used, valid-first, valid-rest}
-use Rattle.board.proofs.Joined.{allFine, joined-none}
+use Rattle.board.proofs.Joined.{joined-none}
 use Rattle.board.proofs.Run.{InStep}
 
 -- ---- Lists without repeats

@@ -1,15 +1,11 @@
 -- Demand 3: any run of adds and takings on a board that began empty, and what it says in the demand's own words.
-use mathlib.Core.Path.{_≡_, refl, sym, ap, ap₂, _∙_}
-use mathlib.Core.Bool.{Bool, true, false, cond, not, _&&_}
-use mathlib.Core.List.{List, [], _∷_, _++_, foldl}
-use Prim.Native.Nat.{ℕ, _≤_}
-use native.Mathlib.Omega.{arith}
-use lib.Dec.{ltb}
+use mathlib.Core.Path.{_≡_, refl, ap₂, _∙_}
+use mathlib.Core.Bool.{Bool, true}
+use mathlib.Core.List.{List, [], _∷_, _++_}
+use Prim.Native.Nat.{ℕ}
 use lib.ListN.{length}
-use Rattle.section.specs.declared.Settings.{Settings}
-use Rattle.command.specs.Text.{longest}
-use Rattle.board.specs.Board.{Place, isFree, any, waiting, isValid, Move, onBoard, Reply, Given, Refused, replyOf}
-use Rattle.board.specs.History.{Event, Entry, aircraft, since, joined, move, after, logged, isEmptyBoard, due, busy, replyTo, calledFor, act, Demand3}
+use Rattle.board.specs.Board.{Place, Move, onBoard, Reply, replyOf}
+use Rattle.board.specs.History.{Event, Entry, aircraft, since, move, after, logged, isEmptyBoard, due, replyTo, calledFor, Demand3}
 use Rattle.board.proofs.Steps.{right}
 use Rattle.board.proofs.Joined.{waiting-short, joined-acts}
 use Rattle.board.proofs.Run.{InStep, entry, empty-in-step, event-in-step, run-in-step, length-move}

@@ -1,6 +1,6 @@
 -- What is lent and the board that it stands for: a place read, a text written, a place freed, and the shape kept.
 use mathlib.Core.Path.{_≡_, refl, sym, ap, ap₂, _∙_}
-use mathlib.Core.Bool.{Bool, true, false, _&&_}
+use mathlib.Core.Bool.{Bool, true, _&&_}
 use mathlib.Core.List.{List, [], _∷_, _++_, append-assoc}
 use Prim.Native.Nat.{ℕ, zero, suc, _+_, _-_, _*_, _≤_, _<_}
 use native.Mathlib.Omega.{arith}
@@ -10,10 +10,10 @@ use lib.ListN.{length, take, drop, getD, set, length-set, length-take, length-dr
 use lib.Seq.{drop-at, take-append-le, take-append-seam, take-take, take-add, drop-drop, length-take-le, drop-append-add}
 use borrow.Author.Tests.{le-leb, leb-true, eqb-true, eq-eqb, ne-eqb}
 use Rattle.text.specs.Over.{over}
-use Rattle.text.proofs.Cases.{by-test, both-left, both-right}
+use Rattle.text.proofs.Cases.{both-left, both-right}
 use Rattle.text.proofs.Over.{length-over}
 use Rattle.command.specs.Text.{longest}
-use Rattle.board.specs.Board.{Place, nowhere, isNone, isFree, Move, Stay, Put, Free, onBoard}
+use Rattle.board.specs.Board.{nowhere, isNone, isFree, Move, Stay, Put, Free, onBoard}
 use Rattle.board.specs.Lent.{boardOf, lengthsFit, isShaped, noSlot, onSlots, onArea}
 use Rattle.board.specs.declared.Slot.{Slot}
 use Rattle.board.proofs.Places.{both}

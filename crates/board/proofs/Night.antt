@@ -10,7 +10,7 @@ use Rattle.section.specs.Layout.{layoutOf, checkItems, itemsSize, itemsMost}
 use Rattle.command.specs.Text.{checkEach, checkAwr04, checkHead, checkFrom, sectionsMost, longest, checkCommand}
 use Rattle.join.specs.Join.{bytesFrom, choose, joinSections, joinText}
 use Rattle.join.proofs.Printed.{first, second, both}
-use Rattle.board.specs.Board.{Place, nowhere, isFree, isFor, any, lowest, waiting, isValid, Reply, Given, Refused, add, takeOut}
+use Rattle.board.specs.Board.{nowhere, isFree, isFor, any, lowest, waiting, isValid, Reply, Given, Refused, add, takeOut}
 use Rattle.board.specs.History.{Event, Add, Take, Entry, sinceFrom, joined, after, logged, member, callers, busyAmong, calledFor}
 
 abbrev said : Event → Reply → Entry

@@ -1,19 +1,18 @@
 -- One event on a valid board: what it replies, what then waits for each aircraft, and that the board stays valid.
 use mathlib.Core.Path.{_≡_, refl, sym, ap, _∙_}
-use mathlib.Core.Bool.{Bool, true, false, cond, not, _&&_}
+use mathlib.Core.Bool.{true, false, cond}
 use mathlib.Core.List.{List, [], _∷_}
-use Prim.Native.Nat.{ℕ, _≤_, _<_}
+use Prim.Native.Nat.{ℕ}
 use native.Mathlib.Omega.{arith}
 use lib.Dec.{leb}
-use lib.ListN.{length, getD, set}
+use lib.ListN.{length, getD}
 use Rattle.text.specs.Equal.{sameBytes}
 use Rattle.text.specs.declared.Seen.{Seen}
 use Rattle.text.specs.declared.Seen.the-variants.{Fine, Bad}
 use Rattle.text.proofs.Cases.{by-test}
-use Rattle.text.proofs.Checks.{bad-fine}
 use Rattle.text.proofs.Equal.{same-equal}
 use Rattle.command.specs.Text.{checkCommand}
-use Rattle.command.proofs.Accepted.{Accepted, accepted}
+use Rattle.command.proofs.Accepted.{accepted}
 use Rattle.config.specs.Config.{isFine}
 use Rattle.join.specs.Join.{joinText}
 use Rattle.join.proofs.Laws.{join-fine}

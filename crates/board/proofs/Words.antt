@@ -13,14 +13,14 @@ use Rattle.text.proofs.Equal.{same-self}
 use Rattle.section.specs.declared.Settings.{Settings}
 use Rattle.command.specs.Text.{checkCommand}
 use Rattle.config.specs.Config.{isFine, applyTo}
-use Rattle.board.specs.Board.{isDesignator, Place, isNone, isFree, any, waiting, isValid, Move, Stay, Put, Free, onBoard, Reply, Given, Refused, replyOf}
+use Rattle.board.specs.Board.{isDesignator, Place, isNone, isFree, any, waiting, isValid, Move, Stay, Put, Free, onBoard, Given, Refused, replyOf}
 use Rattle.board.specs.History.{Event, Add, Take, Entry, aircraft, heard, since, onto, joined, move, after, logged, isEmptyBoard, toldSeen, due, noCommands, act}
 use Rattle.board.proofs.Codes.{check-low}
 use Rattle.board.proofs.Places.{never, none-is, some-for}
 use Rattle.board.proofs.Valid.{waiting-fine, waiting-named}
 use Rattle.board.proofs.Steps.{is-fine, right}
 use Rattle.board.proofs.Joined.{joined-none, joined-acts, act-fine, acts-applied}
-use Rattle.board.proofs.Run.{InStep, entry, since-snoc}
+use Rattle.board.proofs.Run.{entry, since-snoc}
 use Rattle.board.proofs.Demand.{in-step}
 
 -- ---- One event more
