@@ -64,7 +64,8 @@ call-ten x (Add d t) h = by-test (isShaped (x .slots) (x .area)) (λ s. rw (s, r
 call-ten x (Take d room) h = by-test (isShaped (x .slots) (x .area)) (λ s. rw (s, rw s at h)) (λ s. rw s)
 
 module _ (x : Lent) (e : Event) (h : isShaped (x .slots) (x .area) ≡ true) where
-  call-sits : Sits (length (x .slots)) (call x e)
+  -- it names one of the slots and a text that a slot holds
+  pub call-sits : Sits (length (x .slots)) (call x e)
   call-sits =
       rw (call-move x e h) (rw (length-board (x .slots) (x .area)) at (sits (boardIn x) e))
 
@@ -86,6 +87,7 @@ pub record RunsAs (x : Lent) (es : List Event) : Type 0 where
   pub board : boardIn (afterCalls x es) ≡ after (boardIn x) es
   pub log : loggedCalls x es ≡ logged (boardIn x) es
 
+-- a run of calls on what is lent is the run on its board
 pub run-lent : (es : List Event) (x : Lent) → isShaped (x .slots) (x .area) ≡ true → RunsAs x es
 unfolding afterCalls loggedCalls after logged
 run-lent [] x h = record { is-shaped = h; board = refl; log = refl }

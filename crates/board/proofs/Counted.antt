@@ -10,9 +10,8 @@ use borrow.Author.Tests.{lt-ltb, le-ltb}
 use Rattle.text.specs.Equal.{sameBytes}
 use Rattle.text.proofs.Cases.{by-test, both-left, both-right}
 use Rattle.text.proofs.Equal.{same-equal, same-self}
-use Rattle.board.specs.Board.{Place, isNone, isFree, isFor, any, waiting, isValid}
+use Rattle.board.specs.Board.{Place, isNone, isFree, isFor, any, waiting, isValid, Reply, Given, Refused}
 use Rattle.board.specs.History.{Event, Add, Take, Entry, aircraft, heard, sinceFrom, since, member, callers, noCommands, busyAmong, busy}
-use Rattle.board.specs.Board.{Reply, Given, Refused}
 use Rattle.board.proofs.Places.{never, both, waiting-any}
 use Rattle.board.proofs.Valid.{used, valid-first, valid-rest}
 use Rattle.board.proofs.Joined.{joined-none}
@@ -102,6 +101,7 @@ holders-free [] e = never e refl
 holders-free (x ∷ b) e =
     by-test (isFree x) (λ f. rw f (omega (arith, holders-few b))) (λ f. rw f (omega (arith, holders-free b (rw f at e))))
 
+-- and none is where they are as many
 pub holders-full : (b : List Place) → any isFree b ≡ false → length (holders b) ≡ length b
 unfolding holders any
 holders-full [] e = refl

@@ -35,6 +35,7 @@ module _ (b : List Place) (es : List Event) (o : isEmptyBoard b ≡ true) where
   pub in-step : InStep (after b es) (logged b es)
   in-step = run-in-step b [] es (empty-in-step b o)
 
+  -- all of demand 3, after any run on a board that began empty
   pub demand3 : Demand3 b es
   demand3 =
       record {

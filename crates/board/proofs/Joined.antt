@@ -61,6 +61,7 @@ module _ (c : List ℕ) (cs : List (List ℕ)) (a : allFine (c ∷ cs) ≡ true)
   unfolding allFine
   fine-rest = both-right (isFine (checkCommand c)) (allFine cs) a
 
+-- one more
 pub fine-snoc : (cs : List (List ℕ)) (t : List ℕ) → allFine cs ≡ true → isFine (checkCommand t) ≡ true
     → allFine (cs ++ (t ∷ [])) ≡ true
 unfolding allFine

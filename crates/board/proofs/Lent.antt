@@ -20,7 +20,8 @@ use Rattle.board.proofs.Places.{both}
 
 -- ---- A text written at a place, seen from before it and from behind it
 
-take-over : (d : List ℕ) (at n : ℕ) (t : List ℕ) → n ≤ at → at ≤ length d → take n (over d at t) ≡ take n d
+-- before it nothing changes
+pub take-over : (d : List ℕ) (at n : ℕ) (t : List ℕ) → n ≤ at → at ≤ length d → take n (over d at t) ≡ take n d
 unfolding over
 take-over d at n t h l =
     rw (
@@ -29,7 +30,8 @@ take-over d at n t h l =
     )
     (take-take n at d h)
 
-drop-over : (d : List ℕ) (n m : ℕ) (t : List ℕ) → n ≤ length d → drop n (over d (n + m) t) ≡ over (drop n d) m t
+-- what begins before it has it as much later
+pub drop-over : (d : List ℕ) (n m : ℕ) (t : List ℕ) → n ≤ length d → drop n (over d (n + m) t) ≡ over (drop n d) m t
 unfolding over
 drop-over d n m t l =
     rw (
@@ -64,6 +66,7 @@ pub record Shape (xs : List Slot) (area : List ℕ) : Type 0 where
   pub bytes : length area ≡ longest * length xs
   pub fit : lengthsFit xs ≡ true
 
+-- which the test says
 pub shape : (xs : List Slot) (area : List ℕ) → isShaped xs area ≡ true → Shape xs area
 unfolding isShaped
 shape xs area e =
@@ -76,6 +79,7 @@ shape xs area e =
       fit = both-right bytes (lengthsFit xs) rest;
     }
 
+-- and nothing else
 pub shaped : (xs : List Slot) (area : List ℕ) → Shape xs area → isShaped xs area ≡ true
 unfolding isShaped
 shaped xs area h =

@@ -12,3 +12,4 @@ pub mod Words
 pub mod Night
 pub mod Lent
 pub mod Calls
+pub mod Bytes

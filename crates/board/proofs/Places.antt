@@ -72,13 +72,14 @@ module _ (test : Place → Bool) where
       (λ h. absurd (omega (arith, rw h at l)))
       (λ h. lowest-first b j (omega (arith, rw h at l)))
 
-  -- some place passes exactly where the lowest is one of the board
+  -- where some place passes, the lowest is one of the board
   pub lowest-inside : (b : List Place) → any test b ≡ true → lowest test b < length b
   unfolding any lowest
   lowest-inside [] e = never e refl
   lowest-inside (x ∷ b) e =
       by-test (test x) (λ h. rw h (omega arith)) (λ h. rw h (omega (arith, lowest-inside b (rw h at e))))
 
+  -- and the other way round
   pub inside-any : (b : List Place) → lowest test b < length b → any test b ≡ true
   unfolding any lowest
   inside-any [] l = absurd (omega arith)
@@ -122,16 +123,18 @@ unfolding waiting
 waiting-none d [] o = refl
 waiting-none d (x ∷ b) o = rw (waiting-cons d x b, o zero) (waiting-none d b (λ j. o (suc j)))
 
--- something waits exactly where a place is for it
+-- something waits exactly where some place is for it
 pub waiting-any : (d : List ℕ) (b : List Place) → isNone (waiting d b) ≡ not (any (isFor d) b)
 unfolding any waiting isFree
 waiting-any d [] = refl
 waiting-any d (x ∷ b) =
     rw (waiting-cons d x b) (by-test (isFor d x) (λ h. rw h (for-used d x h)) (λ h. rw h (waiting-any d b)))
 
+-- where something waits, a place is for it
 pub some-for : (d : List ℕ) (b : List Place) → isNone (waiting d b) ≡ false → any (isFor d) b ≡ true
 some-for d b e = by-test (any (isFor d) b) (λ h. h) (λ h. never (waiting-any d b ∙ rw h) e)
 
+-- where nothing does, none is
 pub nothing-for : (d : List ℕ) (b : List Place) → isNone (waiting d b) ≡ true → (j : ℕ) → isFor d (getD b j nowhere) ≡ false
 unfolding isFor isFree
 nothing-for d b e =

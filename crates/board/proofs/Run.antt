@@ -118,12 +118,13 @@ run-in-step b log [] s = rw (append-nil log) s
 run-in-step b log (e ∷ es) s =
     rw append-assoc at (run-in-step (onBoard (move b e) b) (log ++ (entry b e ∷ [])) es (event-in-step b log e s))
 
--- a run keeps the number of slots
+-- a move keeps the number of slots
 pub length-move : (m : Move) (b : List Place) → length (onBoard m b) ≡ length b
 length-move (Stay code place) b = refl
 length-move (Put i d t) b = length-set b i (record { who = d; text = t })
 length-move (Free i t) b = length-set b i _
 
+-- and so does every run
 pub length-after : (b : List Place) (es : List Event) → length (after b es) ≡ length b
 unfolding after
 length-after b [] = refl

@@ -46,10 +46,12 @@ next d w (Add e t) (Refused code place) = w
 next d w (Take e room) (Given x) = cond (sameBytes d e) [] w
 next d w (Take e room) (Refused code place) = w
 
+-- a later command is joined on
 pub onto-some : (w t : List ℕ) → isNone w ≡ false → onto w t ≡ joinText w t
 onto-some [] t e = never refl e
 onto-some (b ∷ w) t e = refl
 
+-- the first waits as it came
 pub onto-none : (w t : List ℕ) → isNone w ≡ true → onto w t ≡ t
 onto-none w t e = rw (none-is w e)
 
@@ -109,6 +111,7 @@ module _ (b : List Place) (v : isValid b ≡ true) where
               ∙ by-test (sameBytes e d) (λ y. rw (y, same-equal e d y, onto-none (waiting d b) t nothing)) (λ q. rw q);
         }
 
+  -- every add does what is right
   pub right-add : (d t : List ℕ) → Right b (Add d t) (add b d t)
   unfolding add
   right-add d t =
@@ -143,6 +146,7 @@ module _ (b : List Place) (v : isValid b ≡ true) where
             (λ q. rw q (waiting-kept e b i x (for-one d e (getD b i nowhere) mine q) (free-for e x refl)));
       }
 
+  -- and every taking
   pub right-take : (d : List ℕ) (room : ℕ) → Right b (Take d room) (takeOut b d room)
   unfolding takeOut
   right-take d room =

@@ -7,6 +7,8 @@ use native.Mathlib.Omega.{arith}
 use lib.ListN.{length, getD, set}
 use lib.Seq.{getD-set-same, getD-set-other}
 use Rattle.text.proofs.Cases.{by-test, by-eq, both-left, both-right}
+use Rattle.text.specs.Equal.{sameBytes}
+use Rattle.text.proofs.Equal.{equal-same}
 use Rattle.command.specs.Text.{checkCommand}
 use Rattle.config.specs.Config.{isFine}
 use Rattle.board.specs.Board.{isDesignator, Place, nowhere, isNone, isFree, isFor, any, lowest, waiting, isSound, isValid}
@@ -20,6 +22,7 @@ pub record Used (x : Place) (rest : List Place) : Type 0 where
   pub fine : isFine (checkCommand (x .text)) ≡ true
   pub alone : isNone (waiting (x .who) rest) ≡ true
 
+-- which a sound place is, where it is used
 pub used : (x : Place) (rest : List Place) → isFree x ≡ false → isSound x rest ≡ true → Used x rest
 used x rest f e =
     let n : Bool = isDesignator (x .who) in
@@ -29,11 +32,12 @@ used x rest f e =
     let right : (c && o) ≡ true = both-right n (c && o) both in
     record { named = both-left n (c && o) both; fine = both-left c o right; alone = both-right c o right }
 
--- the first place of a valid board is sound, and the rest is valid
+-- the first place of a valid board is sound
 pub valid-first : (x : Place) (b : List Place) → isValid (x ∷ b) ≡ true → isSound x b ≡ true
 unfolding isValid
 valid-first x b v = both-left (isSound x b) (isValid b) v
 
+-- and the rest is valid
 pub valid-rest : (x : Place) (b : List Place) → isValid (x ∷ b) ≡ true → isValid b ≡ true
 unfolding isValid
 valid-rest x b v = both-right (isSound x b) (isValid b) v
@@ -83,6 +87,51 @@ only d (x ∷ b) v (suc i) zero h n =
     (λ k. never h (nothing-for d b (rw (for-who d x k) (used x b (for-used d x k) (valid-first x b v) .alone)) i))
     (λ k. k)
 only d (x ∷ b) v (suc i) (suc j) h n = only d b (valid-rest x b v) i j h (λ (e : j ≡ i). n (ap suc e))
+
+-- ---- Document 01's own words
+
+-- used designators well formed and different, used texts accepted
+pub record Proper (b : List Place) : Type 0 where
+  pub named : (i : ℕ) → isFree (getD b i nowhere) ≡ false → isDesignator (getD b i nowhere .who) ≡ true
+  pub fine : (i : ℕ) → isFree (getD b i nowhere) ≡ false → isFine (checkCommand (getD b i nowhere .text)) ≡ true
+  pub different : (i j : ℕ) → (j ≡ i → ⊥) → isFree (getD b i nowhere) ≡ false → isFree (getD b j nowhere) ≡ false
+      → sameBytes (getD b i nowhere .who) (getD b j nowhere .who) ≡ false
+
+-- a valid board is that
+pub valid-proper : (b : List Place) → isValid b ≡ true → Proper b
+unfolding isFor
+valid-proper b v =
+    record {
+      named = valid-named b v;
+      fine = valid-fine b v;
+      different = λ i j n f g.
+          let x : Place = getD b i nowhere in
+          let y : Place = getD b j nowhere in
+          by-test (sameBytes (x .who) (y .who)) (λ e. never (rw (g, e)) (only (x .who) b v i j (used-for x f) n)) (λ e. e);
+    }
+
+-- and nothing else is asked
+pub proper-valid : (b : List Place) → Proper b → isValid b ≡ true
+unfolding isValid
+proper-valid [] p = refl
+proper-valid (x ∷ b) p =
+    both (isSound x b) (isValid b)
+    (by-test (isFree x) (λ f. rw f)
+    (λ f. rw (f, p .named zero f, p .fine zero f) (ap isNone (waiting-none (x .who) b (λ j. other f j)))))
+    (proper-valid b
+    (record {
+      named = λ i. p .named (suc i);
+      fine = λ i. p .fine (suc i);
+      different = λ i j n. p .different (suc i) (suc j) (λ (e : suc j ≡ suc i). n (omega arith));
+    }))
+  where
+    other : isFree x ≡ false → (j : ℕ) → isFor (x .who) (getD b j nowhere) ≡ false
+    other f j =
+        let y : Place = getD b j nowhere in
+        by-test (isFor (x .who) y)
+        (λ h. never (equal-same (x .who) (y .who) (for-who (x .who) y h))
+        (p .different zero (suc j) (λ (e : suc j ≡ zero). omega arith) f (for-used (x .who) y h)))
+        (λ h. h)
 
 -- ---- A place set
 

@@ -14,22 +14,24 @@ use Rattle.section.specs.declared.Settings.{Settings}
 use Rattle.command.specs.Text.{checkCommand}
 use Rattle.config.specs.Config.{isFine, applyTo}
 use Rattle.board.specs.Board.{isDesignator, Place, isNone, isFree, any, waiting, isValid, Move, Stay, Put, Free, onBoard, Given, Refused, replyOf}
-use Rattle.board.specs.History.{Event, Add, Take, Entry, aircraft, heard, since, onto, joined, move, after, logged, isEmptyBoard, toldSeen, due, noCommands, act}
+use Rattle.board.specs.History.{Event, Add, Take, Entry, aircraft, heard, since, onto, joined, move, after, logged, isEmptyBoard, toldSeen, due, noCommands, calledFor, act}
 use Rattle.board.proofs.Codes.{check-low}
 use Rattle.board.proofs.Places.{never, none-is, some-for}
 use Rattle.board.proofs.Valid.{waiting-fine, waiting-named}
 use Rattle.board.proofs.Steps.{is-fine, right}
 use Rattle.board.proofs.Joined.{joined-none, joined-acts, act-fine, acts-applied}
 use Rattle.board.proofs.Run.{entry, since-snoc}
-use Rattle.board.proofs.Demand.{in-step}
+use Rattle.board.proofs.Demand.{in-step, demand3}
 
 -- ---- One event more
 
+-- the board after one event more
 pub after-snoc : (b : List Place) (es : List Event) (e : Event) → after b (es ++ (e ∷ [])) ≡ onBoard (move (after b es) e) (after b es)
 unfolding after
 after-snoc b [] e = refl
 after-snoc b (x ∷ es) e = after-snoc (onBoard (move b x) b) es e
 
+-- and its log
 pub logged-snoc : (b : List Place) (es : List Event) (e : Event) → logged b (es ++ (e ∷ [])) ≡ logged b es ++ (entry (after b es) e ∷ [])
 unfolding logged after
 logged-snoc b [] e = refl
@@ -73,6 +75,14 @@ due-ten free w (Take d room) place h = go (isDesignator d) (isNone w) (leb (leng
     go true false false e = let z : _≡_ {A = ℕ} 2 10 = cc in omega arith
     go false none fits e = let z : _≡_ {A = ℕ} 4 10 = cc in omega arith
 
+-- ---- Determined
+
+-- two boards that began empty with as many slots reply alike to every run, whatever designators stood in them
+pub alike : (b c : List Place) (es : List Event) → isEmptyBoard b ≡ true → isEmptyBoard c ≡ true → length b ≡ length c
+    → logged b es ≡ logged c es
+alike b c es o q k =
+    demand3 b es o .replies ∙ ap (λ (n : ℕ). calledFor n [] es) k ∙ sym (demand3 c es q .replies)
+
 -- ---- In the demand's words
 
 module _ (b : List Place) (es : List Event) (o : isEmptyBoard b ≡ true) where
@@ -94,11 +104,12 @@ module _ (b : List Place) (es : List Event) (o : isEmptyBoard b ≡ true) where
   pub never-ten : (e : Event) (place : ℕ) → replyOf (move (after b es) e) ≡ Refused 10 place → ⊥
   never-ten e place h = due-ten (any isFree now) (waiting (aircraft e) now) e place (sym (reply-due e) ∙ h)
 
-  -- nothing waits where no command was accepted since the last hand-over, and there alone
+  -- nothing waits where no command was accepted since the last hand-over
   pub none-waits : (d : List ℕ) → since d (logged b es) ≡ [] → waiting d (after b es) ≡ []
   unfolding joined
   none-waits d e = in-step b es o .waits d ∙ ap joined e
 
+  -- and there alone
   pub waits-none : (d : List ℕ) → waiting d (after b es) ≡ [] → since d (logged b es) ≡ []
   waits-none d e =
       go (since d log)
@@ -130,8 +141,9 @@ module _ (b : List Place) (es : List Event) (o : isEmptyBoard b ≡ true) where
       ∙ ap (heard d (since d log) (Add d t)) r
       ∙ rw (same-self d)
 
-  -- ---- A refusal leaves no trace: the board stays, and it isn't heard
+  -- ---- A refusal leaves no trace
 
+  -- the board stays as it was
   pub refused-stays : (e : Event) (code place : ℕ) → replyOf (move (after b es) e) ≡ Refused code place
       → after b (es ++ (e ∷ [])) ≡ after b es
   refused-stays e code place h = after-snoc b es e ∙ go (move now e) h
@@ -141,6 +153,7 @@ module _ (b : List Place) (es : List Event) (o : isEmptyBoard b ≡ true) where
       go (Put i d t) k = let z : _≡_ {A = ℕ} 0 1 = cc in absurd (omega arith)
       go (Free i t) k = let z : _≡_ {A = ℕ} 0 1 = cc in absurd (omega arith)
 
+  -- and for no aircraft is anything heard
   pub refused-unheard : (e : Event) (code place : ℕ) → replyOf (move (after b es) e) ≡ Refused code place
       → (d : List ℕ) → since d (logged b (es ++ (e ∷ []))) ≡ since d (logged b es)
   refused-unheard e code place h d =
