@@ -1,6 +1,6 @@
 -- What is lent and the board that it stands for: a place read, a text written, a place freed, and the shape kept.
 use mathlib.Core.Path.{_≡_, refl, sym, ap, ap₂, _∙_}
-use mathlib.Core.Bool.{Bool, true, _&&_}
+use mathlib.Core.Bool.{Bool, true, not, _&&_}
 use mathlib.Core.List.{List, [], _∷_, _++_, append-assoc}
 use Prim.Native.Nat.{ℕ, zero, suc, _+_, _-_, _*_, _≤_, _<_}
 use native.Mathlib.Omega.{arith}
@@ -9,11 +9,12 @@ use lib.Dec.{leb, eqb}
 use lib.ListN.{length, take, drop, getD, set, length-set, length-take, length-drop}
 use lib.Seq.{drop-at, take-append-le, take-append-seam, take-take, take-add, drop-drop, length-take-le, drop-append-add}
 use borrow.Author.Tests.{le-leb, leb-true, eqb-true, eq-eqb, ne-eqb}
+use Rattle.text.specs.Equal.{sameBytes}
 use Rattle.text.specs.Over.{over}
 use Rattle.text.proofs.Cases.{both-left, both-right}
 use Rattle.text.proofs.Over.{length-over}
 use Rattle.command.specs.Text.{longest}
-use Rattle.board.specs.Board.{nowhere, isNone, isFree, Move, Stay, Put, Free, onBoard}
+use Rattle.board.specs.Board.{Place, nowhere, isNone, isFree, isFor, Move, Stay, Put, Free, onBoard}
 use Rattle.board.specs.Lent.{boardOf, lengthsFit, isShaped, noSlot, onSlots, onArea}
 use Rattle.board.specs.declared.Slot.{Slot}
 use Rattle.board.proofs.Places.{both}
@@ -135,6 +136,27 @@ free-at (x ∷ xs) area zero e f l =
 free-at (x ∷ xs) area (suc i) e f l =
     let k : length area ≡ longest + longest * length xs = e ∙ omega arith in
     free-at xs (drop longest area) i (length-drop longest area ∙ omega arith) (fit-rest x xs f) (omega arith)
+
+-- no slot's length is above 835
+pub fit-at : (xs : List Slot) (i : ℕ) → lengthsFit xs ≡ true → getD xs i noSlot .length ≤ longest
+fit-at [] i f = omega arith
+fit-at (x ∷ xs) zero f = fit-first x xs f
+fit-at (x ∷ xs) (suc i) f = fit-at xs i (fit-rest x xs f)
+
+-- the text of place i stands in the area from 835 i on
+pub text-at : (xs : List Slot) (area : List ℕ) (i : ℕ) → lengthsFit xs ≡ true → i < length xs
+    → getD (boardOf xs area) i nowhere .text ≡ take (getD xs i noSlot .length) (drop (longest * i) area)
+text-at xs area i f l =
+    ap (λ (p : Place). p .text) (slot-at xs area i l)
+    ∙ take-take (getD xs i noSlot .length) longest (drop (longest * i) area) (fit-at xs i f)
+
+-- place i is for an aircraft where its length isn't 0 and its designator is that
+pub for-at : (d : List ℕ) (xs : List Slot) (area : List ℕ) (i : ℕ) → length area ≡ longest * length xs → lengthsFit xs ≡ true
+    → i < length xs
+    → isFor d (getD (boardOf xs area) i nowhere)
+    ≡ (not (eqb (getD xs i noSlot .length) 0) && sameBytes d (getD xs i noSlot .designator))
+unfolding isFor
+for-at d xs area i e f l = rw (free-at xs area i e f l, slot-at xs area i l)
 
 -- ---- A text written, a place freed
 

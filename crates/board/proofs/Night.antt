@@ -1,9 +1,11 @@
 -- The statement by figures: the log that the events of a night call for, from the definitions of the history alone, and the board's own log.
 use mathlib.Core.Path.{_≡_, refl}
-use mathlib.Core.List.{List, [], _∷_, map}
+use mathlib.Core.List.{List, [], _∷_, _++_, map}
 use Prim.Native.Nat.{ℕ}
+use lib.ListN.{replicate}
 use Rattle.text.specs.Equal.{sameBytes}
 use Rattle.text.specs.Names.{allowed, allAllowed}
+use Rattle.text.specs.Over.{over}
 use Rattle.field.specs.Decimal.{allDigits, valueFrom}
 use Rattle.field.specs.Fields.{checkNumber, checkDelimiter}
 use Rattle.section.specs.Layout.{layoutOf, checkItems, itemsSize, itemsMost}
@@ -12,6 +14,8 @@ use Rattle.join.specs.Join.{bytesFrom, choose, joinSections, joinText}
 use Rattle.join.proofs.Printed.{first, second, both}
 use Rattle.board.specs.Board.{nowhere, isFree, isFor, any, lowest, waiting, isValid, Reply, Given, Refused, add, takeOut}
 use Rattle.board.specs.History.{Event, Add, Take, Entry, sinceFrom, joined, after, logged, member, callers, busyAmong, calledFor}
+use Rattle.board.specs.Lent.{boardOf, lengthsFit, isShaped, addLent, takeLent, noSlot}
+use Rattle.board.specs.Calls.{Lent, afterCalls}
 
 abbrev said : Event → Reply → Entry
 said e r = record { event = e; reply = r }
@@ -81,3 +85,16 @@ slots-used : after (nowhere ∷ nowhere ∷ nowhere ∷ []) refilled
     ≡ record { who = zy; text = second } ∷ record { who = zz; text = second } ∷ nowhere ∷ []
 unfolding after add takeOut isValid any lowest isFor isFree waiting sameBytes allowed allAllowed first second checkCommand longest sectionsMost layoutOf itemsMost checkHead checkAwr04 checkEach checkDelimiter checkFrom checkItems checkNumber allDigits valueFrom
 slots-used = refl
+
+-- ---- And on what is lent: two slots of 835 bytes
+
+abbrev lent : Lent
+lent = record { slots = noSlot ∷ noSlot ∷ []; area = replicate 1670 0 }
+
+lent-holds : afterCalls lent (Add xy first ∷ Add zz second ∷ Take xy 31 ∷ [])
+    ≡ record {
+      slots = record { designator = xy; length = 0 } ∷ record { designator = zz; length = 31 } ∷ [];
+      area = first ++ (replicate 809 0 ++ (second ++ replicate 804 0));
+    }
+unfolding afterCalls addLent takeLent isShaped lengthsFit boardOf over add takeOut isValid any lowest isFor isFree waiting sameBytes allowed allAllowed first second checkCommand longest sectionsMost layoutOf itemsMost checkHead checkAwr04 checkEach checkDelimiter checkFrom checkItems checkNumber allDigits valueFrom
+lent-holds = refl
