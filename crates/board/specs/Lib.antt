@@ -1,3 +1,4 @@
 pub mod Board
 pub mod History
 pub mod Lent
+pub mod Calls

@@ -1,0 +1,126 @@
+-- A run of calls on what is lent is the run of the events on the board that it stands for.
+use mathlib.Core.Path.{_≡_, refl, ap, ap₂, _∙_}
+use mathlib.Core.Bool.{true, false}
+use mathlib.Core.List.{List, [], _∷_}
+use Prim.Native.Nat.{ℕ}
+use lib.Dec.{leb, eqb}
+use lib.ListN.{length, drop}
+use borrow.Author.Tests.{eqb-true}
+use Rattle.text.specs.declared.Seen.{Seen}
+use Rattle.text.specs.declared.Seen.the-variants.{Fine, Bad}
+use Rattle.text.proofs.Cases.{by-test, both-left, both-right}
+use Rattle.command.specs.Text.{longest, checkCommand}
+use Rattle.config.specs.Config.{isFine}
+use Rattle.join.specs.Join.{joinText}
+use Rattle.board.specs.Board.{isDesignator, Place, isFree, isFor, any, waiting, isValid, Move, Stay, onSeen, placed, add, takeOut, onBoard, replyOf}
+use Rattle.board.specs.History.{Event, Add, Take, move, after, logged, isEmptyBoard, calledFor}
+use Rattle.board.specs.Lent.{boardOf, isShaped, addLent, takeLent, isValidLent, onSlots, onArea}
+use Rattle.board.specs.Calls.{Lent, boardIn, call, onLent, afterCalls, loggedCalls, allFree, Demand3Lent}
+use Rattle.board.specs.declared.Slot.{Slot}
+use Rattle.board.proofs.Places.{lowest-inside}
+use Rattle.board.proofs.Valid.{waiting-fine}
+use Rattle.board.proofs.Steps.{joins}
+use Rattle.board.proofs.Joined.{accepted-short}
+use Rattle.board.proofs.Demand.{demand3}
+use Rattle.board.proofs.Lent.{shape, shaped, length-board, Sits, moved, shape-kept}
+
+-- ---- One call
+
+-- every move of a board names one of its slots and a text that a slot holds
+pub sits : (b : List Place) (e : Event) → Sits (length b) (move b e)
+unfolding add takeOut
+sits b (Add d t) =
+    by-test (isValid b) (λ v. rw v (by-test (isDesignator d) (λ n. rw n (go v (checkCommand t) refl)) (λ n. rw n tt))) (λ v. rw v tt)
+  where
+    go : isValid b ≡ true → (s : Seen) → checkCommand t ≡ s → Sits (length b) (onSeen s (placed b d t))
+    go v (Bad code place) k = tt
+    go v Fine k =
+        let f : isFine (checkCommand t) ≡ true = rw k in
+        by-test (any (isFor d) b)
+        (λ h. rw h
+        (lowest-inside (isFor d) b h, accepted-short (joinText (waiting d b) t) (joins (waiting d b) t (waiting-fine d b v h) f)))
+        (λ h. rw h (by-test (any isFree b) (λ g. rw g (lowest-inside isFree b g, accepted-short t f)) (λ g. rw g tt)))
+sits b (Take d room) =
+    by-test (isValid b)
+    (λ v. rw v
+    (by-test (isDesignator d)
+    (λ n. rw n
+    (by-test (any (isFor d) b)
+    (λ h. rw h (by-test (leb (length (waiting d b)) room) (λ l. rw l (lowest-inside (isFor d) b h)) (λ l. rw l tt)))
+    (λ h. rw h tt)))
+    (λ n. rw n tt)))
+    (λ v. rw v tt)
+
+-- on what is shaped a call is the event on the board
+pub call-move : (x : Lent) (e : Event) → isShaped (x .slots) (x .area) ≡ true → call x e ≡ move (boardIn x) e
+unfolding addLent takeLent
+call-move x (Add d t) h = rw h
+call-move x (Take d room) h = rw h
+
+-- on what isn't a valid board it is 10, and nothing changes
+pub call-ten : (x : Lent) (e : Event) → isValidLent (x .slots) (x .area) ≡ false → call x e ≡ Stay 10 0
+unfolding addLent takeLent isValidLent add takeOut
+call-ten x (Add d t) h = by-test (isShaped (x .slots) (x .area)) (λ s. rw (s, rw s at h)) (λ s. rw s)
+call-ten x (Take d room) h = by-test (isShaped (x .slots) (x .area)) (λ s. rw (s, rw s at h)) (λ s. rw s)
+
+module _ (x : Lent) (e : Event) (h : isShaped (x .slots) (x .area) ≡ true) where
+  -- it names one of the slots and a text that a slot holds
+  pub call-sits : Sits (length (x .slots)) (call x e)
+  call-sits =
+      rw (call-move x e h) (rw (length-board (x .slots) (x .area)) at (sits (boardIn x) e))
+
+  -- what is lent after a call stands for the board after it
+  pub call-board : boardIn (onLent (call x e) x) ≡ onBoard (call x e) (boardIn x)
+  call-board = moved (call x e) (x .slots) (x .area) (shape (x .slots) (x .area) h .bytes) call-sits
+
+  -- and is shaped
+  pub call-shaped : isShaped (onSlots (call x e) (x .slots)) (onArea (call x e) (x .area)) ≡ true
+  call-shaped =
+      shaped (onSlots (call x e) (x .slots)) (onArea (call x e) (x .area))
+      (shape-kept (call x e) (x .slots) (x .area) (shape (x .slots) (x .area) h) call-sits)
+
+-- ---- A run
+
+-- the calls es on x run as the events on its board
+pub record RunsAs (x : Lent) (es : List Event) : Type 0 where
+  pub is-shaped : isShaped (afterCalls x es .slots) (afterCalls x es .area) ≡ true
+  pub board : boardIn (afterCalls x es) ≡ after (boardIn x) es
+  pub log : loggedCalls x es ≡ logged (boardIn x) es
+
+-- a run of calls on what is lent is the run on its board
+pub run-lent : (es : List Event) (x : Lent) → isShaped (x .slots) (x .area) ≡ true → RunsAs x es
+unfolding afterCalls loggedCalls after logged
+run-lent [] x h = record { is-shaped = h; board = refl; log = refl }
+run-lent (e ∷ es) x h =
+    let r = run-lent es (onLent (call x e) x) (call-shaped x e h) in
+    let k : boardIn (onLent (call x e) x) ≡ onBoard (move (boardIn x) e) (boardIn x) =
+    call-board x e h ∙ ap (λ (m : Move). onBoard m (boardIn x)) (call-move x e h) in
+    record {
+      is-shaped = r .is-shaped;
+      board = r .board ∙ ap (λ (b : List Place). after b es) k;
+      log =
+          ap₂ _∷_ (ap (λ (m : Move). record { event = e; reply = replyOf m }) (call-move x e h))
+          (r .log ∙ ap (λ (b : List Place). logged b es) k);
+    }
+
+-- ---- Demand 3 of what is lent
+
+-- slots that are all free stand for an empty board
+pub free-empty : (xs : List Slot) (area : List ℕ) → allFree xs ≡ true → isEmptyBoard (boardOf xs area) ≡ true
+unfolding allFree isEmptyBoard boardOf isFree
+free-empty [] area e = refl
+free-empty (x ∷ xs) area e =
+    rw (eqb-true (x .length) 0 (both-left (eqb (x .length) 0) (allFree xs) e))
+    (free-empty xs (drop longest area) (both-right (eqb (x .length) 0) (allFree xs) e))
+
+-- every run of calls on slots and area that began free
+pub demand3-lent : (x : Lent) (es : List Event) → isShaped (x .slots) (x .area) ≡ true → allFree (x .slots) ≡ true → Demand3Lent x es
+demand3-lent x es h f =
+    let r = run-lent es x h in
+    let k = demand3 (boardIn x) es (free-empty (x .slots) (x .area) f) in
+    record {
+      waits = λ d. rw (r .board, r .log) (k .waits d);
+      short = λ d. rw (r .board) (k .short d);
+      acts = λ d g. rw (r .board, r .log) (k .acts d g);
+      replies = r .log ∙ k .replies ∙ ap (λ (n : ℕ). calledFor n [] es) (length-board (x .slots) (x .area));
+    }
