@@ -1,4 +1,5 @@
 # make            the proved archive, target/staticlib/libdesk.a
+# make demo       one report, read and shown figure by figure
 # make test       the gate: every test, the comparison and every proof
 # make compare    the archive and the second program on the same inputs; ARGS='--seed 2 --long' and the like
 # make bench      ns per call, ours and the second program's (x86-64)
@@ -8,12 +9,16 @@ export CARGO_TARGET_DIR := $(CURDIR)/target/compare
 
 archive := target/staticlib/libdesk.a
 
-.PHONY: all test compare bench clean
+.PHONY: all demo test compare bench clean
 
 all: $(archive)
 
 $(archive): crates.txt $(shell find crates -type f)
 	rt staticlib desk
+
+demo: $(archive)
+	@host/tool build demo host/demo.c
+	@host/tool run demo
 
 test:
 	.ci/run

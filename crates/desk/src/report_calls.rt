@@ -1,17 +1,16 @@
 // Reports for C.
-use crate::records::host_report;
-use crate::records::record_from;
 use crate::Answer;
 use crate::HostReport;
 use crate::ReportAnswer;
+use crate::records::host_report;
+use crate::records::record_from;
 use packed::table::digit_table;
 use packed::table::worth_table;
+use report::Got;
 use report::check::check;
 use report::read::read;
 use report::write::write;
-use report::Got;
 use text::Seen;
-
 ghost use mathlib.Core.Path.{_≡_};
 ghost use Prim.Native.Nat.{ℕ};
 ghost use lib.ListN.{length};

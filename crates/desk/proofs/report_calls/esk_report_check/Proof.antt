@@ -16,6 +16,7 @@ use Rattle.report.specs.Report.{checkText}
 same : (x : Seen) → writeNumbers x 0 ≡ checkNumbers x
 same Fine = refl
 same (Bad c p) = refl
+
 -- extra]
 
 worth-table-requires : tie.Need-worth-table-requires
