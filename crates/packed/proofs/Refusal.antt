@@ -1,5 +1,5 @@
 -- Where a refusal points.
-use mathlib.Core.Path.{_≡_, sym, _∙_}
+use mathlib.Core.Path.{_≡_, refl, sym, _∙_}
 use mathlib.Core.Bool.{Bool, true, false, _&&_}
 use mathlib.Core.List.{List}
 use Prim.Native.Nat.{ℕ, _-_, _≤_}
@@ -7,8 +7,9 @@ use native.Mathlib.Omega.{arith}
 use lib.Dec.{ltb}
 use lib.ListN.{length}
 use Rattle.text.proofs.Cases.{by-test}
-use Rattle.packed.specs.Packed.{readPacked, spelt, widthOk, allSolidi, allDigits, trim, fault, number, holds, figureOf}
+use Rattle.packed.specs.Packed.{readPacked, spelt, widthOk, allSolidi, allDigits, trim, fault, number, holds, figureOf, placeOf}
 use Rattle.packed.specs.declared.Figure.{Figure}
+use Rattle.packed.specs.declared.Packed.{Packed}
 use Rattle.packed.specs.declared.Packed.the-variants.{Is, Refused}
 
 same-place : {code place code′ place′ : ℕ} → Refused code place ≡ Refused code′ place′ → place ≡ place′
@@ -43,3 +44,11 @@ refused-near f code place e =
     let p : fault f ≡ place = same-place (rw (w, s, t) at e) in
     omega (arith, fault-near f))))
     (λ (w : widthOk (length f) ≡ false). let p = same-place (rw w at e) in omega arith)
+
+-- the same of an answer's place, which is 0 where there is no refusal
+pub refusal-place : (f : List ℕ) → placeOf (readPacked f) ≤ 5
+refusal-place f = go (readPacked f) refl
+  where
+    go : (p : Packed) → readPacked f ≡ p → placeOf p ≤ 5
+    go (Is x) e = omega arith
+    go (Refused code place) e = refused-near f code place e

@@ -14,7 +14,7 @@ use lib.Arith.{digits-lt}
 use borrow.Author.Tests.{ltb-true, eqb-true, le-leb}
 use lib.Dec.{eqb}
 use Rattle.text.proofs.Cases.{by-test, both-left, both-right}
-use Rattle.packed.specs.Packed.{trim, allSolidi, allDigits, worthOf, number, readPacked, spelt, halfOf, holds, figureOf, widthOk, placeOf}
+use Rattle.packed.specs.Packed.{trim, allSolidi, allDigits, worthOf, number, readPacked, spelt, halfOf}
 use Rattle.packed.specs.Steps.{numberOf, otherField}
 use Rattle.packed.specs.declared.read.Number.the-variants.{Whole, Other}
 
@@ -145,21 +145,3 @@ pub half-small : (k : ℕ) → k ≤ 5 → halfOf k < 2 ^ 30
 unfolding halfOf
 half-small zero h = lit< tt
 half-small (suc k) h = omega (arith, pow-le-pow-right {n = 40} (lit< tt) {i = k} {j = 4} (omega arith))
-
--- ---- a refusal's place lies in the field
-
-pub refusal-place : (f : List ℕ) → placeOf (readPacked f) ≤ 5
-unfolding readPacked spelt
-refusal-place f =
-    by-test (widthOk (length f))
-    (λ (w : widthOk (length f) ≡ true).
-    by-test (allSolidi f)
-    (λ (s : allSolidi f ≡ true). rw (w, s) (omega arith))
-    (λ (s : allSolidi f ≡ false).
-    by-test (ltb 0 (length (trim f)) && allDigits (trim f))
-    (λ (d : (ltb 0 (length (trim f)) && allDigits (trim f)) ≡ true).
-    by-test (holds (length (trim f) - 1) (figureOf (number 0 (trim f)) (length (trim f))))
-    (λ (h : holds (length (trim f) - 1) (figureOf (number 0 (trim f)) (length (trim f))) ≡ true). rw (w, s, d, h) (omega arith))
-    (λ (h : holds (length (trim f) - 1) (figureOf (number 0 (trim f)) (length (trim f))) ≡ false). rw (w, s, d, h) (omega arith)))
-    (λ (d : (ltb 0 (length (trim f)) && allDigits (trim f)) ≡ false). rw (w, s, d) (omega arith))))
-    (λ (w : widthOk (length f) ≡ false). rw w (omega arith))

@@ -3,7 +3,7 @@ use Rattle.desk.proofs.packed_calls.esk_packed_read.Statement.{statemen
 use Rattle.desk.proofs.packed_calls.esk_packed_read.Tie as tie
 use mathlib.Core.Path.{_≡_, sym, _∙_, ap}
 use Rattle.packed.specs.Packed.{placeOf, readPacked}
-use Rattle.packed.proofs.Scan.{refusal-place}
+use Rattle.packed.proofs.Refusal.{refusal-place}
 use Rattle.desk.specs.Numbers.{packedNumbers}
 
 worth-table-requires : tie.Need-worth-table-requires

@@ -1,12 +1,6 @@
 use borrow.Author.Needs.{needs}
 use Rattle.desk.proofs.packed_calls.esk_packed_write.Statement.{statement}
 use Rattle.desk.proofs.packed_calls.esk_packed_write.Tie as tie
-use Rattle.desk.proofs.packed_calls.esk_packed_write.Reads as reads
-use Rattle.desk.proofs.packed_calls.esk_packed_write.Lts as lts
-use Rattle.desk.proofs.packed_calls.figure_from.Reads as figure-from-reads
-use Rattle.desk.proofs.packed_calls.write_answer.Reads as write-answer-reads
-use Rattle.packed.proofs.table.digit_table.Reads as digit-table-reads
-use Rattle.packed.proofs.write.write.Reads as write-reads
 use mathlib.Core.Path.{_≡_, sym, _∙_, ap}
 use Prim.Native.Nat.{ℕ}
 use Rattle.packed.specs.Packed.{writeCode, written}

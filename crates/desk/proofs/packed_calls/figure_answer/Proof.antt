@@ -5,11 +5,8 @@ use mathlib.Core.Path.{_≡_, sym, _∙_, ap}
 use mir.Val.{toZ, ofZ}
 use mir.Syntax.{w32}
 
--- [extra
 back : (c : tie.After-known-told) → toZ w32 (ofZ w32 (c .before .figure .given .0 .0)) ≡ c .before .figure .given .0 .0
 back c = search needs
-
--- extra]
 
 enum-known-figure : tie.Need-enum-known-figure
 enum-known-figure c = search needs

@@ -1,23 +1,15 @@
 use borrow.Author.Needs.{needs}
 use Rattle.desk.proofs.report_calls.esk_report_check.Statement.{statement}
 use Rattle.desk.proofs.report_calls.esk_report_check.Tie as tie
-use Rattle.desk.proofs.report_calls.esk_report_check.Reads as reads
-use Rattle.desk.proofs.report_calls.esk_report_check.Lts as lts
-use Rattle.desk.proofs.report_calls.numbers.Reads as numbers-reads
-use Rattle.packed.proofs.table.worth_table.Reads as worth-table-reads
-use Rattle.report.proofs.check.check.Reads as check-reads
 use mathlib.Core.Path.{_≡_, refl, sym, _∙_, ap}
 use Rattle.desk.specs.Records.{checkNumbers, writeNumbers}
 use Rattle.text.specs.declared.Seen.{Seen}
 use Rattle.text.specs.declared.Seen.the-variants.{Fine, Bad}
 use Rattle.report.specs.Report.{checkText}
 
--- [extra
 same : (x : Seen) → writeNumbers x 0 ≡ checkNumbers x
 same Fine = refl
 same (Bad c p) = refl
-
--- extra]
 
 worth-table-requires : tie.Need-worth-table-requires
 worth-table-requires c κs = search needs

@@ -1,11 +1,6 @@
 use borrow.Author.Needs.{needs}
 use Rattle.desk.proofs.report_calls.esk_report_read.Statement.{statement}
 use Rattle.desk.proofs.report_calls.esk_report_read.Tie as tie
-use Rattle.desk.proofs.report_calls.esk_report_read.Reads as reads
-use Rattle.desk.proofs.report_calls.esk_report_read.Lts as lts
-use Rattle.desk.proofs.report_calls.report_answer.Reads as report-answer-reads
-use Rattle.packed.proofs.table.worth_table.Reads as worth-table-reads
-use Rattle.report.proofs.read.read.Reads as read-reads
 use mathlib.Core.Path.{_≡_, refl, sym, _∙_, ap}
 use Rattle.desk.specs.Records.{reportNumbers}
 

@@ -1,12 +1,6 @@
 use borrow.Author.Needs.{needs}
 use Rattle.desk.proofs.report_calls.esk_report_write.Statement.{statement}
 use Rattle.desk.proofs.report_calls.esk_report_write.Tie as tie
-use Rattle.desk.proofs.report_calls.esk_report_write.Reads as reads
-use Rattle.desk.proofs.report_calls.esk_report_write.Lts as lts
-use Rattle.desk.proofs.records.record_from.Reads as record-from-reads
-use Rattle.desk.proofs.report_calls.numbers.Reads as numbers-reads
-use Rattle.packed.proofs.table.digit_table.Reads as digit-table-reads
-use Rattle.report.proofs.write.write.Reads as write-reads
 use mathlib.Core.Path.{_≡_, refl, sym, _∙_, ap}
 
 digit-table-requires : tie.Need-digit-table-requires

@@ -1,9 +1,6 @@
 use borrow.Author.Needs.{needs}
 use Rattle.desk.proofs.report_calls.numbers.Statement.{statement}
 use Rattle.desk.proofs.report_calls.numbers.Tie as tie
-use Rattle.desk.proofs.report_calls.numbers.Reads as reads
-use Rattle.desk.proofs.report_calls.numbers.Lts as lts
-use Rattle.desk.proofs.report_calls.refused.Reads as refused-reads
 use mathlib.Core.Path.{_≡_, refl, sym, _∙_, ap}
 
 enum-told : tie.Need-enum-told

@@ -1,10 +1,6 @@
 use borrow.Author.Needs.{needs}
 use Rattle.desk.proofs.report_calls.report_answer.Statement.{statement}
 use Rattle.desk.proofs.report_calls.report_answer.Tie as tie
-use Rattle.desk.proofs.report_calls.report_answer.Reads as reads
-use Rattle.desk.proofs.report_calls.report_answer.Lts as lts
-use Rattle.desk.proofs.records.host_report.Reads as host-report-reads
-use Rattle.desk.proofs.report_calls.refused.Reads as refused-reads
 use mathlib.Core.Path.{_≡_, refl, sym, _∙_, ap}
 use Rattle.desk.specs.Records.{reportNumbers}
 

@@ -14,7 +14,6 @@ use lib.IntN.{subℕ}
 use lib.Signed.{mag}
 use lib.Dec.{ltb}
 
--- [extra
 figure : (c : tie.After-less) → c .less .result ≡ subℕ (c .before .before .args .n) (halfOf (c .before .before .args .k))
 figure c = c .less .ensures ∙ ap (subℕ (c .before .before .args .n)) (c .before .half .ensures)
 
@@ -30,8 +29,6 @@ tested c =
       figure (c .before .before),
       c .half2 .ensures,
     )
-
--- extra]
 
 half-requires : tie.Need-half-requires
 half-requires c κs = search needs

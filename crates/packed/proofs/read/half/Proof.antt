@@ -5,11 +5,8 @@ use Prim.Native.Nat.{ℕ, _≤_}
 use native.Mathlib.Omega.{arith}
 use Rattle.packed.specs.Packed.{halfOf}
 
--- [extra
 five : (k : ℕ) → (k ≡ 0 → ⊥) → (k ≡ 1 → ⊥) → (k ≡ 2 → ⊥) → (k ≡ 3 → ⊥) → (k ≡ 4 → ⊥) → k ≤ 5 → k ≡ 5
 five k a b c d e h = omega arith
-
--- extra]
 
 returns : tie.Need-returns
 unfolding halfOf

@@ -22,14 +22,11 @@ Inv-loop t s n₀ i₀ n i = (i ≤ length s) × (n < 40 ^ i)
 abbrev μ-loop : tie.MeasureT-loop
 μ-loop t s n₀ i₀ n i = length s - i
 
--- [extra
 -- the digits so far, and one more, fit
 room : (c : tie.In-loop Inv-loop μ-loop) → c .before .loop .n * 40 + 40 < 2 ^ 31
 room c =
     let h : c .before .loop .i ≤ 4 = omega (arith, c .before .before .before .before .pre) in
     omega (arith, c .before .loop .inv .1, pow-le-pow-right {n = 40} (lit< tt) {i = c .before .loop .i} {j = 4} h)
-
--- extra]
 
 returns : tie.Need-returns Inv-loop μ-loop
 unfolding numberOf

@@ -1,11 +1,5 @@
 use Rattle.packed.proofs.read.read.Statement.{statement}
 use Rattle.packed.proofs.read.read.Tie as tie
-use Rattle.packed.proofs.read.read.Reads as reads
-use Rattle.packed.proofs.read.read.Lts as lts
-use Rattle.packed.proofs.read.behind_spaces.Reads as behind-spaces-reads
-use Rattle.packed.proofs.read.figure_of.Reads as figure-of-reads
-use Rattle.packed.proofs.read.number_of.Reads as number-of-reads
-use Rattle.packed.proofs.read.other.Reads as other-reads
 use borrow.Author.Needs.{needs}
 use Rattle.packed.specs.Packed.{readPacked}
 use mathlib.Core.Path.{sym, _∙_, ap, refl, _≡_}
@@ -20,7 +14,6 @@ use Rattle.packed.specs.Packed.{trim}
 use Rattle.packed.specs.Steps.{numberOf}
 use Rattle.packed.specs.declared.read.Number.the-variants.{Whole, Other}
 
--- [extra
 -- what stands behind the spaces is the field trimmed
 left : (c : tie.After-behind-spaces)
     → let f = c .before .before .before .before .args .f .now in
@@ -39,8 +32,6 @@ seen c =
 found : (c : tie.After-run)
     → numberOf (trim (c .before .before .before .before .before .before .before .before .args .f .now)) ≡ Whole (c .run .given .0 .0)
 found c = sym (seen (c .before .before)) ∙ c .run .given .1
-
--- extra]
 
 returns : tie.Need-returns
 unfolding readPacked

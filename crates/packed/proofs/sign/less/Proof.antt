@@ -13,12 +13,9 @@ use borrow.Author.Needs.{sfits-of}
 use mathlib.Core.Path.{_≡_, _∙_, ap, subst, sym}
 use lib.IntN.{_-ℤ_, subℕ}
 
--- [extra
 difference : (c : tie.Start) → toZ w32 (c .args .n) -ℤ toZ w32 (c .args .h) ≡ subℕ (c .args .n) (c .args .h)
 difference c =
     rw (toZ-pos w32 {n = c .args .n} (c .pre .0), toZ-pos w32 {n = c .args .h} (c .pre .1)) (sub-pos (c .args .n) (c .args .h))
-
--- extra]
 
 cast-result : tie.Need-cast-result
 cast-result c = search needs

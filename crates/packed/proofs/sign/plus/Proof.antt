@@ -13,7 +13,6 @@ use lib.IntN.{pos, _+ℤ_}
 use Prim.Native.Nat.{_<_, _^_}
 use lib.Dec.{T}
 
--- [extra
 sum : (c : tie.Start)
     → toZ w32 (ofZ w32 (c .args .x)) +ℤ toZ w32 (c .args .h) ≡ pos (above (c .args .x) (c .args .h))
 sum c =
@@ -22,8 +21,6 @@ sum c =
 
 small : (c : tie.Start) → SFits w32 (pos (above (c .args .x) (c .args .h)))
 small c = sfits-of (omega (arith, above-lt (c .args .x) (c .args .h) (c .pre .0), c .pre .1))
-
--- extra]
 
 cast-result : tie.Need-cast-result
 cast-result c = search needs

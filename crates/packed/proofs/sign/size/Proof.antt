@@ -1,7 +1,5 @@
 use Rattle.packed.proofs.sign.size.Statement.{statement}
 use Rattle.packed.proofs.sign.size.Tie as tie
-use Rattle.packed.proofs.sign.size.Reads as reads
-use Rattle.packed.proofs.sign.size.Lts as lts
 use mir.Syntax.{w32}
 use mir.Val.{toZ, ofZ, SFits}
 use mir.Facts.{toZ-ofZ, toZ-pos}
@@ -16,7 +14,6 @@ use mir.Val.{Fits}
 use Prim.Native.Nat.{ℕ, _<_, _^_}
 use borrow.Author.Needs.{needs}
 
--- [extra
 own : (c : tie.Start) → toZ w32 (ofZ w32 (c .args .x)) ≡ c .args .x
 own c = toZ-ofZ (c .fits .x)
 
@@ -28,8 +25,6 @@ at-least c = let e = own (c .before) in e ∙ pos-size (c .before .args .x) (rw 
 
 small : (c : tie.Start) → SFits w32 (pos (mag (c .args .x)))
 small c = sfits-of (c .fits .x .sfits)
-
--- extra]
 
 sub-result : tie.Need-sub-result
 sub-result c = rw (below c) (small (c .before))

@@ -1,9 +1,6 @@
 use borrow.Author.Needs.{needs}
 use Rattle.packed.proofs.write.code_of.Statement.{statement}
 use Rattle.packed.proofs.write.code_of.Tie as tie
-use Rattle.packed.proofs.write.code_of.Reads as reads
-use Rattle.packed.proofs.write.code_of.Lts as lts
-use Rattle.packed.proofs.write.fits.Reads as fits-reads
 use Rattle.packed.specs.Packed.{writeCode, fitting}
 use mathlib.Core.Path.{_≡_, sym, _∙_}
 use borrow.Author.Tests.{lt-leb, le-leb, not-true, not-false}

@@ -1,20 +1,13 @@
 use borrow.Author.Needs.{needs}
 use Rattle.packed.proofs.write.fits.Statement.{statement}
 use Rattle.packed.proofs.write.fits.Tie as tie
-use Rattle.packed.proofs.write.fits.Reads as reads
-use Rattle.packed.proofs.write.fits.Lts as lts
-use Rattle.packed.proofs.read.half.Reads as half-reads
-use Rattle.packed.proofs.sign.size.Reads as size-reads
 use Rattle.packed.specs.Packed.{fitting, halfOf}
 use mathlib.Core.Path.{_≡_, sym, _∙_, ap}
 use mir.Val.{toZ, ofZ}
 use mir.Syntax.{w32}
 
--- [extra
 back : (c : tie.After-known-told) → toZ w32 (ofZ w32 (c .before .figure .given .0 .0)) ≡ c .before .figure .given .0 .0
 back c = search needs
-
--- extra]
 
 enum-known-figure : tie.Need-enum-known-figure
 enum-known-figure c = search needs

@@ -1,10 +1,6 @@
 use borrow.Author.Needs.{needs}
 use Rattle.packed.proofs.write.place.Statement.{statement}
 use Rattle.packed.proofs.write.place.Tie as tie
-use Rattle.packed.proofs.write.place.Reads as reads
-use Rattle.packed.proofs.write.place.Lts as lts
-use Rattle.packed.proofs.write.fill.Reads as fill-reads
-use Rattle.packed.proofs.write.spell_into.Reads as spell-into-reads
 use native.Mathlib.Omega.{arith}
 use Rattle.packed.proofs.Put.{rest-length, two-parts}
 use Rattle.packed.specs.Packed.{spell}

@@ -1,10 +1,6 @@
 use borrow.Author.Needs.{needs}
 use Rattle.packed.proofs.write.put.Statement.{statement}
 use Rattle.packed.proofs.write.put.Tie as tie
-use Rattle.packed.proofs.write.put.Reads as reads
-use Rattle.packed.proofs.write.put.Lts as lts
-use Rattle.packed.proofs.write.fill.Reads as fill-reads
-use Rattle.packed.proofs.write.put_given.Reads as put-given-reads
 use Rattle.packed.specs.Packed.{fieldOf, fitting, spelling, fewest, halfOf}
 use Rattle.packed.specs.declared.Figure.the-variants.{Given, Missing}
 use mathlib.Core.Path.{_≡_, sym, _∙_, ap}
@@ -16,7 +12,6 @@ use mir.Syntax.{w32}
 use borrow.Author.Tests.{ltb-true}
 use Prim.Native.Nat.{_<_}
 
--- [extra
 back : (c : tie.After-known-told) → toZ w32 (ofZ w32 (c .before .figure .given .0 .0)) ≡ c .before .figure .given .0 .0
 back c = search needs
 
@@ -24,8 +19,6 @@ holds-it : (c : tie.After-figure) → mag (c .figure .given .0 .0) < halfOf (len
 holds-it c =
     let s = c .before .before .before in
     ltb-true _ _ (rw (c .figure .given .1) at (s .pre .1 .1))
-
--- extra]
 
 enum-known-figure : tie.Need-enum-known-figure
 enum-known-figure c = search needs

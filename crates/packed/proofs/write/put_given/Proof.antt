@@ -1,13 +1,6 @@
 use borrow.Author.Needs.{needs}
 use Rattle.packed.proofs.write.put_given.Statement.{statement}
 use Rattle.packed.proofs.write.put_given.Tie as tie
-use Rattle.packed.proofs.write.put_given.Reads as reads
-use Rattle.packed.proofs.write.put_given.Lts as lts
-use Rattle.packed.proofs.read.half.Reads as half-reads
-use Rattle.packed.proofs.sign.plus.Reads as plus-reads
-use Rattle.packed.proofs.sign.size.Reads as size-reads
-use Rattle.packed.proofs.write.fewest_of.Reads as fewest-of-reads
-use Rattle.packed.proofs.write.place.Reads as place-reads
 use native.Mathlib.Omega.{arith}
 use Rattle.packed.proofs.Put.{fewest-holds, fewest-le}
 use Rattle.packed.proofs.Scan.{half-small}
@@ -20,7 +13,6 @@ use mir.Facts.{toZ-ofZ}
 use mir.Val.{toZ, ofZ}
 use mir.Syntax.{w32}
 
--- [extra
 own : (c : tie.Start) → toZ w32 (ofZ w32 (c .args .x)) ≡ c .args .x
 own c = toZ-ofZ (c .fits .x)
 
@@ -37,8 +29,6 @@ few c =
     let m = mag (s .args .x) in
     let e : c .fewest-of .result ≡ fewest w m = c .fewest-of .ensures ∙ ap (fewest w) (size-is (c .before)) in
     rw e (fewest-le w m, omega (arith, fewest-le w m, s .pre .1 .0), fewest-holds w m (s .pre .1 .1))
-
--- extra]
 
 size-requires : tie.Need-size-requires
 size-requires c κs = search needs

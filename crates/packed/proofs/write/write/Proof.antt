@@ -1,10 +1,6 @@
 use borrow.Author.Needs.{needs}
 use Rattle.packed.proofs.write.write.Statement.{statement}
 use Rattle.packed.proofs.write.write.Tie as tie
-use Rattle.packed.proofs.write.write.Reads as reads
-use Rattle.packed.proofs.write.write.Lts as lts
-use Rattle.packed.proofs.write.code_of.Reads as code-of-reads
-use Rattle.packed.proofs.write.put.Reads as put-reads
 use Rattle.packed.specs.Packed.{written, writeCode, fitting, fieldOf}
 use Rattle.packed.proofs.Put.{Writes, writes}
 use mathlib.Core.Path.{_≡_, sym, _∙_, ap}
@@ -14,7 +10,6 @@ use lib.ListN.{length, drop, take}
 use lib.Seq.{length-take-le}
 use borrow.Author.Tests.{eq-eqb, ne-eqb}
 
--- [extra
 fine : (c : tie.Then1)
     → let a = c .before .before .before .args in
     Writes (a .figure) (a .width) (length (a .out .now))
@@ -28,8 +23,6 @@ wide : (c : tie.Then1)
 wide c =
     let a = c .before .before .before .args in
     length-take-le (a .width) (a .out .now) (fine c .fits)
-
--- extra]
 
 code-of-requires : tie.Need-code-of-requires
 code-of-requires c κs = search needs
