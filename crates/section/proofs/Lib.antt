@@ -2,3 +2,4 @@
 pub mod Local
 pub mod Own
 pub mod Allowed
+pub mod Come

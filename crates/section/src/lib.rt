@@ -2,6 +2,8 @@
 use lists::Airfields;
 use lists::Boxes;
 
+pub mod check;
+
 // Section 2.
 #[repr(C)]
 pub struct Regions {
