@@ -3,3 +3,4 @@ pub mod Local
 pub mod Own
 pub mod Allowed
 pub mod Come
+pub mod Walk

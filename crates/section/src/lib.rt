@@ -3,6 +3,8 @@ use lists::Airfields;
 use lists::Boxes;
 
 pub mod check;
+pub mod read;
+pub mod size;
 
 // Section 2.
 #[repr(C)]
