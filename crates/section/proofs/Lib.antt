@@ -4,3 +4,4 @@ pub mod Own
 pub mod Allowed
 pub mod Come
 pub mod Walk
+pub mod Held

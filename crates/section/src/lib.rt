@@ -4,6 +4,7 @@ use lists::Boxes;
 
 pub mod check;
 pub mod read;
+pub mod record;
 pub mod size;
 
 // Section 2.
