@@ -2,3 +2,6 @@
 pub mod Local
 pub mod Own
 pub mod Allowed
+pub mod Come
+pub mod Walk
+pub mod Held

@@ -1,10 +1,12 @@
 -- Document 01, "The command": each section number has its own length and its own limits.
+use mathlib.Core.Path.{_≡_}
 use mathlib.Core.Bool.{Bool, true, false, cond}
 use mathlib.Core.List.{List, [], _∷_}
 use Prim.Native.Nat.{ℕ, _+_, _*_}
 use lib.Dec.{eqb}
 use Rattle.field.specs.Fields.{after, checkNumber, checkMark, checkDelimiter}
 use Rattle.field.specs.declared.Step.{Step}
+use Rattle.field.specs.declared.Step.the-variants.{Next}
 use Rattle.lists.specs.Lists.{checkAirfields, checkBoxes, countAt}
 
 -- what a section is made of
@@ -87,3 +89,8 @@ itemMost BoxList = 2 + 14 * 16
 unfoldable pub itemsMost : List Item → ℕ
 itemsMost [] = 1
 itemsMost (i ∷ is) = itemMost i + itemsMost is
+
+-- ---- An accepted section, which ends where its counts say
+
+abbrev pub Accepted : ℕ → List ℕ → ℕ → Type 0
+Accepted k s at = checkSection k s at ≡ Next (at + itemsSize (layoutOf k) s at)

@@ -4,7 +4,9 @@ use Prim.Native.Nat.{ℕ}
 use lib.ListN.{getD}
 use Rattle.section.specs.Layout.{look}
 use Rattle.section.specs.Contents.{Content, Amount, Names, Areas, amountOf, namesOf, areasOf}
+use Rattle.lists.specs.declared.Airfields.{Airfields}
 use Rattle.section.specs.declared.Regions.{Regions}
+use Rattle.section.specs.declared.ByPhase.{ByPhase}
 use Rattle.section.specs.declared.Airports.{Airports}
 use Rattle.section.specs.declared.Enroute.{Enroute}
 use Rattle.section.specs.declared.Ascent.{Ascent}
@@ -68,11 +70,14 @@ amountIn cs i = amountOf (getD cs i (Amount 0))
 unfoldable pub regionsFrom : List Content → Regions
 regionsFrom cs = record { reporting = areasOf (getD cs 0 (Amount 0)); inhibiting = areasOf (getD cs 1 (Amount 0)) }
 
+abbrev pub byPhase : Airfields → Airfields → ByPhase
+byPhase ascent descent = record { ascent = ascent; descent = descent }
+
 unfoldable pub airportsFrom : List Content → Airports
 airportsFrom cs =
     record {
-      selected = record { ascent = namesOf (getD cs 0 (Amount 0)); descent = namesOf (getD cs 1 (Amount 0)) };
-      inhibited = record { ascent = namesOf (getD cs 2 (Amount 0)); descent = namesOf (getD cs 3 (Amount 0)) };
+      selected = byPhase (namesOf (getD cs 0 (Amount 0))) (namesOf (getD cs 1 (Amount 0)));
+      inhibited = byPhase (namesOf (getD cs 2 (Amount 0))) (namesOf (getD cs 3 (Amount 0)));
       routine = amountIn cs 4;
     }
 

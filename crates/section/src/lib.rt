@@ -2,6 +2,11 @@
 use lists::Airfields;
 use lists::Boxes;
 
+pub mod check;
+pub mod read;
+pub mod record;
+pub mod size;
+
 // Section 2.
 #[repr(C)]
 pub struct Regions {
