@@ -6,3 +6,4 @@ pub mod Walk
 pub mod Marks
 pub mod Accepted
 pub mod Written
+pub mod Checking

@@ -1,4 +1,6 @@
 // The uplink command of document 01, 22 to 835 bytes.
+pub mod check;
+
 use section::Settings;
 
 // What a command carries: flags 0, 1 or 9 (no change), the sections that it names, all others zero; the downlink digit;

@@ -1,0 +1,197 @@
+// Checking a command's text: code and place, and no record built.
+use field::Step;
+use field::check::delimiter;
+use section::check::check_section;
+use text::Seen;
+ghost use mathlib.Core.Path.{_≡_};
+ghost use mathlib.Core.Bool.{not};
+ghost use Prim.Native.Nat.{_+_, _≤_, _<_};
+ghost use lib.ListN.{length};
+ghost use Rattle.text.specs.Equal.{sameBytes};
+ghost use Rattle.text.specs.Parts.{part};
+ghost use Rattle.section.specs.Layout.{layoutOf, isEmpty};
+ghost use Rattle.command.specs.Text.{awr04, isFlag, isDownlink, isIndicator, isNamed, headBytes, numbers, checkAwr04, checkEach, checkHead, checkFrom, ended, checkCommand};
+ghost use Rattle.field.specs.Fields.{after, checkDelimiter};
+ghost use Rattle.command.specs.Steps.{headTest, sectionSeen};
+
+fn wide(b: u8) -> usize
+    ensures { λ r. ⌜ r ≡ b ⌝ }
+{
+    b as usize
+}
+
+fn is_awr04(s: &[u8]) -> bool
+    requires { ⌜ 5 ≤ length (now s) ⌝ }
+    ensures { λ r. ⌜ r ≡ sameBytes (part 0 5 (now (s .entry))) awr04 ⌝ }
+{
+    (s[0] == b'A') & (s[1] == b'W') & (s[2] == b'R') & (s[3] == b'0') & (s[4] == b'4')
+}
+
+// `AWR04`, one fixed group.
+fn check_awr04(s: &[u8]) -> Step
+    ensures { λ r. ⌜ r ≡ checkAwr04 (now (s .entry)) ⌝ }
+{
+    if s.len() < 5 {
+        return Step::Stop(8, 0);
+    }
+    if is_awr04(s) {
+        return Step::Next(5);
+    }
+    Step::Stop(3, 0)
+}
+
+fn is_flag(b: u8) -> bool
+    ensures { λ r. ⌜ r ≡ isFlag b ⌝ }
+{
+    (b == b'0') | (b == b'1') | (b == b'9')
+}
+
+fn is_downlink(b: u8) -> bool
+    ensures { λ r. ⌜ r ≡ isDownlink b ⌝ }
+{
+    (b'0' <= b) & (b <= b'2')
+}
+
+// Whether there is a section of this number: E7 is only 0.
+fn is_section(k: usize) -> bool
+    ensures { λ r. ⌜ r ≡ not (isEmpty (layoutOf k)) ⌝ }
+{
+    match k {
+        2 => true,
+        3 => true,
+        4 => true,
+        5 => true,
+        6 => true,
+        8 => true,
+        9 => true,
+        _ => false,
+    }
+}
+
+// 0 or its own number.
+fn is_indicator(k: usize, b: u8) -> bool
+    requires { ⌜ k ≤ 9 ⌝ }
+    ensures { λ r. ⌜ r ≡ isIndicator k b ⌝ }
+{
+    (b == b'0') | (is_section(k) & (wide(b) == 48 + k))
+}
+
+// Seven flags, the downlink digit, eight indicators.
+fn is_head_byte(i: usize, b: u8) -> bool
+    requires { ⌜ i < 16 ⌝ }
+    ensures { λ r. ⌜ r ≡ headTest i b ⌝ }
+{
+    if i < 7 {
+        return is_flag(b);
+    }
+    if i == 7 {
+        return is_downlink(b);
+    }
+    is_indicator(i - 6, b)
+}
+
+fn check_bytes(s: &[u8]) -> Step
+    requires { ⌜ 5 ≤ length (now s) ⌝ }
+    ensures { λ r. ⌜ r ≡ checkEach headBytes (now (s .entry)) 5 ⌝ }
+{
+    let mut i: usize = 0;
+    while i < 16 {
+        let at = 5 + i;
+        if s.len() <= at {
+            return Step::Stop(8, at);
+        }
+        if !is_head_byte(i, s[at]) {
+            return Step::Stop(4, at);
+        }
+        i += 1;
+    }
+    Step::Next(21)
+}
+
+// The first 22 bytes.
+fn check_head(s: &[u8]) -> Step
+    ensures { λ r. ⌜ r ≡ checkHead (now (s .entry)) ⌝ }
+{
+    match check_awr04(s) {
+        Step::Stop(code, place) => Step::Stop(code, place),
+        Step::Next(_) => check_rest(s),
+    }
+}
+
+fn check_rest(s: &[u8]) -> Step
+    requires { ⌜ 5 ≤ length (now s) ⌝ }
+    ensures { λ r. ⌜ r ≡ after (checkEach headBytes (now (s .entry)) 5) (checkDelimiter (now (s .entry))) ⌝ }
+{
+    match check_bytes(s) {
+        Step::Stop(code, place) => Step::Stop(code, place),
+        Step::Next(at) => delimiter(s, at),
+    }
+}
+
+// Whether section k is named: E2 stands at byte 13.
+fn is_named(s: &[u8], k: usize) -> bool
+    requires { ⌜ (k ≤ 9) × (22 ≤ length (now s)) ⌝ }
+    ensures { λ r. ⌜ r ≡ isNamed (now (s .entry)) k ⌝ }
+{
+    wide(s[11 + k]) == 48 + k
+}
+
+fn section_seen(s: &[u8], k: usize, at: usize) -> Step
+    requires { ⌜ (k ≤ 9) × (22 ≤ length (now s)) × (at ≤ length (now s)) ⌝ }
+    ensures { λ r. ⌜ r ≡ sectionSeen (now (s .entry)) k at ⌝ }
+{
+    if is_named(s, k) {
+        return check_section(s, at, k);
+    }
+    Step::Next(at)
+}
+
+// The sections named, in rising order.
+fn check_sections(s: &[u8]) -> Step
+    requires { ⌜ 22 ≤ length (now s) ⌝ }
+    ensures { λ r. ⌜ r ≡ checkFrom numbers (now (s .entry)) 22 ⌝ }
+{
+    let mut k: usize = 2;
+    let mut at = 22;
+    while k < 10 {
+        match section_seen(s, k, at) {
+            Step::Stop(code, place) => {
+                return Step::Stop(code, place);
+            }
+            Step::Next(p) => {
+                at = p;
+            }
+        }
+        k += 1;
+    }
+    Step::Next(at)
+}
+
+// Bytes after the last delimiter are 8 at the first of them.
+fn check_end(s: &[u8]) -> Seen
+    requires { ⌜ 22 ≤ length (now s) ⌝ }
+    ensures { λ r. ⌜ r ≡ ended (now (s .entry)) (checkFrom numbers (now (s .entry)) 22) ⌝ }
+{
+    match check_sections(s) {
+        Step::Stop(code, place) => Seen::Bad(code, place),
+        Step::Next(at) => {
+            if at == s.len() {
+                return Seen::Fine;
+            }
+            Seen::Bad(8, at)
+        }
+    }
+}
+
+// The code and place of a command's text.
+pub fn check(s: &[u8]) -> Seen
+    ensures { λ r. ⌜ r ≡ checkCommand (now (s .entry)) ⌝ }
+{
+    if 835 < s.len() {
+        return Seen::Bad(1, 0);
+    }
+    match check_head(s) {
+        Step::Stop(code, place) => Seen::Bad(code, place),
+        Step::Next(_) => check_end(s),
+    }
+}
