@@ -5,3 +5,4 @@ pub mod Allowed
 pub mod Come
 pub mod Walk
 pub mod Held
+pub mod Written

@@ -1,9 +1,10 @@
 -- The record's sections as what each holds, in the order of its layout, and back. No contents are all zero.
-use mathlib.Core.List.{List, [], _∷_}
+use mathlib.Core.List.{List, [], _∷_, _++_}
 use Prim.Native.Nat.{ℕ}
 use lib.ListN.{getD}
 use Rattle.section.specs.Layout.{look}
 use Rattle.section.specs.Contents.{Content, Amount, Names, Areas, amountOf, namesOf, areasOf}
+use Rattle.lists.specs.Lists.{airfieldsText}
 use Rattle.lists.specs.declared.Airfields.{Airfields}
 use Rattle.section.specs.declared.Regions.{Regions}
 use Rattle.section.specs.declared.ByPhase.{ByPhase}
@@ -26,6 +27,10 @@ airportsHold x =
     ∷ Names (x .inhibited .descent)
     ∷ Amount (x .routine)
     ∷ []
+
+-- the text of two lists, one behind the other
+abbrev pub phasesText : ByPhase → List ℕ
+phasesText x = airfieldsText (x .ascent) ++ airfieldsText (x .descent)
 
 abbrev pub enrouteHold : Enroute → List Content
 enrouteHold x = Amount (x .interval) ∷ Amount (x .wind) ∷ []

@@ -6,6 +6,7 @@ pub mod check;
 pub mod read;
 pub mod record;
 pub mod size;
+pub mod write;
 
 // Section 2.
 #[repr(C)]
