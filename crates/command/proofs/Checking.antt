@@ -76,7 +76,8 @@ head-end s i h j = let e : i ≡ 16 = omega arith in rw e
 numbers-at : (i : ℕ) → i < 8 → getD numbers i 0 ≡ 2 + i
 numbers-at i h = at (λ (j : ℕ). 2 + j) 8 i h
 
-numbers-next : (k : ℕ) → 2 ≤ k → k < 10 → drop (k - 2) numbers ≡ k ∷ drop (k + 1 - 2) numbers
+-- the numbers from k on begin with k
+pub numbers-next : (k : ℕ) → 2 ≤ k → k < 10 → drop (k - 2) numbers ≡ k ∷ drop (k + 1 - 2) numbers
 numbers-next k lo hi =
     let i : k - 2 < 8 = omega arith in
     let e : 2 + (k - 2) ≡ k = omega arith in

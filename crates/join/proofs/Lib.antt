@@ -3,3 +3,4 @@ pub mod Places
 pub mod Parts
 pub mod Laws
 pub mod Printed
+pub mod Side

@@ -11,6 +11,8 @@ use Rattle.text.specs.declared.Seen.{Seen}
 use Rattle.text.specs.declared.Seen.the-variants.{Fine, Bad}
 use Rattle.section.specs.Layout.{layoutOf, itemsSize}
 use Rattle.command.specs.Text.{awr04, numbers, isNamed, checkCommand}
+use Rattle.join.specs.declared.Told.{Told}
+use Rattle.join.specs.declared.Told.the-variants.{Text, Refused}
 
 -- ---- The parts of an accepted text
 
@@ -64,6 +66,11 @@ bySeen Fine Fine t room = cond (leb (length t) room) (Joins t) (Refuses 2 0 0)
 
 unfoldable pub join : List ℕ → List ℕ → ℕ → Joined
 join a b room = bySeen (checkCommand a) (checkCommand b) (joinText a b) room
+
+-- what is told of it
+abbrev pub told : Joined → Told
+told (Joins t) = Text (length t)
+told (Refuses c p n) = Refused c p n
 
 -- what the buffer holds afterwards
 abbrev pub joinedOver : Joined → List ℕ → List ℕ
