@@ -13,3 +13,4 @@ pub mod Night
 pub mod Lent
 pub mod Calls
 pub mod Bytes
+pub mod Found

@@ -2,3 +2,4 @@ pub mod Board
 pub mod History
 pub mod Lent
 pub mod Calls
+pub mod Survey

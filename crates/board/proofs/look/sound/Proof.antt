@@ -1,0 +1,129 @@
+use borrow.Author.Needs.{needs}
+use Rattle.board.proofs.look.sound.Statement.{statement}
+use Rattle.board.proofs.look.sound.Tie as tie
+use Rattle.board.proofs.look.sound.Reads as reads
+use Rattle.board.proofs.look.sound.Lts as lts
+use Rattle.board.proofs.look.is_fine.Reads as is-fine-reads
+use Rattle.board.proofs.look.middle.Reads as middle-reads
+use Rattle.command.proofs.check.check.Reads as check-reads
+use Rattle.text.proofs.all_allowed.Reads as all-allowed-reads
+use native.Mathlib.Omega.{arith}
+use mathlib.Core.Path.{_≡_, refl, sym, _∙_, ap}
+use mathlib.Core.Bool.{Bool, true, false, cond, not, _&&_}
+use mathlib.Core.List.{List, [], _∷_, _++_}
+use borrow.Author.Tests.{eq-eqb, ne-eqb, lt-leb, le-leb, lt-ltb, le-ltb, not-true, not-false}
+use Prim.Native.Nat.{ℕ, _+_, _-_, _≤_, _<_}
+use lib.ListN.{length, getD, set, take, drop}
+use denote.Ref.{now}
+use Rattle.board.specs.Survey.{wantedBy, beginAt, usedFor, soundAt, startOf, stepOf}
+use Prim.Native.Nat.{_*_}
+use Rattle.config.specs.Config.{isFine}
+use Rattle.command.specs.Text.{checkCommand}
+
+six-long : (c : tie.Then4) → length (c .before .before .before .before .before .before .before .before .before .args .s .designator) ≡ 6
+six-long c = search needs
+
+six-long5 : (c : tie.After-is-fine) → length (c .before .before .before .before .before .before .before .before .before .before .before .before .args .s .designator) ≡ 6
+six-long5 c = search needs
+
+-- src/look.rt:100:9
+middle-requires : tie.Need-middle-requires
+middle-requires c κs = search needs
+
+-- src/look.rt:102:9
+returns : tie.Need-returns
+unfolding soundAt
+returns c = let a = c .before .before .before .args in rw (le-ltb (a .i) 64 (omega (arith, c .if1 .taken)))
+
+-- src/look.rt:105:9
+returns-2 : tie.Need-returns-2
+unfolding soundAt
+returns-2 c = let a = c .before .before .before .before .args in rw (lt-ltb (a .i) 64 (omega (arith, c .before .if1 .left)), lt-leb (a .s .length) 835 (rw (c .before .before .middle .ensures) at (c .if2 .taken)))
+
+-- src/look.rt:107:14
+mul-at : tie.Need-mul-at
+mul-at c = search needs
+
+-- src/look.rt:108:15
+add-end : tie.Need-add-end
+add-end c = search needs
+
+-- src/look.rt:110:9
+returns-3 : tie.Need-returns-3
+unfolding soundAt
+returns-3 c = let a = c .before .before .before .before .before .args in rw (lt-ltb (a .i) 64 (omega (arith, c .before .before .if1 .left)), le-leb (a .s .length) 835 (rw (c .before .before .before .middle .ensures) at (c .before .if2 .left)), lt-leb (835 * a .i + a .s .length) (length (now (a .area))) (rw (c .before .before .before .middle .ensures) at (c .if3 .taken)))
+
+-- src/look.rt:113:21
+slice-aggregate-all-allowed : tie.Need-slice-aggregate-all-allowed
+slice-aggregate-all-allowed c = search needs
+
+-- src/look.rt:113:9
+all-allowed-requires : tie.Need-all-allowed-requires
+all-allowed-requires c κs = search needs
+
+-- src/look.rt:114:9
+returns-4 : tie.Need-returns-4
+unfolding soundAt
+returns-4 c = let a = c .before .before .before .before .before .before .before .before .before .args in
+    rw (
+      lt-ltb (a .i) 64 (omega (arith, c .before .before .before .before .before .before .if1 .left)),
+      le-leb (a .s .length) 835 (rw (c .before .before .before .before .before .before .before .middle .ensures) at (c .before .before .before .before .before .if2 .left)),
+      le-leb (835 * a .i + a .s .length) (length (now (a .area))) (rw (c .before .before .before .before .before .before .before .middle .ensures) at (c .before .before .before .before .if3 .left)),
+      eq-eqb (length (a .s .designator)) 6 (six-long c),
+      sym (c .before .all-allowed .ensures) ∙ not-true _ (c .if4 .taken),
+    )
+
+-- src/look.rt:116:19
+sub-check : tie.Need-sub-check
+sub-check c = search needs
+
+-- src/look.rt:116:19
+part-check-start : tie.Need-part-check-start
+part-check-start c = search needs
+
+-- src/look.rt:116:19
+part-check-end : tie.Need-part-check-end
+part-check-end c = search needs
+
+-- src/look.rt:116:13
+check-requires : tie.Need-check-requires
+check-requires c κs = search needs
+
+-- src/look.rt:116:5
+is-fine-requires : tie.Need-is-fine-requires
+is-fine-requires c κs = search needs
+
+-- src/look.rt:97:1
+returns-5 : tie.Need-returns-5
+unfolding soundAt
+returns-5 c = let a = c .before .before .before .before .before .before .before .before .before .before .before .before .args in
+    let m = c .before .before .before .before .before .before .before .before .before .before .middle .ensures in
+    let n : 835 * a .i + c .before .before .before .before .before .before .before .before .before .before .middle .result - 835 * a .i ≡ a .s .length = omega (arith, m) in
+    rw (
+      lt-ltb (a .i) 64 (omega (arith, c .before .before .before .before .before .before .before .before .before .if1 .left)),
+      le-leb (a .s .length) 835 (rw m at (c .before .before .before .before .before .before .before .before .if2 .left)),
+      le-leb (835 * a .i + a .s .length) (length (now (a .area))) (rw m at (c .before .before .before .before .before .before .before .if3 .left)),
+      eq-eqb (length (a .s .designator)) 6 (six-long5 c),
+      sym (c .before .before .before .before .all-allowed .ensures) ∙ not-false _ (c .before .before .before .if4 .left),
+    )
+    (c .is-fine .ensures ∙ ap isFine (c .before .check .ensures ∙ ap (λ (j : ℕ). checkCommand (take j (drop (835 * a .i) (now (a .area))))) n))
+
+pub sound-spec : {M : Type 1} → statement M
+sound-spec =
+    tie.close
+    (tie.spec
+    middle-requires
+    returns
+    returns-2
+    mul-at
+    add-end
+    returns-3
+    slice-aggregate-all-allowed
+    all-allowed-requires
+    returns-4
+    sub-check
+    part-check-start
+    part-check-end
+    check-requires
+    is-fine-requires
+    returns-5)

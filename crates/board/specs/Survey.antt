@@ -1,0 +1,81 @@
+-- What one look over the lent slots finds. No promise to a caller rests on these names.
+use mathlib.Core.Bool.{Bool, true, false, cond, not, _&&_}
+use mathlib.Core.List.{List, [], _∷_}
+use Prim.Native.Nat.{ℕ, suc, _+_, _*_}
+use lib.Dec.{leb, ltb, eqb}
+use lib.ListN.{length, replicate}
+use Rattle.text.specs.Parts.{part}
+use Rattle.text.specs.Equal.{sameBytes}
+use Rattle.command.specs.Text.{checkCommand}
+use Rattle.config.specs.Config.{isFine}
+use Rattle.board.specs.Board.{isDesignator}
+use Rattle.board.specs.declared.Slot.{Slot}
+use Rattle.board.specs.declared.Wanted.{Wanted}
+use Rattle.board.specs.declared.Survey.{Survey}
+
+-- the aircraft that a call is about
+unfoldable pub wantedBy : List ℕ → Wanted
+wantedBy d =
+    cond (isDesignator d) (record { designator = d; fine = true }) (record { designator = replicate 6 0; fine = false })
+
+abbrev pub isUsed : Slot → Bool
+isUsed x = not (eqb (x .length) 0)
+
+-- whether a slot is used for an aircraft
+unfoldable pub usedFor : List ℕ → Slot → Bool
+usedFor d x = isUsed x && sameBytes d (x .designator)
+
+-- none of these slots is
+unfoldable pub noneFor : List ℕ → List Slot → Bool
+noneFor d [] = true
+noneFor d (x ∷ xs) = not (usedFor d x) && noneFor d xs
+
+-- no slot behind a used one is for its aircraft; not looked at where the board is not valid anyway
+unfoldable pub aloneIn : Survey → Slot → List Slot → Bool
+aloneIn a x rest = cond (a .valid && isUsed x) (noneFor (x .designator) rest) true
+
+-- from which slot on that is looked at
+unfoldable pub beginAt : Survey → Slot → ℕ → ℕ → ℕ
+beginAt a x i n = cond (a .valid && isUsed x && ltb i n) (i + 1) n
+
+-- designator and text of the used slot i
+unfoldable pub soundAt : Slot → List ℕ → ℕ → Bool
+soundAt x area i =
+    ltb i 64
+    && leb (x .length) 835
+    && leb (835 * i + x .length) (length area)
+    && isDesignator (x .designator)
+    && isFine (checkCommand (part (835 * i) (x .length) area))
+
+-- the lower of a slot found before and slot i
+abbrev pub firstOf : ℕ → ℕ → ℕ
+firstOf found i = cond (ltb found i) found i
+
+unfoldable pub startOf : ℕ → ℕ → Survey
+startOf n bytes =
+    record { valid = leb n 64 && eqb bytes (835 * n); length = 0; own = n; free = n; count = n }
+
+-- a free slot, and a used one
+abbrev pub withFree : Survey → ℕ → Survey
+withFree a i = record { valid = true; length = a .length; own = a .own; free = firstOf (a .free) i; count = a .count }
+
+abbrev pub withUsed : Survey → Slot → Bool → ℕ → List ℕ → Survey
+withUsed a x fine i d =
+    cond (ltb (a .own) i)
+    (record { valid = fine; length = a .length; own = a .own; free = a .free; count = a .count })
+    (cond (sameBytes d (x .designator))
+    (record { valid = fine; length = x .length; own = i; free = a .free; count = a .count })
+    (record { valid = fine; length = a .length; own = a .own; free = a .free; count = a .count }))
+
+unfoldable pub stepOf : List ℕ → Wanted → Survey → Slot → Bool → ℕ → Survey
+stepOf area w a x clear i =
+    cond (a .valid)
+    (cond (isUsed x) (withUsed a x (clear && soundAt x area i) i (w .designator)) (withFree a i))
+    a
+
+unfoldable pub scanFrom : List ℕ → Wanted → Survey → ℕ → List Slot → Survey
+scanFrom area w a i [] = a
+scanFrom area w a i (x ∷ xs) = scanFrom area w (stepOf area w a x (aloneIn a x xs) i) (suc i) xs
+
+abbrev pub scanned : List ℕ → Wanted → List Slot → Survey
+scanned area w xs = scanFrom area w (startOf (length xs) (length area)) 0 xs

@@ -1,0 +1,207 @@
+// One slot more in a look over the slots.
+use crate::Slot;
+use crate::Survey;
+use crate::Wanted;
+use command::check::check;
+use text::Seen;
+use text::all_allowed;
+ghost use mathlib.Core.Path.{_≡_};
+ghost use mathlib.Core.Bool.{not, _&&_};
+ghost use Prim.Native.Nat.{_<_};
+ghost use lib.Dec.{eqb};
+ghost use mathlib.Core.List.{[]};
+ghost use lib.ListN.{length};
+ghost use Rattle.text.specs.Equal.{sameBytes};
+ghost use Rattle.command.specs.Text.{checkCommand};
+ghost use Rattle.config.specs.Config.{isFine};
+ghost use Rattle.board.specs.Survey.{wantedBy, usedFor, soundAt, beginAt, startOf, firstOf, withUsed, stepOf};
+
+// The aircraft that a call is about.
+pub fn wanted(designator: &[u8]) -> Wanted
+    ensures { λ r. ⌜ r ≡ wantedBy (now (designator .entry)) ⌝ }
+{
+    let mut bytes = [0u8; 6];
+    if designator.len() != 6 {
+        return Wanted {
+            designator: bytes,
+            fine: false,
+        };
+    }
+    if !all_allowed(designator) {
+        return Wanted {
+            designator: bytes,
+            fine: false,
+        };
+    }
+    bytes[0] = designator[0];
+    bytes[1] = designator[1];
+    bytes[2] = designator[2];
+    bytes[3] = designator[3];
+    bytes[4] = designator[4];
+    bytes[5] = designator[5];
+    Wanted {
+        designator: bytes,
+        fine: true,
+    }
+}
+
+// No aircraft, for a look that asks for none.
+pub fn nobody() -> Wanted
+    ensures { λ r. ⌜ r ≡ wantedBy [] ⌝ }
+{
+    Wanted {
+        designator: [0u8; 6],
+        fine: false,
+    }
+}
+
+fn same_aircraft(a: [u8; 6], b: [u8; 6]) -> bool
+    ensures { λ r. ⌜ r ≡ sameBytes a b ⌝ }
+{
+    (a[0] == b[0])
+        & (a[1] == b[1])
+        & (a[2] == b[2])
+        & (a[3] == b[3])
+        & (a[4] == b[4])
+        & (a[5] == b[5])
+}
+
+// Whether all are apart that were looked at, and one slot more.
+pub fn apart(clear: bool, x: Slot, s: Slot) -> bool
+    ensures { λ r. ⌜ r ≡ (clear && not (usedFor (s .designator) x)) ⌝ }
+{
+    let mine = s.designator;
+    let its = x.designator;
+    let used = x.length != 0;
+    clear & !(used & same_aircraft(mine, its))
+}
+
+// Behind which slot the others are looked at: behind the last where there is nothing to find.
+pub fn begin(a: Survey, s: Slot, i: usize, n: usize) -> usize
+    ensures { λ r. ⌜ r ≡ beginAt a s i n ⌝ }
+{
+    if !a.valid {
+        return n;
+    }
+    if s.length == 0 {
+        return n;
+    }
+    if i < n {
+        return i + 1;
+    }
+    n
+}
+
+fn is_fine(seen: Seen) -> bool
+    ensures { λ r. ⌜ r ≡ isFine seen ⌝ }
+{
+    match seen {
+        Seen::Fine => true,
+        Seen::Bad(_, _) => false,
+    }
+}
+
+fn middle(n: u16) -> usize
+    ensures { λ r. ⌜ r ≡ n ⌝ }
+{
+    n as usize
+}
+
+// Whether a used slot's designator is well formed and its text accepted.
+fn sound(s: Slot, area: &[u8], i: usize) -> bool
+    ensures { λ r. ⌜ r ≡ soundAt s (now (area .entry)) i ⌝ }
+{
+    let n = middle(s.length);
+    if 63 < i {
+        return false;
+    }
+    if 835 < n {
+        return false;
+    }
+    let at = 835 * i;
+    let end = at + n;
+    if area.len() < end {
+        return false;
+    }
+    let designator = s.designator;
+    if !all_allowed(&designator) {
+        return false;
+    }
+    is_fine(check(&area[at..end]))
+}
+
+// Before the first slot: the number of slots and the area's length.
+pub fn start(n: usize, area: &[u8]) -> Survey
+    ensures { λ r. ⌜ r ≡ startOf n (length (now (area .entry))) ⌝ }
+{
+    let valid = (n <= 64) & (area.len() == 835 * (n % 65));
+    Survey {
+        valid,
+        length: 0,
+        own: n,
+        free: n,
+        count: n,
+    }
+}
+
+fn first_of(found: usize, i: usize) -> usize
+    ensures { λ r. ⌜ r ≡ firstOf found i ⌝ }
+{
+    if found < i {
+        return found;
+    }
+    i
+}
+
+// A used slot: its own soundness, and whether it is the aircraft's.
+fn with_used(a: Survey, s: Slot, fine: bool, i: usize, w: Wanted) -> Survey
+    ensures { λ r. ⌜ r ≡ withUsed a s fine i (w .designator) ⌝ }
+{
+    if a.own < i {
+        return Survey {
+            valid: fine,
+            length: a.length,
+            own: a.own,
+            free: a.free,
+            count: a.count,
+        };
+    }
+    let asked = w.designator;
+    let its = s.designator;
+    if same_aircraft(asked, its) {
+        return Survey {
+            valid: fine,
+            length: s.length,
+            own: i,
+            free: a.free,
+            count: a.count,
+        };
+    }
+    Survey {
+        valid: fine,
+        length: a.length,
+        own: a.own,
+        free: a.free,
+        count: a.count,
+    }
+}
+
+// One slot more. `clear` says that no slot behind it is for the same aircraft.
+pub fn step(a: Survey, s: Slot, clear: bool, area: &[u8], i: usize, w: Wanted) -> Survey
+    ensures { λ r. ⌜ r ≡ stepOf (now (area .entry)) w a s clear i ⌝ }
+{
+    if !a.valid {
+        return a;
+    }
+    if s.length == 0 {
+        return Survey {
+            valid: true,
+            length: a.length,
+            own: a.own,
+            free: first_of(a.free, i),
+            count: a.count,
+        };
+    }
+    let fine = clear & sound(s, area, i);
+    with_used(a, s, fine, i, w)
+}

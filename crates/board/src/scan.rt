@@ -1,0 +1,49 @@
+// The lent run of slots: looked over, and one of them stored.
+use crate::Slot;
+use crate::Survey;
+use crate::Wanted;
+use crate::look::apart;
+use crate::look::begin;
+use crate::look::start;
+use crate::look::step;
+ghost use mathlib.Core.Path.{_≡_};
+ghost use Prim.Native.Nat.{_+_};
+ghost use lib.ListN.{drop, set};
+ghost use Rattle.board.specs.Survey.{aloneIn, scanned};
+
+// Whether no slot behind slot i, which is `s`, is used for its aircraft.
+pub fn alone(slots: &[Slot], a: Survey, s: Slot, i: usize) -> bool
+    ensures { λ r. ⌜ r ≡ aloneIn a s (drop (i + 1) (now (slots .entry))) ⌝ }
+{
+    let mut clear = true;
+    let mut j = begin(a, s, i, slots.len());
+    while j < slots.len() {
+        clear = apart(clear, slots[j], s);
+        j += 1;
+    }
+    clear
+}
+
+// One look over the slots for all that adding and taking ask.
+pub fn look_over(slots: &[Slot], area: &[u8], w: Wanted) -> Survey
+    ensures { λ r. ⌜ r ≡ scanned (now (area .entry)) w (now (slots .entry)) ⌝ }
+{
+    let mut a = start(slots.len(), area);
+    let mut i = 0;
+    while i < slots.len() {
+        let s = slots[i];
+        let clear = alone(slots, a, s, i);
+        a = step(a, s, clear, area, i, w);
+        i += 1;
+    }
+    a
+}
+
+// Stores a slot, where there is one of that number.
+pub fn set_slot(slots: &mut [Slot], i: usize, s: Slot)
+    ensures { λ _. ⌜ now (slots .exit) ≡ set (now (slots .entry)) i s ⌝ }
+{
+    if i < slots.len() {
+        slots[i] = s;
+    }
+}
