@@ -129,7 +129,7 @@ fn check_rest(s: &[u8]) -> Step
 }
 
 // Whether section k is named: E2 stands at byte 13.
-fn is_named(s: &[u8], k: usize) -> bool
+pub fn is_named(s: &[u8], k: usize) -> bool
     requires { ⌜ (k ≤ 9) × (22 ≤ length (now s)) ⌝ }
     ensures { λ r. ⌜ r ≡ isNamed (now (s .entry)) k ⌝ }
 {
