@@ -1,3 +1,4 @@
 -- The laws that the layers above cite.
 pub mod Apply
+pub mod Seven
 pub mod Valid
