@@ -134,11 +134,14 @@ pub fn apply(x: Settings, s: &[u8]) -> Applied
     }
     match check(s) {
         Seen::Bad(code, place) => refuse(code, place),
-        Seen::Fine => Applied {
-            code: 0,
-            place: 0,
-            downlink: downlink_of(s),
-            settings: apply_text(x, s),
-        },
+        Seen::Fine => {
+            let after = apply_text(x, s);
+            Applied {
+                code: 0,
+                place: 0,
+                downlink: downlink_of(s),
+                settings: after,
+            }
+        }
     }
 }

@@ -2,11 +2,12 @@
 use Rattle.command.proofs.read.enroute_over.Statement.{statement}
 use Rattle.command.proofs.read.enroute_over.Tie as tie
 use mathlib.Core.Path.{sym, ap, _∙_}
+use lib.Dec.{lit≤}
 use Rattle.section.specs.Settings.{enrouteFrom}
 use Rattle.command.proofs.Placed.{stands-inside, stands-accepted, stands-held}
 
 is-named-requires : tie.Need-is-named-requires
-is-named-requires c κs = stands-inside (c .before .pre)
+is-named-requires c κs = (lit≤ tt, stands-inside (c .before .pre) .1)
 
 enroute-at-requires : tie.Need-enroute-at-requires
 enroute-at-requires c κs = stands-accepted (c .before .before .before .pre) (sym (c .before .is-named .ensures) ∙ c .if1 .taken)
