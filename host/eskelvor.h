@@ -280,12 +280,12 @@ esk_settings esk_reset(void);
 /* 1 where the flags are 0 or 1 and every section would pass the checks of esk_command_write, else 0. */
 uint8_t esk_settings_valid(esk_settings settings);
 
-/* The answer of esk_apply. 8 bytes, no padding. */
+/* The answer of esk_apply. 16 bytes, no padding. */
 typedef struct esk_applied {
-    uint32_t place;   /* offset in the text, from 0; 0 with code 12 */
+    size_t place;     /* offset in the text, from 0; 0 with code 12 */
     uint8_t code;     /* 0, 12 or a code of esk_command_check */
     uint8_t downlink; /* the command's downlink digit where code is 0; else 0 */
-    uint8_t spare[2]; /* 0 */
+    uint8_t spare[6]; /* 0 */
 } esk_applied;
 
 /*

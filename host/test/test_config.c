@@ -120,11 +120,13 @@ static void apply_holds(const esk_settings *from, const char *text, size_t lengt
     const uint8_t *lent_text = lend(&in, text, length, 1);
     esk_applied got = esk_apply(lend_settings(&held, *from), lent_text, length);
     checks++;
-    if (got.code != code || got.place != place || got.downlink != downlink || got.spare[0] || got.spare[1]) {
+    static const uint8_t zero[sizeof got.spare];
+    int spare = memcmp(got.spare, zero, sizeof zero) != 0;
+    if (got.code != code || got.place != place || got.downlink != downlink || spare) {
         fail(why, "esk_apply", bytes(text), length);
         fprintf(stderr, "  expected: code %u place %lu downlink %u\n", code, place, downlink);
-        fprintf(stderr, "  got     : code %u place %lu downlink %u spare %u %u\n", (unsigned)got.code,
-                (unsigned long)got.place, (unsigned)got.downlink, (unsigned)got.spare[0], (unsigned)got.spare[1]);
+        fprintf(stderr, "  got     : code %u place %lu downlink %u%s\n", (unsigned)got.code, (unsigned long)got.place,
+                (unsigned)got.downlink, spare ? ", spare not 0" : "");
         exit(1);
     }
     settings_hold(&held, to, why);
@@ -243,8 +245,8 @@ static void layout(void)
     HOLD(offsetof(esk_settings, airports) == 265 && offsetof(esk_settings, enroute) == 590);
     HOLD(offsetof(esk_settings, ascent) == 592 && offsetof(esk_settings, routine6) == 602);
     HOLD(offsetof(esk_settings, routine8) == 603 && offsetof(esk_settings, hours) == 604);
-    HOLD(sizeof(esk_applied) == 8 && offsetof(esk_applied, place) == 0 && offsetof(esk_applied, code) == 4);
-    HOLD(offsetof(esk_applied, downlink) == 5 && offsetof(esk_applied, spare) == 6);
+    HOLD(sizeof(esk_applied) == 16 && offsetof(esk_applied, place) == 0 && offsetof(esk_applied, code) == 8);
+    HOLD(offsetof(esk_applied, downlink) == 9 && offsetof(esk_applied, spare) == 10);
 }
 
 int main(void)

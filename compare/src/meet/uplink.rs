@@ -21,7 +21,7 @@ pub fn got(read: &Result<Command, Refusal>) -> ours::CommandGot {
 pub fn applied(applied: Result<u8, Refusal>) -> ours::Applied {
     match applied {
         Ok(downlink) => ours::Applied { downlink, ..Default::default() },
-        Err(Refusal { code, place }) => ours::Applied { code, place, ..Default::default() },
+        Err(Refusal { code, place }) => ours::Applied { code, place: place as usize, ..Default::default() },
     }
 }
 

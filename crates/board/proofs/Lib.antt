@@ -1,5 +1,4 @@
 -- The laws that the layers above cite.
-pub mod Codes
 pub mod Places
 pub mod Valid
 pub mod Steps

@@ -12,10 +12,10 @@ use Rattle.text.specs.declared.Seen.the-variants.{Fine, Bad}
 use Rattle.text.proofs.Equal.{same-self}
 use Rattle.section.specs.declared.Settings.{Settings}
 use Rattle.command.specs.Text.{checkCommand}
+use Rattle.command.proofs.Codes.{check-coded}
 use Rattle.config.specs.Config.{isFine, applyTo}
 use Rattle.board.specs.Board.{isDesignator, Place, isNone, isFree, any, waiting, isValid, Move, Stay, Put, Free, onBoard, Given, Refused, replyOf}
 use Rattle.board.specs.History.{Event, Add, Take, Entry, aircraft, heard, since, onto, joined, move, after, logged, isEmptyBoard, toldSeen, due, noCommands, calledFor, act}
-use Rattle.board.proofs.Codes.{check-low}
 use Rattle.board.proofs.Places.{never, none-is, some-for}
 use Rattle.board.proofs.Valid.{waiting-fine, waiting-named}
 use Rattle.board.proofs.Steps.{is-fine, right}
@@ -50,7 +50,7 @@ due-nine : (n : Bool) (t : List ℕ) (s : Seen) (none free : Bool) (w : List ℕ
     → cond n (toldSeen s (cond (none && not free) (Refused 9 0) (Given w))) (Refused 4 0) ≡ Refused 9 place
     → (none ≡ true) × (free ≡ false)
 due-nine true t (Bad code p) none free w place k e =
-    let l : code ≤ 8 = check-low t code p k in let z : code ≡ 9 = cc in absurd (omega arith)
+    let l : code ≤ 8 = check-coded t code p k .1 in let z : code ≡ 9 = cc in absurd (omega arith)
 due-nine true t Fine true true w place k e = (refl, cc)
 due-nine true t Fine true false w place k e = (refl, refl)
 due-nine true t Fine false free w place k e = (cc, cc)
@@ -62,7 +62,7 @@ due-ten free w (Add d t) place h = go (isDesignator d) (checkCommand t) refl (is
     go : (n : Bool) (s : Seen) → checkCommand t ≡ s → (none : Bool)
         → cond n (toldSeen s (cond none (Refused 9 0) (Given (onto w t)))) (Refused 4 0) ≡ Refused 10 place → ⊥
     go true (Bad code p) k none e =
-        let l : code ≤ 8 = check-low t code p k in let z : code ≡ 10 = cc in omega arith
+        let l : code ≤ 8 = check-coded t code p k .1 in let z : code ≡ 10 = cc in omega arith
     go true Fine k true e = let z : _≡_ {A = ℕ} 9 10 = cc in omega arith
     go true Fine k false e = let z : _≡_ {A = ℕ} 0 1 = cc in omega arith
     go false s k none e = let z : _≡_ {A = ℕ} 4 10 = cc in omega arith

@@ -7,3 +7,5 @@ pub mod Marks
 pub mod Accepted
 pub mod Written
 pub mod Checking
+pub mod Placed
+pub mod Codes

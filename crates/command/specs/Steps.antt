@@ -1,12 +1,17 @@
--- What the inner functions of the check answer. No promise to a caller rests on these names.
-use mathlib.Core.Bool.{Bool, cond}
-use mathlib.Core.List.{List}
-use Prim.Native.Nat.{ℕ, _-_}
+-- What the inner functions of the check and of the reader answer. No promise to a caller rests on these names.
+use mathlib.Core.Path.{_≡_}
+use mathlib.Core.Bool.{Bool, true, false, cond, _||_}
+use mathlib.Core.List.{List, [], _∷_}
+use Prim.Native.Nat.{ℕ, _+_, _-_}
 use lib.Dec.{ltb, eqb}
-use Rattle.section.specs.Layout.{checkSection}
+use Rattle.text.specs.declared.Seen.the-variants.{Fine}
+use Rattle.section.specs.Layout.{layoutOf, checkSection, itemsSize}
+use Rattle.section.specs.Contents.{Content}
 use Rattle.field.specs.declared.Step.{Step}
 use Rattle.field.specs.declared.Step.the-variants.{Next}
-use Rattle.command.specs.Text.{isFlag, isDownlink, isIndicator, isNamed}
+use Rattle.command.specs.Text.{isFlag, isDownlink, isIndicator, isNamed, numbers, checkCommand}
+use Rattle.command.specs.Record.{heldIn}
+use Rattle.command.specs.declared.places.Places.{Places}
 
 -- the test of the byte i bytes behind the first flag
 abbrev pub headTest : ℕ → ℕ → Bool
@@ -15,3 +20,44 @@ headTest i b = cond (ltb i 7) (isFlag b) (cond (eqb i 7) (isDownlink b) (isIndic
 -- a section, where it is named
 abbrev pub sectionSeen : List ℕ → ℕ → ℕ → Step
 sectionSeen s k at = cond (isNamed s k) (checkSection k s at) (Next at)
+
+-- ---- Where the sections of an accepted text stand
+
+-- whether j is one of the numbers
+abbrev pub isOneOf : List ℕ → ℕ → Bool
+isOneOf [] j = false
+isOneOf (k ∷ ks) j = eqb j k || isOneOf ks j
+
+-- where the text goes on behind section k
+abbrev pub past : List ℕ → ℕ → ℕ → ℕ
+past s k at = cond (isNamed s k) (at + itemsSize (layoutOf k) s at) at
+
+-- where section j stands, or would
+unfoldable pub placeFrom : List ℕ → List ℕ → ℕ → ℕ → ℕ
+placeFrom [] s at j = at
+placeFrom (k ∷ ks) s at j = cond (eqb j k) at (placeFrom ks s (past s k at) j)
+
+abbrev pub placeOf : List ℕ → ℕ → ℕ
+placeOf s k = placeFrom numbers s 22 k
+
+abbrev pub placesOf : List ℕ → Places
+placesOf s =
+    record {
+      regions = placeOf s 2;
+      airports = placeOf s 3;
+      enroute = placeOf s 4;
+      ascent = placeOf s 5;
+      routine6 = placeOf s 6;
+      routine8 = placeOf s 8;
+      hours = placeOf s 9;
+    }
+
+-- the place of section k in an accepted text
+pub record Stands (s : List ℕ) (k at : ℕ) : Type 0 where
+  pub fine : checkCommand s ≡ Fine
+  pub number : isOneOf numbers k ≡ true
+  pub place : at ≡ placeOf s k
+
+-- what section k holds over what it held: the text's where it is named
+abbrev pub heldOver : List ℕ → ℕ → List Content → List Content
+heldOver s k old = cond (isNamed s k) (heldIn s k) old

@@ -1,4 +1,7 @@
 // The onboard configuration that a command changes.
+pub mod flags;
+pub mod settings;
+
 use section::Settings;
 
 // What applying a command gives: the downlink digit that it asks for and the settings afterwards, or the refusal's code

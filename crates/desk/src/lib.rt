@@ -1,4 +1,5 @@
 // The exported calls, for the host program in C. Each takes numbers and byte strings, and its answer is made of numbers.
+mod config_calls;
 mod packed_calls;
 mod records;
 mod report_calls;
@@ -61,4 +62,14 @@ pub struct HostReport {
 pub struct ReportAnswer {
     pub answer: Answer,
     pub report: HostReport,
+}
+
+// The answer of applying a command: the digit where it is accepted.
+#[repr(C)]
+pub struct HostApplied {
+    pub place: usize,
+    pub code: u8,
+    pub downlink: u8,
+    pub spare: u16,
+    pub rest: u32,
 }

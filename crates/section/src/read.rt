@@ -76,7 +76,7 @@ pub fn enroute_at(s: &[u8], at: usize) -> Enroute
 }
 
 // A digit that is a byte by itself.
-fn mark_at(s: &[u8], at: usize) -> u8
+pub fn mark_at(s: &[u8], at: usize) -> u8
     requires { ⌜ (at + 1 ≤ length (now s)) × (48 ≤ getD (now s) at 0) ⌝ }
     ensures { λ r. ⌜ r ≡ getD (now (s .entry)) at 0 - 48 ⌝ }
 {

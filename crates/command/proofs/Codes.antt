@@ -1,0 +1,129 @@
+-- A command's refusals are codes 1 to 8.
+use mathlib.Core.Path.{_≡_, refl}
+use mathlib.Core.Bool.{Bool, true, false, cond, _&&_}
+use mathlib.Core.List.{List, [], _∷_}
+use Prim.Native.Nat.{ℕ, zero, suc, _+_, _≤_}
+use native.Mathlib.Omega.{arith}
+use lib.Dec.{leb, eqb}
+use lib.ListN.{length}
+use borrow.Author.Tests.{leb-true}
+use Rattle.text.specs.declared.Seen.the-variants.{Fine, Bad}
+use Rattle.text.proofs.Cases.{both-left, both-right}
+use Rattle.field.specs.Fields.{after, checkNumber, checkMark, checkDelimiter, checkAirfield, repeat}
+use Rattle.field.specs.Boxes.{checkEdge, checkPair, checkBox}
+use Rattle.field.specs.declared.Step.{Step}
+use Rattle.field.specs.declared.Step.the-variants.{Next, Stop}
+use Rattle.field.specs.declared.Circle.{Circle}
+use Rattle.field.specs.declared.Edge.{Edge}
+use Rattle.lists.specs.Lists.{checkList}
+use Rattle.section.specs.Layout.{Item, Number, Mark, AirfieldList, BoxList, layoutOf, checkItem, checkItems}
+use Rattle.command.specs.Text.{numbers, isNamed, checkEach, checkAwr04, checkHead, checkFrom, longest, ended, checkCommand}
+
+abbrev codeOf : Step → ℕ
+codeOf (Next at) = 1
+codeOf (Stop code place) = code
+
+-- where it stops, it stops with a code from 1 to 8
+record Coded (r : Step) : Type 0 where
+  coded : (leb 1 (codeOf r) && leb (codeOf r) 8) ≡ true
+
+either : (t : Bool) (x y : Step) → Coded x → Coded y → Coded (cond t x y)
+either true x y a b = a
+either false x y a b = b
+
+then : (x : Step) (more : ℕ → Step) → Coded x → ((at : ℕ) → Coded (more at)) → Coded (after x more)
+then (Next at) more a b = b at
+then (Stop code place) more a b = a
+
+ruleset parts = (either, then)
+
+-- ---- Fields
+
+number-coded : (w least most : ℕ) (s : List ℕ) (at : ℕ) → Coded (checkNumber w least most s at)
+unfolding checkNumber
+number-coded w least most s at = search parts depth 8
+
+mark-coded : (least most : ℕ) (s : List ℕ) (at : ℕ) → Coded (checkMark least most s at)
+unfolding checkMark
+mark-coded least most s at = search parts depth 8
+
+delimiter-coded : (s : List ℕ) (at : ℕ) → Coded (checkDelimiter s at)
+unfolding checkDelimiter
+delimiter-coded s at = search parts depth 8
+
+airfield-coded : (s : List ℕ) (at : ℕ) → Coded (checkAirfield s at)
+unfolding checkAirfield
+airfield-coded s at = search parts depth 8
+
+edge-coded : (c : Circle) (s : List ℕ) (at : ℕ) → Coded (checkEdge c s at)
+unfolding checkEdge
+edge-coded c s at = search parts depth 8
+
+pair-coded : (c : Circle) (inOrder : Edge → Edge → Bool) (s : List ℕ) (at : ℕ) → Coded (checkPair c inOrder s at)
+unfolding checkPair
+pair-coded c inOrder s at = search (parts, edge-coded) depth 8
+
+box-coded : (s : List ℕ) (at : ℕ) → Coded (checkBox s at)
+unfolding checkBox
+box-coded s at = search (parts, pair-coded)
+
+repeat-coded : (check : ℕ → Step) (n at : ℕ) → ((i : ℕ) → Coded (check i)) → Coded (repeat check n at)
+unfolding repeat
+repeat-coded check zero at h = record { coded = refl }
+repeat-coded check (suc n) at h = then (check at) (repeat check n) (h at) (λ i. repeat-coded check n i h)
+
+list-coded : (limit : ℕ) (entry : List ℕ → ℕ → Step) (s : List ℕ) (at : ℕ) → ((i : ℕ) → Coded (entry s i)) → Coded (checkList limit entry s at)
+unfolding checkList
+list-coded limit entry s at h = search (parts, number-coded, repeat-coded)
+
+-- ---- Sections
+
+item-coded : (x : Item) (s : List ℕ) (at : ℕ) → Coded (checkItem x s at)
+item-coded (Number w least most) s at = number-coded w least most s at
+item-coded (Mark least most) s at = mark-coded least most s at
+item-coded AirfieldList s at = list-coded 20 checkAirfield s at (airfield-coded s)
+item-coded BoxList s at = list-coded 16 checkBox s at (box-coded s)
+
+items-coded : (xs : List Item) (s : List ℕ) (at : ℕ) → Coded (checkItems xs s at)
+unfolding checkItems
+items-coded [] s at = delimiter-coded s at
+items-coded (x ∷ xs) s at = then (checkItem x s at) (checkItems xs s) (item-coded x s at) (items-coded xs s)
+
+sections-coded : (ks s : List ℕ) (at : ℕ) → Coded (checkFrom ks s at)
+unfolding checkFrom
+sections-coded [] s at = record { coded = refl }
+sections-coded (k ∷ ks) s at =
+    either (isNamed s k) (after (checkItems (layoutOf k) s at) (checkFrom ks s)) (checkFrom ks s at)
+    (then (checkItems (layoutOf k) s at) (checkFrom ks s) (items-coded (layoutOf k) s at) (sections-coded ks s)) (sections-coded ks s at)
+
+-- ---- The whole
+
+each-coded : (tests : List (ℕ → Bool)) (s : List ℕ) (at : ℕ) → Coded (checkEach tests s at)
+unfolding checkEach
+each-coded [] s at = record { coded = refl }
+each-coded (test ∷ tests) s at = let rest = each-coded tests s (at + 1) in search parts
+
+head-coded : (s : List ℕ) → Coded (checkHead s)
+unfolding checkHead checkAwr04
+head-coded s = search (parts, each-coded, delimiter-coded) depth 8
+
+ended-coded : (s : List ℕ) (r : Step) (code place : ℕ) → Coded r → ended s r ≡ Bad code place → (1 ≤ code) × (code ≤ 8)
+ended-coded s (Next at) code place l e = ends (eqb at (length s)) e
+  where
+    ends : (t : Bool) → cond t Fine (Bad 8 at) ≡ Bad code place → (1 ≤ code) × (code ≤ 8)
+    ends true q = let z : _≡_ {A = ℕ} 0 1 = cc in absurd (omega arith)
+    ends false q = let z : 8 ≡ code = cc in omega arith
+ended-coded s (Stop c p) code place l e =
+    let low : 1 ≤ c = leb-true 1 c (both-left (leb 1 c) (leb c 8) (l .coded)) in
+    let high : c ≤ 8 = leb-true c 8 (both-right (leb 1 c) (leb c 8) (l .coded)) in
+    let z : c ≡ code = cc in
+    omega arith
+
+-- a command that is refused is refused with a code from 1 to 8
+pub check-coded : (s : List ℕ) (code place : ℕ) → checkCommand s ≡ Bad code place → (1 ≤ code) × (code ≤ 8)
+unfolding checkCommand
+check-coded s code place e = go (leb (length s) longest) e
+  where
+    go : (t : Bool) → cond t (ended s (after (checkHead s) (checkFrom numbers s))) (Bad 1 0) ≡ Bad code place → (1 ≤ code) × (code ≤ 8)
+    go true q = ended-coded s (after (checkHead s) (checkFrom numbers s)) code place (then (checkHead s) (checkFrom numbers s) (head-coded s) (sections-coded numbers s)) q
+    go false q = let z : 1 ≡ code = cc in omega arith

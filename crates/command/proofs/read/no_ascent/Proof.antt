@@ -1,0 +1,12 @@
+-- `command::read::no_ascent` meets its contract.
+use Rattle.command.proofs.read.no_ascent.Statement.{statement}
+use Rattle.command.proofs.read.no_ascent.Tie as tie
+use mathlib.Core.Path.{refl}
+use Rattle.section.specs.Settings.{ascentFrom}
+
+returns : tie.Need-returns
+unfolding ascentFrom
+returns c = refl
+
+pub no-ascent-spec : {M : Type 1} → statement M
+no-ascent-spec = tie.close (tie.spec returns)

@@ -1,0 +1,77 @@
+-- `config::settings::apply` meets its contract: the configuration first, then the text.
+use borrow.Author.Needs.{needs}
+use Rattle.config.proofs.settings.apply.Statement.{statement}
+use Rattle.config.proofs.settings.apply.Tie as tie
+use mathlib.Core.Path.{_≡_, sym, ap₂, _∙_}
+use mathlib.Core.Bool.{true}
+use Prim.Native.Nat.{ℕ}
+use borrow.Author.Tests.{not-true, not-false}
+use Rattle.section.specs.declared.Settings.{Settings}
+use Rattle.config.specs.Config.{valid, applied}
+use Rattle.config.specs.declared.Applied.{Applied}
+
+-- the configuration was valid
+valid-given : (c : tie.Else1) → valid (c .before .before .before .args .x) ≡ true
+valid-given c = sym (c .before .is-valid .ensures) ∙ not-false (c .before .is-valid .result) (c .if1 .left)
+
+abbrev accepted : ℕ → Settings → Applied
+accepted d y = record { code = 0; place = 0; downlink = d; settings = y }
+
+is-valid-requires : tie.Need-is-valid-requires
+is-valid-requires c κs = search needs
+
+refuse-requires : tie.Need-refuse-requires
+refuse-requires c κs = search needs
+
+returns : tie.Need-returns
+unfolding applied
+returns c = rw (c .refuse .ensures, sym (c .before .before .is-valid .ensures) ∙ not-true (c .before .before .is-valid .result) (c .before .if1 .taken))
+
+check-requires : tie.Need-check-requires
+check-requires c κs = search needs
+
+enum-known-code : tie.Need-enum-known-code
+enum-known-code c = search needs
+
+refuse-requires-2 : tie.Need-refuse-requires-2
+refuse-requires-2 c κs = search needs
+
+enum-told : tie.Need-enum-told
+enum-told c = search needs
+
+apply-text-requires : tie.Need-apply-text-requires
+apply-text-requires c κs = sym (c .before .before .check .ensures) ∙ c .enum-told .given .1
+
+downlink-of-requires : tie.Need-downlink-of-requires
+downlink-of-requires c κs = sym (c .before .before .before .check .ensures) ∙ c .before .enum-told .given .1
+
+returns-2 : tie.Need-returns-2
+unfolding applied
+returns-2 c =
+    rw (
+      c .refuse2 .ensures,
+      valid-given (c .before .before .before .before .before),
+      sym (c .before .before .before .before .check .ensures) ∙ c .before .before .code .given .1,
+    )
+
+returns-3 : tie.Need-returns-3
+unfolding applied
+returns-3 c =
+    rw (valid-given (c .before .before .before .before .before), sym (c .before .before .before .before .check .ensures) ∙ c .before .before .enum-told .given .1)
+    (ap₂ accepted (c .downlink-of .ensures) (c .before .apply-text .ensures))
+
+pub apply-spec : {M : Type 1} → statement M
+apply-spec =
+    tie.close
+    (tie.spec
+    is-valid-requires
+    refuse-requires
+    returns
+    check-requires
+    enum-known-code
+    refuse-requires-2
+    enum-told
+    apply-text-requires
+    downlink-of-requires
+    returns-2
+    returns-3)

@@ -1,0 +1,147 @@
+// The configuration after reset, whether one is valid, and what a command makes of it.
+use crate::Applied;
+use crate::flags::are_valid;
+use crate::flags::new_flags;
+use command::check::check;
+use command::read::downlink_of;
+use command::read::flags_of;
+use command::read::no_settings;
+use command::read::settings_over;
+use section::Ascent;
+use section::Enroute;
+use section::Hours;
+use section::Settings;
+use section::record::airports_allowed;
+use section::record::ascent_allowed;
+use section::record::digit_allowed;
+use section::record::enroute_allowed;
+use section::record::hours_allowed;
+use section::record::regions_allowed;
+use text::Seen;
+ghost use mathlib.Core.Path.{_≡_};
+ghost use Rattle.text.specs.declared.Seen.the-variants.{Fine};
+ghost use Rattle.section.specs.Settings.{ascentFrom};
+ghost use Rattle.command.specs.Text.{numbers, checkCommand};
+ghost use Rattle.config.specs.Config.{resetHolds, reset, isFine, sectionsValid, valid, applyTo, refused, applied};
+
+// ---- Reset
+
+fn reset_ascent() -> Ascent
+    ensures { λ r. ⌜ r ≡ ascentFrom (resetHolds 5) ⌝ }
+{
+    Ascent {
+        mode: 1,
+        interval1: 6,
+        duration: 90,
+        interval2: 20,
+        total: 51,
+        top: 200,
+        list: 2,
+        timer: 1,
+    }
+}
+
+// The lists are empty; what each section holds is document 01's.
+pub fn after_reset() -> Settings
+    ensures { λ r. ⌜ r ≡ reset ⌝ }
+{
+    let none = no_settings();
+    let regions = none.regions;
+    let airports = none.airports;
+    Settings {
+        flags: [1u8, 0, 0, 0, 1, 1, 1],
+        regions,
+        airports,
+        enroute: Enroute {
+            interval: 7,
+            wind: 1,
+        },
+        ascent: reset_ascent(),
+        routine6: 1,
+        routine8: 1,
+        hours: Hours { start: 0, end: 0 },
+    }
+}
+
+// ---- Validity
+
+fn is_fine(seen: Seen) -> bool
+    ensures { λ r. ⌜ r ≡ isFine seen ⌝ }
+{
+    match seen {
+        Seen::Fine => true,
+        Seen::Bad(_, _) => false,
+    }
+}
+
+// Each section, as a section of a command, would pass the writer's checks.
+fn sections_valid(x: Settings) -> bool
+    ensures { λ r. ⌜ r ≡ sectionsValid numbers x ⌝ }
+{
+    if !is_fine(regions_allowed(x.regions, 0)) {
+        return false;
+    }
+    if !is_fine(airports_allowed(x.airports, 0)) {
+        return false;
+    }
+    let enroute = is_fine(enroute_allowed(x.enroute, 0));
+    let ascent = is_fine(ascent_allowed(x.ascent, 0));
+    let routine6 = is_fine(digit_allowed(x.routine6, 0));
+    let routine8 = is_fine(digit_allowed(x.routine8, 0));
+    let hours = is_fine(hours_allowed(x.hours, 0));
+    enroute & ascent & routine6 & routine8 & hours
+}
+
+pub fn is_valid(x: Settings) -> bool
+    ensures { λ r. ⌜ r ≡ valid x ⌝ }
+{
+    let flags = x.flags;
+    if are_valid(flags) {
+        return sections_valid(x);
+    }
+    false
+}
+
+// ---- Applying
+
+fn refuse(code: u8, place: usize) -> Applied
+    ensures { λ r. ⌜ r ≡ refused code place ⌝ }
+{
+    Applied {
+        code,
+        place,
+        downlink: 0,
+        settings: no_settings(),
+    }
+}
+
+// Every flag that isn't 9 is set and each named section replaced whole; nothing else changes.
+fn apply_text(x: Settings, s: &[u8]) -> Settings
+    requires { ⌜ checkCommand (now s) ≡ Fine ⌝ }
+    ensures { λ r. ⌜ r ≡ applyTo x (now (s .entry)) ⌝ }
+{
+    let old = x.flags;
+    let flags = new_flags(old, flags_of(s));
+    settings_over(x, flags, s)
+}
+
+// A configuration that isn't valid is 12; then the command's own refusals.
+pub fn apply(x: Settings, s: &[u8]) -> Applied
+    ensures { λ r. ⌜ r ≡ applied x (now (s .entry)) ⌝ }
+{
+    if !is_valid(x) {
+        return refuse(12, 0);
+    }
+    match check(s) {
+        Seen::Bad(code, place) => refuse(code, place),
+        Seen::Fine => {
+            let after = apply_text(x, s);
+            Applied {
+                code: 0,
+                place: 0,
+                downlink: downlink_of(s),
+                settings: after,
+            }
+        }
+    }
+}
