@@ -13,3 +13,6 @@ pub mod Lent
 pub mod Calls
 pub mod Bytes
 pub mod Found
+pub mod Moves
+pub mod Scanned
+pub mod Called

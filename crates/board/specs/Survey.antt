@@ -8,10 +8,13 @@ use Rattle.text.specs.Parts.{part}
 use Rattle.text.specs.Equal.{sameBytes}
 use Rattle.command.specs.Text.{checkCommand}
 use Rattle.config.specs.Config.{isFine}
-use Rattle.board.specs.Board.{isDesignator}
+use Rattle.join.specs.Join.{Joined, Joins, Refuses, join}
+use Rattle.board.specs.Board.{isDesignator, Move, Stay, Put, Free, onSeen}
+use Rattle.board.specs.Lent.{noSlot}
 use Rattle.board.specs.declared.Slot.{Slot}
 use Rattle.board.specs.declared.Wanted.{Wanted}
 use Rattle.board.specs.declared.Survey.{Survey}
+use Rattle.board.specs.declared.Done.{Done}
 
 -- the aircraft that a call is about
 unfoldable pub wantedBy : List ℕ → Wanted
@@ -79,3 +82,52 @@ scanFrom area w a i (x ∷ xs) = scanFrom area w (stepOf area w a x (aloneIn a x
 
 abbrev pub scanned : List ℕ → Wanted → List Slot → Survey
 scanned area w xs = scanFrom area w (startOf (length xs) (length area)) 0 xs
+
+-- ---- What is then done, by what was found
+
+abbrev pub fitsAt : ℕ → ℕ → ℕ → Bool
+fitsAt i n bytes = ltb i 64 && leb n 835 && leb (835 * i + 835) bytes
+
+-- the text that waits
+abbrev pub waitsAt : Survey → List ℕ → List ℕ
+waitsAt v area = part (835 * v .own) (v .length) area
+
+abbrev pub joinsTo : Joined → ℕ → List ℕ → Move
+joinsTo (Joins t) i d = Put i d t
+joinsTo (Refuses code place which) i d = Stay 10 0
+
+unfoldable pub ownMove : Survey → Wanted → List ℕ → List ℕ → Move
+ownMove v w area t =
+    cond (fitsAt (v .own) (v .length) (length area)) (joinsTo (join (waitsAt v area) t 835) (v .own) (w .designator)) (Stay 10 0)
+
+unfoldable pub freeMove : Survey → Wanted → List ℕ → List ℕ → Move
+freeMove v w area t =
+    cond (fitsAt (v .free) (length t) (length area)) (Put (v .free) (w .designator) t) (Stay 10 0)
+
+abbrev pub placedMove : Survey → Wanted → List ℕ → List ℕ → Move
+placedMove v w area t =
+    cond (ltb (v .own) (v .count)) (ownMove v w area t) (cond (ltb (v .free) (v .count)) (freeMove v w area t) (Stay 9 0))
+
+unfoldable pub addMove : Survey → Wanted → List ℕ → List ℕ → Move
+addMove v w area t =
+    cond (v .valid) (cond (w .fine) (onSeen (checkCommand t) (placedMove v w area t)) (Stay 4 0)) (Stay 10 0)
+
+unfoldable pub takeMove : Survey → Wanted → List ℕ → ℕ → Move
+takeMove v w area room =
+    cond (v .valid)
+    (cond (w .fine)
+    (cond (ltb (v .own) (v .count))
+    (cond (leb (v .length) room)
+    (cond (fitsAt (v .own) (v .length) (length area)) (Free (v .own) (waitsAt v area)) (Stay 10 0))
+    (Stay 2 0))
+    (Stay 11 0))
+    (Stay 4 0))
+    (Stay 10 0)
+
+-- what is answered, and which slot is stored where
+abbrev pub doneOf : ℕ → Wanted → Move → Done
+doneOf n w (Stay code place) = record { code = code; place = place; length = 0; at = n; slot = noSlot }
+doneOf n w (Put i d t) =
+    record { code = 0; place = 0; length = length t; at = i; slot = record { designator = w .designator; length = length t } }
+doneOf n w (Free i t) =
+    record { code = 0; place = 0; length = length t; at = i; slot = record { designator = w .designator; length = 0 } }

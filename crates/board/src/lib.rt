@@ -28,3 +28,13 @@ pub struct Survey {
     pub free: usize,
     pub count: usize,
 }
+
+// What a call did: the answer's code, place and length, and the slot that is then stored at `at`, which is `count` where none is.
+#[repr(C)]
+pub struct Done {
+    pub code: u8,
+    pub place: usize,
+    pub length: u16,
+    pub at: usize,
+    pub slot: Slot,
+}

@@ -1,67 +1,45 @@
 use borrow.Author.Needs.{needs}
 use Rattle.board.proofs.look.same_aircraft.Statement.{statement}
 use Rattle.board.proofs.look.same_aircraft.Tie as tie
-use Rattle.board.proofs.look.same_aircraft.Reads as reads
-use Rattle.board.proofs.look.same_aircraft.Lts as lts
-use native.Mathlib.Omega.{arith}
-use mathlib.Core.Path.{_≡_, refl, sym, _∙_, ap}
-use mathlib.Core.Bool.{Bool, true, false, cond, not, _&&_}
-use mathlib.Core.List.{List, [], _∷_, _++_}
-use borrow.Author.Tests.{eq-eqb, ne-eqb, lt-leb, le-leb, lt-ltb, le-ltb, not-true, not-false}
-use Prim.Native.Nat.{ℕ, _+_, _-_, _≤_, _<_}
-use lib.ListN.{length, getD, set, take, drop}
-use denote.Ref.{now}
+use Prim.Native.Nat.{_-_}
 use Rattle.board.proofs.Found.{same-six}
 
--- src/look.rt:52:6
 array-read-result : tie.Need-array-read-result
 array-read-result c = search needs
 
--- src/look.rt:52:14
 array-read-result-2 : tie.Need-array-read-result-2
 array-read-result-2 c = search needs
 
--- src/look.rt:52:23
 array-read-result-3 : tie.Need-array-read-result-3
 array-read-result-3 c = search needs
 
--- src/look.rt:52:31
 array-read-result-4 : tie.Need-array-read-result-4
 array-read-result-4 c = search needs
 
--- src/look.rt:52:40
 array-read-result-5 : tie.Need-array-read-result-5
 array-read-result-5 c = search needs
 
--- src/look.rt:52:48
 array-read-result-6 : tie.Need-array-read-result-6
 array-read-result-6 c = search needs
 
--- src/look.rt:52:57
 array-read-result-7 : tie.Need-array-read-result-7
 array-read-result-7 c = search needs
 
--- src/look.rt:52:65
 array-read-result-8 : tie.Need-array-read-result-8
 array-read-result-8 c = search needs
 
--- src/look.rt:52:74
 array-read-result-9 : tie.Need-array-read-result-9
 array-read-result-9 c = search needs
 
--- src/look.rt:52:82
 array-read-result-10 : tie.Need-array-read-result-10
 array-read-result-10 c = search needs
 
--- src/look.rt:52:91
 array-read-result-11 : tie.Need-array-read-result-11
 array-read-result-11 c = search needs
 
--- src/look.rt:52:99
 array-read-result-12 : tie.Need-array-read-result-12
 array-read-result-12 c = search needs
 
--- src/look.rt:49:1
 returns : tie.Need-returns
 returns c = same-six (c .args .t1) (c .args .t2) (search needs) (search needs)
 

@@ -1,21 +1,13 @@
 use borrow.Author.Needs.{needs}
 use Rattle.board.proofs.look.sound.Statement.{statement}
 use Rattle.board.proofs.look.sound.Tie as tie
-use Rattle.board.proofs.look.sound.Reads as reads
-use Rattle.board.proofs.look.sound.Lts as lts
-use Rattle.board.proofs.look.is_fine.Reads as is-fine-reads
-use Rattle.board.proofs.look.middle.Reads as middle-reads
-use Rattle.command.proofs.check.check.Reads as check-reads
-use Rattle.text.proofs.all_allowed.Reads as all-allowed-reads
 use native.Mathlib.Omega.{arith}
-use mathlib.Core.Path.{_≡_, refl, sym, _∙_, ap}
-use mathlib.Core.Bool.{Bool, true, false, cond, not, _&&_}
-use mathlib.Core.List.{List, [], _∷_, _++_}
-use borrow.Author.Tests.{eq-eqb, ne-eqb, lt-leb, le-leb, lt-ltb, le-ltb, not-true, not-false}
-use Prim.Native.Nat.{ℕ, _+_, _-_, _≤_, _<_}
-use lib.ListN.{length, getD, set, take, drop}
+use mathlib.Core.Path.{_≡_, sym, _∙_, ap}
+use borrow.Author.Tests.{eq-eqb, lt-leb, le-leb, lt-ltb, le-ltb, not-true, not-false}
+use Prim.Native.Nat.{ℕ, _+_, _-_}
+use lib.ListN.{length, take, drop}
 use denote.Ref.{now}
-use Rattle.board.specs.Survey.{wantedBy, beginAt, usedFor, soundAt, startOf, stepOf}
+use Rattle.board.specs.Survey.{soundAt}
 use Prim.Native.Nat.{_*_}
 use Rattle.config.specs.Config.{isFine}
 use Rattle.command.specs.Text.{checkCommand}
@@ -26,42 +18,33 @@ six-long c = search needs
 six-long5 : (c : tie.After-is-fine) → length (c .before .before .before .before .before .before .before .before .before .before .before .before .args .s .designator) ≡ 6
 six-long5 c = search needs
 
--- src/look.rt:100:9
 middle-requires : tie.Need-middle-requires
 middle-requires c κs = search needs
 
--- src/look.rt:102:9
 returns : tie.Need-returns
 unfolding soundAt
 returns c = let a = c .before .before .before .args in rw (le-ltb (a .i) 64 (omega (arith, c .if1 .taken)))
 
--- src/look.rt:105:9
 returns-2 : tie.Need-returns-2
 unfolding soundAt
 returns-2 c = let a = c .before .before .before .before .args in rw (lt-ltb (a .i) 64 (omega (arith, c .before .if1 .left)), lt-leb (a .s .length) 835 (rw (c .before .before .middle .ensures) at (c .if2 .taken)))
 
--- src/look.rt:107:14
 mul-at : tie.Need-mul-at
 mul-at c = search needs
 
--- src/look.rt:108:15
 add-end : tie.Need-add-end
 add-end c = search needs
 
--- src/look.rt:110:9
 returns-3 : tie.Need-returns-3
 unfolding soundAt
 returns-3 c = let a = c .before .before .before .before .before .args in rw (lt-ltb (a .i) 64 (omega (arith, c .before .before .if1 .left)), le-leb (a .s .length) 835 (rw (c .before .before .before .middle .ensures) at (c .before .if2 .left)), lt-leb (835 * a .i + a .s .length) (length (now (a .area))) (rw (c .before .before .before .middle .ensures) at (c .if3 .taken)))
 
--- src/look.rt:113:21
 slice-aggregate-all-allowed : tie.Need-slice-aggregate-all-allowed
 slice-aggregate-all-allowed c = search needs
 
--- src/look.rt:113:9
 all-allowed-requires : tie.Need-all-allowed-requires
 all-allowed-requires c κs = search needs
 
--- src/look.rt:114:9
 returns-4 : tie.Need-returns-4
 unfolding soundAt
 returns-4 c = let a = c .before .before .before .before .before .before .before .before .before .args in
@@ -73,27 +56,21 @@ returns-4 c = let a = c .before .before .before .before .before .before .before 
       sym (c .before .all-allowed .ensures) ∙ not-true _ (c .if4 .taken),
     )
 
--- src/look.rt:116:19
 sub-check : tie.Need-sub-check
 sub-check c = search needs
 
--- src/look.rt:116:19
 part-check-start : tie.Need-part-check-start
 part-check-start c = search needs
 
--- src/look.rt:116:19
 part-check-end : tie.Need-part-check-end
 part-check-end c = search needs
 
--- src/look.rt:116:13
 check-requires : tie.Need-check-requires
 check-requires c κs = search needs
 
--- src/look.rt:116:5
 is-fine-requires : tie.Need-is-fine-requires
 is-fine-requires c κs = search needs
 
--- src/look.rt:97:1
 returns-5 : tie.Need-returns-5
 unfolding soundAt
 returns-5 c = let a = c .before .before .before .before .before .before .before .before .before .before .before .before .args in
