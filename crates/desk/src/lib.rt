@@ -1,4 +1,5 @@
 // The exported calls, for the host program in C. Each takes numbers and byte strings, and its answer is made of numbers.
+mod board_calls;
 mod config_calls;
 mod packed_calls;
 mod records;
