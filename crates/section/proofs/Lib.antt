@@ -6,3 +6,4 @@ pub mod Come
 pub mod Walk
 pub mod Held
 pub mod Written
+pub mod Short
