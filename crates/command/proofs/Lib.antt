@@ -7,3 +7,4 @@ pub mod Marks
 pub mod Accepted
 pub mod Written
 pub mod Checking
+pub mod Writing

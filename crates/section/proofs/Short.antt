@@ -8,10 +8,13 @@ use lib.Dec.{leb}
 use lib.ListN.{length, length-append}
 use borrow.Author.Tests.{leb-true}
 use Rattle.text.specs.Checks.{must}
-use Rattle.text.specs.declared.Seen.the-variants.{Fine}
+use Rattle.text.specs.declared.Seen.{Seen}
+use Rattle.text.specs.declared.Seen.the-variants.{Fine, Bad}
 use Rattle.text.proofs.Cases.{both-right}
 use Rattle.text.proofs.Checks.{must-held, both-fine}
 use Rattle.field.specs.declared.Region.{Region}
+use Rattle.field.specs.declared.Step.{Step}
+use Rattle.field.specs.declared.Step.the-variants.{Next, Stop}
 use Rattle.field.specs.Boxes.{regionAllowed}
 use Rattle.field.proofs.Decimal.{decimal-length}
 use Rattle.field.proofs.RoundTrip.{region-held, region-fine}
@@ -20,6 +23,7 @@ use Rattle.lists.proofs.RoundTrip.{airfields-held, airfields-fine, boxes-held, 
 use Rattle.lists.proofs.Within.{airfields-short, boxes-short}
 use Rattle.section.specs.Layout.{Item, Number, Mark, AirfieldList, BoxList, layoutOf, itemMost, itemsMost}
 use Rattle.section.specs.Contents.{Content, Amount, Areas, amountOf, namesOf, areasOf, contentText, contentsText, contentAllowed, contentsAllowed}
+use Rattle.section.specs.Turn.{goesOn, Reaches}
 use Rattle.section.specs.Settings.{regionsHold, airportsHold, ascentHold}
 use Rattle.section.specs.declared.Regions.{Regions}
 use Rattle.section.specs.declared.Airports.{Airports}
@@ -145,3 +149,19 @@ ascent-few x at e =
 pub digit-layout : layoutOf 8 ≡ layoutOf 6
 unfolding layoutOf
 digit-layout = refl
+
+-- ---- How far a turn reaches
+
+-- where a check goes on to
+pub goes-reaches : (x : Seen) (q most : ℕ) → (x ≡ Fine → q ≤ most) → Reaches most (goesOn x q)
+goes-reaches Fine q most h = h refl
+goes-reaches (Bad code place) q most h = tt
+
+-- the place that was reached
+pub reached : (most : ℕ) (r : Step) (p : ℕ) → Reaches most r → r ≡ Next p → p ≤ most
+reached most r p h e = rw e at h
+
+-- what reaches no further than a place reaches no further than one behind it
+pub reaches-more : (m n : ℕ) (r : Step) → m ≤ n → Reaches m r → Reaches n r
+reaches-more m n (Next p) h l = omega arith
+reaches-more m n (Stop code place) h l = tt

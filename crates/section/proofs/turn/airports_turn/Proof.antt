@@ -1,6 +1,7 @@
 use borrow.Author.Needs.{needs}
 use Rattle.section.proofs.turn.airports_turn.Statement.{statement}
 use Rattle.section.proofs.turn.airports_turn.Tie as tie
+use native.Mathlib.Omega.{arith}
 use mathlib.Core.Path.{_≡_, sym, _∙_}
 use Rattle.text.specs.declared.Seen.the-variants.{Fine}
 use Rattle.section.specs.Layout.{layoutOf}
@@ -28,10 +29,10 @@ add-t8 : tie.Need-add-t8
 add-t8 c = search needs
 
 returns : tie.Need-returns
-returns c = rw (sym (c .before .before .before .airports-allowed .ensures) ∙ c .before .code .given .1)
+returns c = (rw (sym (c .before .before .before .airports-allowed .ensures) ∙ c .before .code .given .1), tt)
 
 returns-2 : tie.Need-returns-2
-returns-2 c = rw (fine (c .before), c .airports-length .ensures .0)
+returns-2 c = (rw (fine (c .before), c .airports-length .ensures .0), omega (arith, c .airports-length .ensures .1))
 
 pub airports-turn-spec : {M : Type 1} → statement M
 airports-turn-spec =
