@@ -1,7 +1,9 @@
 -- What writing answers, and what the inner functions of the writer do; no promise to a caller rests on the inner names.
-use mathlib.Core.Bool.{Bool, cond}
+use mathlib.Core.Path.{_≡_}
+use mathlib.Core.Bool.{Bool, true, cond}
 use mathlib.Core.List.{List, [], _∷_, _++_}
-use Prim.Native.Nat.{ℕ, _+_}
+use Prim.Native.Nat.{ℕ, _+_, _≤_}
+use lib.ListN.{getD}
 use Rattle.text.specs.Checks.{must}
 use Rattle.text.specs.declared.Seen.{Seen}
 use Rattle.text.specs.declared.Seen.the-variants.{Fine, Bad}
@@ -9,7 +11,7 @@ use Rattle.field.specs.Fields.{after}
 use Rattle.field.specs.declared.Step.{Step}
 use Rattle.field.specs.declared.Step.the-variants.{Next}
 use Rattle.section.specs.Layout.{layoutOf}
-use Rattle.section.specs.Contents.{Content, contentsText}
+use Rattle.section.specs.Contents.{Content, contentsText, contentsAllowed}
 use Rattle.section.specs.Settings.{contentsOf}
 use Rattle.section.specs.Turn.{goesOn, contentsTurn}
 use Rattle.command.specs.Text.{awr04}
@@ -51,3 +53,13 @@ headText c =
 -- a section's text, where it is named
 abbrev pub textIf : Bool → ℕ → List Content → List ℕ
 textIf named k cs = cond named (contentsText (layoutOf k) cs) []
+
+-- every section that is named is allowed, wherever it would stand
+abbrev pub AllNamed : List ℕ → Command → Type 0
+AllNamed [] c = Unit
+AllNamed (k ∷ ks) c =
+    (names c k ≡ true → contentsAllowed (layoutOf k) 0 (contentsOf (c .settings) k) ≡ Fine) × AllNamed ks c
+
+-- values that a digit spells
+abbrev pub Digits : List ℕ → Type 0
+Digits vs = (i : ℕ) → getD vs i 0 ≤ 9

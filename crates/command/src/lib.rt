@@ -1,6 +1,7 @@
 // The uplink command of document 01, 22 to 835 bytes.
 pub mod check;
 pub mod record;
+pub mod write;
 
 use section::Settings;
 

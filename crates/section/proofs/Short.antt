@@ -7,7 +7,6 @@ use native.Mathlib.Omega.{arith}
 use lib.Dec.{leb}
 use lib.ListN.{length, length-append}
 use borrow.Author.Tests.{leb-true}
-use Rattle.text.specs.Checks.{must}
 use Rattle.text.specs.declared.Seen.{Seen}
 use Rattle.text.specs.declared.Seen.the-variants.{Fine, Bad}
 use Rattle.text.proofs.Cases.{both-right}
@@ -16,18 +15,21 @@ use Rattle.field.specs.declared.Region.{Region}
 use Rattle.field.specs.declared.Step.{Step}
 use Rattle.field.specs.declared.Step.the-variants.{Next, Stop}
 use Rattle.field.specs.Boxes.{regionAllowed}
+use Rattle.field.specs.Decimal.{decimal}
 use Rattle.field.proofs.Decimal.{decimal-length}
 use Rattle.field.proofs.RoundTrip.{region-held, region-fine}
-use Rattle.lists.specs.Lists.{regionsAllowed}
+use Rattle.lists.specs.Lists.{regionsAllowed, airfieldsText, boxesText}
 use Rattle.lists.proofs.RoundTrip.{airfields-held, airfields-fine, boxes-held, boxes-fine}
 use Rattle.lists.proofs.Within.{airfields-short, boxes-short}
 use Rattle.section.specs.Layout.{Item, Number, Mark, AirfieldList, BoxList, layoutOf, itemMost, itemsMost}
 use Rattle.section.specs.Contents.{Content, Amount, Areas, amountOf, namesOf, areasOf, contentText, contentsText, contentAllowed, contentsAllowed}
 use Rattle.section.specs.Turn.{goesOn, Reaches}
-use Rattle.section.specs.Settings.{regionsHold, airportsHold, ascentHold}
+use Rattle.section.specs.Settings.{regionsHold, airportsHold, enrouteHold, ascentHold, digitHold, hoursHold}
 use Rattle.section.specs.declared.Regions.{Regions}
 use Rattle.section.specs.declared.Airports.{Airports}
+use Rattle.section.specs.declared.Enroute.{Enroute}
 use Rattle.section.specs.declared.Ascent.{Ascent}
+use Rattle.section.specs.declared.Hours.{Hours}
 
 -- ---- Wherever it would stand
 
@@ -165,3 +167,48 @@ reached most r p h e = rw e at h
 pub reaches-more : (m n : ℕ) (r : Step) → m ≤ n → Reaches m r → Reaches n r
 reaches-more m n (Next p) h l = omega arith
 reaches-more m n (Stop code place) h l = tt
+
+-- ---- The room that the writers of the sections ask
+
+pub regions-room : (x : Regions) (n : ℕ) → length (contentsText (layoutOf 2) (regionsHold x)) ≤ n
+    → length (boxesText (x .reporting)) + length (boxesText (x .inhibiting)) + 1 ≤ n
+unfolding layoutOf contentsText
+regions-room x n h = omega (arith, length-append (boxesText (x .reporting)) (boxesText (x .inhibiting) ++ 47 ∷ []), length-append (boxesText (x .inhibiting)) (47 ∷ []))
+
+pub airports-room : (x : Airports) (n : ℕ) → length (contentsText (layoutOf 3) (airportsHold x)) ≤ n
+    → length (airfieldsText (x .selected .ascent)) + length (airfieldsText (x .selected .descent))
+    + (length (airfieldsText (x .inhibited .ascent)) + length (airfieldsText (x .inhibited .descent)))
+    + 2
+    ≤ n
+unfolding layoutOf contentsText
+airports-room x n h =
+    let a = airfieldsText (x .selected .ascent) in
+    let b = airfieldsText (x .selected .descent) in
+    let c = airfieldsText (x .inhibited .ascent) in
+    let d = airfieldsText (x .inhibited .descent) in
+    let e = decimal 1 (x .routine) in
+    omega (
+      arith,
+      length-append a (b ++ (c ++ (d ++ (e ++ 47 ∷ [])))),
+      length-append b (c ++ (d ++ (e ++ 47 ∷ []))),
+      length-append c (d ++ (e ++ 47 ∷ [])),
+      length-append d (e ++ 47 ∷ []),
+      length-append e (47 ∷ []),
+      decimal-length 1 (x .routine),
+    )
+
+pub enroute-long : (x : Enroute) → length (contentsText (layoutOf 4) (enrouteHold x)) ≡ 4
+unfolding layoutOf contentsText
+enroute-long x = simp (length-append, decimal-length)
+
+pub ascent-long : (x : Ascent) → length (contentsText (layoutOf 5) (ascentHold x)) ≡ 17
+unfolding layoutOf contentsText
+ascent-long x = simp (length-append, decimal-length)
+
+pub digit-long : (d : ℕ) → length (contentsText (layoutOf 6) (digitHold d)) ≡ 2
+unfolding layoutOf contentsText
+digit-long d = simp (length-append, decimal-length)
+
+pub hours-long : (x : Hours) → length (contentsText (layoutOf 9) (hoursHold x)) ≡ 5
+unfolding layoutOf contentsText
+hours-long x = simp (length-append, decimal-length)
