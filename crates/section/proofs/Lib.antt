@@ -7,3 +7,4 @@ pub mod Walk
 pub mod Held
 pub mod Written
 pub mod Short
+pub mod RoundTrip
