@@ -8,3 +8,4 @@ pub mod Accepted
 pub mod Written
 pub mod Checking
 pub mod Writing
+pub mod Reading

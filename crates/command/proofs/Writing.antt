@@ -57,7 +57,7 @@ flags-end fs i at h = rw (drop-of-length-le fs {i = i} h)
 -- ---- Indicators
 
 -- 0 or its own number, if there is such a section
-abbrev indicated : ℕ → ℕ → Bool
+abbrev pub indicated : ℕ → ℕ → Bool
 indicated k v = eqb v 0 || (not (isEmpty (layoutOf k)) && eqb v k)
 
 numbers-from : (i : ℕ) → i < 8 → drop i numbers ≡ (2 + i) ∷ drop (i + 1) numbers
