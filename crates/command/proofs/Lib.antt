@@ -9,3 +9,4 @@ pub mod Written
 pub mod Checking
 pub mod Writing
 pub mod Reading
+pub mod RoundTrip

@@ -45,7 +45,7 @@ flag-fine b e =
     by-eq b 49 (λ (g : b ≡ 49). rw g)
     (λ (g : b ≡ 49 → ⊥). let z : b ≡ 57 = eqb-true b 57 (rw (ne-eqb b 48 h, ne-eqb b 49 g) at e) in rw z))
 
-abbrev flagsN : ℕ → List (ℕ → Bool)
+abbrev pub flagsN : ℕ → List (ℕ → Bool)
 flagsN zero = []
 flagsN (suc n) = isFlag ∷ flagsN n
 

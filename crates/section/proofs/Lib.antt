@@ -8,3 +8,4 @@ pub mod Held
 pub mod Written
 pub mod Short
 pub mod RoundTrip
+pub mod Kept
