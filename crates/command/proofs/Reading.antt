@@ -1,30 +1,29 @@
 -- The command read out of an accepted text: it is allowed, and it is written back as the same bytes.
 use mathlib.Core.Path.{_≡_, refl, sym, ap, ap₂, _∙_}
-use mathlib.Core.Bool.{Bool, true, false, _&&_, _||_, not}
+use mathlib.Core.Bool.{Bool, true, false, _&&_, not}
 use mathlib.Core.List.{List, [], _∷_, _++_, map}
-use Prim.Native.Nat.{ℕ, zero, suc, _+_, _-_, _≤_, _<_}
+use Prim.Native.Nat.{ℕ, zero, suc, _+_, _-_, _≤_}
 use native.Mathlib.Omega.{arith}
 use lib.Dec.{leb, eqb}
 use lib.ListN.{length, getD}
 use borrow.Author.Tests.{eqb-true, leb-true, le-leb, eq-eqb, ne-eqb}
-use Rattle.text.specs.Checks.{must, _andThen_}
 use Rattle.text.specs.Parts.{part}
 use Rattle.text.specs.declared.Seen.the-variants.{Fine}
 use Rattle.text.proofs.Cases.{by-test, by-eq, both-left, both-right}
 use Rattle.lists.specs.Lists.{allZero, regionsZero}
 use Rattle.section.specs.Layout.{layoutOf, isEmpty}
-use Rattle.section.specs.Contents.{Content, contentsAt, contentsText, contentsAllowed}
+use Rattle.section.specs.Contents.{Content, contentsAt, contentsAllowed}
 use Rattle.section.specs.Settings.{contentsOf, settingsFrom, regionsFrom, airportsFrom, enrouteFrom, ascentFrom, hoursFrom}
 use Rattle.section.proofs.Allowed.{contents-fine}
 use Rattle.section.proofs.Own.{own-some}
 use Rattle.section.proofs.RoundTrip.{own-written}
-use Rattle.command.specs.Text.{awr04, isFlag, isDownlink, isIndicator, numbers, isNamed, checkCommand}
-use Rattle.command.specs.Record.{heldIn, digitsOf, flagsOf, downlinkOf, commandOf, flagAllowed, flagsAllowed, namedAllowed, areZero, names, sectionText, sectionsAllowed, commandAllowed, digitBytes, sectionsText, commandText}
+use Rattle.command.specs.Text.{isFlag, isIndicator, numbers, isNamed}
+use Rattle.command.specs.Record.{heldIn, digitsOf, flagsOf, commandOf, flagAllowed, flagsAllowed, namedAllowed, areZero, names, sectionText, sectionsAllowed, commandAllowed, digitBytes, sectionsText, commandText}
 use Rattle.command.specs.Writing.{textIf}
 use Rattle.command.specs.declared.Command.{Command}
 use Rattle.command.proofs.Each.{Each, Rising, each-with}
 use Rattle.command.proofs.Head.{passes}
-use Rattle.command.proofs.Parts.{present, marks, bodies, textOf, bodyOf, partsOf, Place, Absent, Present, flagTests, holds}
+use Rattle.command.proofs.Parts.{present, bodies, textOf, bodyOf, Place, Absent, Present, holds}
 use Rattle.command.proofs.Marks.{byteOf, indicators}
 use Rattle.command.proofs.Accepted.{Accepted, rising, sound, marked, spelt, indicators-are, named-present, held-own, downlink-byte}
 use Rattle.command.proofs.Writing.{indicated, text-first}
@@ -45,6 +44,7 @@ flag-fine b e =
     by-eq b 49 (λ (g : b ≡ 49). rw g)
     (λ (g : b ≡ 49 → ⊥). let z : b ≡ 57 = eqb-true b 57 (rw (ne-eqb b 48 h, ne-eqb b 49 g) at e) in rw z))
 
+-- n flags
 abbrev pub flagsN : ℕ → List (ℕ → Bool)
 flagsN zero = []
 flagsN (suc n) = isFlag ∷ flagsN n
@@ -72,9 +72,11 @@ module _ (k b : ℕ) (some : 1 ≤ k) (i : isIndicator k b ≡ true) where
       let j : (not (isEmpty (layoutOf k)) && eqb b (48 + k)) ≡ true = rw h at i in
       g (eqb-true b (48 + k) (both-right (not (isEmpty (layoutOf k))) (eqb b (48 + k)) j)) (both-left (not (isEmpty (layoutOf k))) (eqb b (48 + k)) j))
 
+  -- a digit
   pub indicator-low : 48 ≤ b
   indicator-low = is-either (λ (h : b ≡ 48). omega arith) (λ (h : b ≡ 48 + k) t. omega arith)
 
+  -- its value is allowed
   pub indicator-fine : indicated k (b - 48) ≡ true
   indicator-fine =
       is-either (λ (h : b ≡ 48). rw h)
@@ -82,6 +84,7 @@ module _ (k b : ℕ) (some : 1 ≤ k) (i : isIndicator k b ≡ true) where
       let v : b - 48 ≡ k = omega arith in
       rw (v, t, eq-eqb k k refl, ne-eqb k 0 (λ (z : k ≡ 0). omega arith)))
 
+  -- and names the section that it named
   pub indicator-names : eqb (b - 48) k ≡ eqb b (48 + k)
   indicator-names =
       is-either (λ (h : b ≡ 48). rw (h, ne-eqb 0 k (λ (z : 0 ≡ k). omega arith), ne-eqb 48 (48 + k) (λ (z : 48 ≡ 48 + k). omega arith)))

@@ -1,14 +1,14 @@
 -- The command both ways: each accepted text reads to one allowed record that is written back as the same bytes, and the text of an
 -- allowed record is accepted and reads back as that record.
 use mathlib.Core.Path.{_≡_, refl, sym, ap, ap₂, _∙_}
-use mathlib.Core.Bool.{Bool, true, false, cond, _&&_, _||_, not}
-use mathlib.Core.List.{List, [], _∷_, _++_, map}
+use mathlib.Core.Bool.{Bool, true, false, cond, _&&_, not}
+use mathlib.Core.List.{List, [], _∷_, map}
 use Prim.Native.Nat.{ℕ, zero, suc, _+_, _-_, _≤_, _<_}
 use native.Mathlib.Omega.{arith}
 use lib.Dec.{leb, eqb, lit<}
-use lib.ListN.{length, getD, take}
+use lib.ListN.{length, getD}
 use lib.Seq.{take-all}
-use borrow.Author.Tests.{eqb-true, leb-true, le-leb, eq-eqb, ne-eqb, not-true}
+use borrow.Author.Tests.{eqb-true, leb-true, le-leb, ne-eqb, not-true}
 use Rattle.text.specs.Checks.{must, _andThen_}
 use Rattle.text.specs.Parts.{part}
 use Rattle.text.specs.declared.Seen.the-variants.{Fine}
@@ -16,19 +16,19 @@ use Rattle.text.proofs.Cases.{by-test, by-eq, both-left, both-right}
 use Rattle.text.proofs.Checks.{must-held, both-fine}
 use Rattle.text.proofs.Parts.{part-bytes}
 use Rattle.section.specs.Layout.{layoutOf, isEmpty}
-use Rattle.section.specs.Contents.{Content, contentsAt, contentsText, contentsAllowed}
+use Rattle.section.specs.Contents.{Content, Amount, Names, Areas, contentsText, contentsAllowed}
 use Rattle.section.specs.Settings.{contentsOf, settingsFrom, regionsFrom, airportsFrom, enrouteFrom, ascentFrom, hoursFrom, amountIn}
-use Rattle.section.proofs.Own.{Own, own-some}
+use Rattle.section.proofs.Own.{own-some}
 use Rattle.section.proofs.RoundTrip.{Shaped, written-own}
 use Rattle.section.proofs.Kept.{regions-kept, airports-kept, enroute-kept, ascent-kept, digit-kept, hours-kept}
-use Rattle.command.specs.Text.{awr04, isFlag, isDownlink, isIndicator, numbers, checkCommand}
-use Rattle.command.specs.Record.{heldIn, digitsOf, commandOf, flagAllowed, flagsAllowed, namedAllowed, isZero, areZero, names, sectionText, sectionsAllowed, commandAllowed, digitBytes, sectionsText, commandText}
-use Rattle.command.specs.Writing.{textIf, AllNamed}
+use Rattle.command.specs.Text.{isFlag, isDownlink, numbers, checkCommand}
+use Rattle.command.specs.Record.{heldIn, digitsOf, commandOf, flagAllowed, flagsAllowed, namedAllowed, isZero, areZero, names, sectionText, sectionsAllowed, commandAllowed, digitBytes, commandText}
+use Rattle.command.specs.Writing.{textIf}
 use Rattle.command.specs.declared.Command.{Command}
 use Rattle.command.proofs.Each.{Each, each-with, each-map}
 use Rattle.command.proofs.Head.{passes}
-use Rattle.command.proofs.Parts.{Parts, present, markOf, marks, bodies, textOf, bodyOf, Place, Absent, Present, Sound, holds}
-use Rattle.command.proofs.Walk.{present-some, holds-some}
+use Rattle.command.proofs.Parts.{Parts, markOf, marks, textOf, bodyOf, Place, Absent, Present, Sound, holds}
+use Rattle.command.proofs.Walk.{holds-some}
 use Rattle.command.proofs.Accepted.{accepted, held-own}
 use Rattle.command.proofs.Written.{flags-back, downlink-back, marks-back, bodies-back, text-accepted, text-fine}
 use Rattle.command.proofs.Writing.{indicated, named-at, headAllowed, allowed-halves, sections-named}
@@ -138,6 +138,11 @@ marks-of f g (k ∷ ks) e = ap₂ _∷_ (e .0) (marks-of f g ks (e .1))
 -- eight values one by one
 eight-values : (vs : List ℕ) → length vs ≡ 8 → vs ≡ map (λ (k : ℕ). getD vs (k - 2) 0) numbers
 eight-values vs l = sym (take-all 8 vs (omega arith)) ∙ part-bytes 8 0 vs (omega arith)
+
+-- what is all zero has a zero first and zeros behind it
+zero-more : (d : Content) (cs : List Content) → areZero (d ∷ cs) ≡ true → (isZero d ≡ true) × (areZero cs ≡ true)
+unfolding areZero
+zero-more d cs e = (both-left (isZero d) (areZero cs) e, both-right (isZero d) (areZero cs) e)
 
 -- ---- The whole record
 
@@ -256,3 +261,125 @@ module _ (c : Command) (full : Filled c) (fine : commandAllowed c ≡ Fine) wher
       (λ k (b : bodyOf (textOf parts) k ≡ body k) (x : Kept k (value k) (names c k) (held k)).
       held-own (textOf parts) (text-accepted parts sound-parts) k ∙ ap (holds k) b ∙ x .reads)
       numbers (bodies-back parts sound-parts) all-kept
+
+  -- no text is longer than the longest
+  pub written-short : length (commandText c) ≤ 835
+  written-short = accepted (commandText c) written-fine .short
+
+  unnamed : Each (λ k. names c k ≡ false → areZero (held k) ≡ true) numbers
+  unnamed = sections-zero numbers 22 c (halves .1)
+
+  regions-back : regionsFrom (heldIn (textOf parts) 2) ≡ c .settings .regions
+  unfolding contentsOf
+  regions-back =
+      let x = c .settings .regions in
+      regions-kept x (full .reporting) (full .inhibiting) (names c 2) (heldIn (textOf parts) 2) (held-back .0)
+      (λ (n : names c 2 ≡ false).
+      let a = zero-more (Areas (x .reporting)) (Areas (x .inhibiting) ∷ []) (unnamed .0 n) in
+      let b = zero-more (Areas (x .inhibiting)) [] (a .1) in
+      (a .0, b .0))
+
+  airports-back : airportsFrom (heldIn (textOf parts) 3) ≡ c .settings .airports
+  unfolding contentsOf
+  airports-back =
+      let x = c .settings .airports in
+      airports-kept x (full .selected) (full .inhibited) (names c 3) (heldIn (textOf parts) 3) (held-back .1 .0)
+      (λ (n : names c 3 ≡ false).
+      let r = Amount (x .routine) ∷ [] in
+      let d4 = Names (x .inhibited .descent) ∷ r in
+      let d3 = Names (x .inhibited .ascent) ∷ d4 in
+      let d2 = Names (x .selected .descent) ∷ d3 in
+      let a = zero-more (Names (x .selected .ascent)) d2 (unnamed .1 .0 n) in
+      let b = zero-more (Names (x .selected .descent)) d3 (a .1) in
+      let d = zero-more (Names (x .inhibited .ascent)) d4 (b .1) in
+      let e = zero-more (Names (x .inhibited .descent)) r (d .1) in
+      let f = zero-more (Amount (x .routine)) [] (e .1) in
+      ((a .0, b .0), (d .0, e .0), f .0))
+
+  enroute-back : enrouteFrom (heldIn (textOf parts) 4) ≡ c .settings .enroute
+  unfolding contentsOf
+  enroute-back =
+      let x = c .settings .enroute in
+      enroute-kept x (names c 4) (heldIn (textOf parts) 4) (held-back .1 .1 .0)
+      (λ (n : names c 4 ≡ false).
+      let a = zero-more (Amount (x .interval)) (Amount (x .wind) ∷ []) (unnamed .1 .1 .0 n) in
+      let b = zero-more (Amount (x .wind)) [] (a .1) in
+      (a .0, b .0))
+
+  ascent-back : ascentFrom (heldIn (textOf parts) 5) ≡ c .settings .ascent
+  unfolding contentsOf
+  ascent-back =
+      let x = c .settings .ascent in
+      ascent-kept x (names c 5) (heldIn (textOf parts) 5) (held-back .1 .1 .1 .0)
+      (λ (n : names c 5 ≡ false).
+      let l8 = Amount (x .timer) ∷ [] in
+      let l7 = Amount (x .list) ∷ l8 in
+      let l6 = Amount (x .top) ∷ l7 in
+      let l5 = Amount (x .total) ∷ l6 in
+      let l4 = Amount (x .interval2) ∷ l5 in
+      let l3 = Amount (x .duration) ∷ l4 in
+      let l2 = Amount (x .interval1) ∷ l3 in
+      let z1 = zero-more (Amount (x .mode)) l2 (unnamed .1 .1 .1 .0 n) in
+      let z2 = zero-more (Amount (x .interval1)) l3 (z1 .1) in
+      let z3 = zero-more (Amount (x .duration)) l4 (z2 .1) in
+      let z4 = zero-more (Amount (x .interval2)) l5 (z3 .1) in
+      let z5 = zero-more (Amount (x .total)) l6 (z4 .1) in
+      let z6 = zero-more (Amount (x .top)) l7 (z5 .1) in
+      let z7 = zero-more (Amount (x .list)) l8 (z6 .1) in
+      let z8 = zero-more (Amount (x .timer)) [] (z7 .1) in
+      record {
+        mode = z1 .0;
+        interval1 = z2 .0;
+        duration = z3 .0;
+        interval2 = z4 .0;
+        total = z5 .0;
+        top = z6 .0;
+        list = z7 .0;
+        timer = z8 .0;
+      })
+
+  routine6-back : amountIn (heldIn (textOf parts) 6) 0 ≡ c .settings .routine6
+  unfolding contentsOf
+  routine6-back =
+      let d = c .settings .routine6 in
+      digit-kept d (names c 6) (heldIn (textOf parts) 6) (held-back .1 .1 .1 .1 .0)
+      (λ (n : names c 6 ≡ false). zero-more (Amount d) [] (unnamed .1 .1 .1 .1 .0 n) .0)
+
+  routine8-back : amountIn (heldIn (textOf parts) 8) 0 ≡ c .settings .routine8
+  unfolding contentsOf
+  routine8-back =
+      let d = c .settings .routine8 in
+      digit-kept d (names c 8) (heldIn (textOf parts) 8) (held-back .1 .1 .1 .1 .1 .1 .0)
+      (λ (n : names c 8 ≡ false). zero-more (Amount d) [] (unnamed .1 .1 .1 .1 .1 .1 .0 n) .0)
+
+  hours-back : hoursFrom (heldIn (textOf parts) 9) ≡ c .settings .hours
+  unfolding contentsOf
+  hours-back =
+      let x = c .settings .hours in
+      hours-kept x (names c 9) (heldIn (textOf parts) 9) (held-back .1 .1 .1 .1 .1 .1 .1 .0)
+      (λ (n : names c 9 ≡ false).
+      let a = zero-more (Amount (x .start)) (Amount (x .end) ∷ []) (unnamed .1 .1 .1 .1 .1 .1 .1 .0 n) in
+      let b = zero-more (Amount (x .end)) [] (a .1) in
+      (a .0, b .0))
+
+  all-flags : digitsOf (part 5 7 (textOf parts)) ≡ c .settings .flags
+  all-flags = ap digitsOf (flags-back parts sound-parts) ∙ digits-off (c .settings .flags)
+
+  settings-back : settingsFrom (digitsOf (part 5 7 (textOf parts))) (heldIn (textOf parts)) ≡ c .settings
+  unfolding settingsFrom
+  settings-back = rw (all-flags, regions-back, airports-back, enroute-back, ascent-back, routine6-back, routine8-back, hours-back)
+
+  digit-back : getD (textOf parts) 12 0 - 48 ≡ c .downlink
+  digit-back = omega (arith, downlink-back parts sound-parts)
+
+  all-named : digitsOf (part 13 8 (textOf parts)) ≡ c .named
+  all-named = ap digitsOf (marks-back parts sound-parts ∙ marks-are-named) ∙ digits-off (c .named)
+
+  -- and reads back as that record
+  pub written-read : commandOf (commandText c) ≡ c
+  unfolding commandOf
+  written-read = rw (← text-is, settings-back, digit-back, all-named)
+
+-- the text of an allowed record is accepted, and reads back as that record
+pub write-read : (c : Command) → Filled c → commandAllowed c ≡ Fine → (checkCommand (commandText c) ≡ Fine) × (commandOf (commandText c) ≡ c)
+write-read c full fine = (written-fine c full fine, written-read c full fine)

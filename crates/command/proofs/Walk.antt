@@ -61,10 +61,11 @@ module _ (k : ℕ) (ks s : List ℕ) (at : ℕ) where
   unfolding bodyFrom
   body-later j n h = rw (n, ne-eqb j k (λ (e : j ≡ k). omega arith))
 
-pub present-some : (b : List ℕ) → 1 ≤ length b → present b ≡ true
+present-some : (b : List ℕ) → 1 ≤ length b → present b ≡ true
 present-some [] h = absurd (omega arith)
 present-some (c ∷ b) h = refl
 
+-- bytes that are there hold what they hold by themselves
 pub holds-some : (k : ℕ) (b : List ℕ) → 1 ≤ length b → contentsAt (layoutOf k) b 0 ≡ holds k b
 holds-some k [] h = absurd (omega arith)
 holds-some k (c ∷ b) h = refl

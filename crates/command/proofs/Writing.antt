@@ -42,14 +42,17 @@ left-from l i h = rw (add-one, drop-cons l i 0)
 -- ---- Flags
 
 module _ (fs : List ℕ) (i : ℕ) (lt : i < length fs) where
+  -- an allowed flag: the others decide
   pub flags-on : flagAllowed (getD fs i 0) ≡ true → flagsAllowed (5 + i) (drop i fs) ≡ flagsAllowed (5 + (i + 1)) (drop (i + 1) fs)
   unfolding flagsAllowed
   flags-on e = let k : 5 + i + 1 ≡ 5 + (i + 1) = omega arith in rw (left-from fs i lt, e, k)
 
+  -- any other ends the check
   pub flags-stop : flagAllowed (getD fs i 0) ≡ false → flagsAllowed (5 + i) (drop i fs) ≡ Bad 4 (5 + i)
   unfolding flagsAllowed
   flags-stop e = rw (left-from fs i lt, e)
 
+-- no flag is left
 pub flags-end : (fs : List ℕ) (i at : ℕ) → length fs ≤ i → flagsAllowed at (drop i fs) ≡ Fine
 unfolding flagsAllowed
 flags-end fs i at h = rw (drop-of-length-le fs {i = i} h)
@@ -64,15 +67,18 @@ numbers-from : (i : ℕ) → i < 8 → drop i numbers ≡ (2 + i) ∷ drop (i + 
 numbers-from i h = left-from numbers i h ∙ rw (at (λ (j : ℕ). 2 + j) 8 i h)
 
 module _ (vs : List ℕ) (i : ℕ) (few : i < 8) (lt : i < length vs) where
+  -- an allowed indicator: the others decide
   pub named-on : indicated (2 + i) (getD vs i 0) ≡ true
       → namedAllowed (drop i numbers) (13 + i) (drop i vs) ≡ namedAllowed (drop (i + 1) numbers) (13 + (i + 1)) (drop (i + 1) vs)
   unfolding namedAllowed
   named-on e = let k : 13 + i + 1 ≡ 13 + (i + 1) = omega arith in rw (left-from vs i lt, numbers-from i few, e, k)
 
+  -- any other ends the check
   pub named-stop : indicated (2 + i) (getD vs i 0) ≡ false → namedAllowed (drop i numbers) (13 + i) (drop i vs) ≡ Bad 4 (13 + i)
   unfolding namedAllowed
   named-stop e = rw (left-from vs i lt, numbers-from i few, e)
 
+-- no indicator is left
 pub named-end : (vs : List ℕ) (i place : ℕ) → 8 ≤ i → namedAllowed (drop i numbers) place (drop i vs) ≡ Fine
 unfolding namedAllowed
 named-end vs i place h = rw (drop-of-length-le numbers {i = i} h)
@@ -193,11 +199,13 @@ text-halves c =
     rw one (sym (append-assoc fs ((48 + c .downlink) ∷ (ns ++ 47 ∷ [])) rest)) in
     ap (λ (l : List ℕ). awr04 ++ l) two
 
+-- the head is 22 bytes long
 pub head-length : (c : Command) → length (c .settings .flags) ≡ 7 → length (c .named) ≡ 8 → length (headText c) ≡ 22
 unfolding headText
 head-length c seven eight =
     simp (length-append, length-map) (omega arith)
 
+-- the whole is as long as 22 bytes and its sections
 pub text-length : (c : Command) → length (c .settings .flags) ≡ 7 → length (c .named) ≡ 8
     → length (commandText c) ≡ 22 + length (sectionsText numbers c)
 text-length c seven eight =
@@ -407,6 +415,7 @@ sections-named (k ∷ ks) place c e =
     let x = both-fine (must (areZero cs) 7 place) (sectionsAllowed ks place c) (rw n at e) in
     (λ t. let z : true ≡ false = sym t ∙ n in cc, sections-named ks place c (x .1)))
 
+-- what the writer asks of a record
 pub record Ready (c : Command) : Type 0 where
   pub flags : Digits (c .settings .flags)
   pub downlink : c .downlink ≤ 9

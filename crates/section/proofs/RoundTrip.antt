@@ -1,12 +1,12 @@
 -- Sections both ways: what is accepted is written back as the same bytes, and what an allowed record writes is accepted and reads back.
-use mathlib.Core.Path.{_≡_, refl, sym, ap, ap₂, _∙_}
+use mathlib.Core.Path.{_≡_, refl, ap, _∙_}
 use mathlib.Core.Bool.{_&&_}
 use mathlib.Core.List.{List, [], _∷_, _++_}
 use Prim.Native.Nat.{ℕ, _+_, _-_, _*_, _^_, _≤_, _<_}
 use native.Mathlib.Omega.{arith}
 use native.Mathlib.Nat.{add-zero, zero-add}
 use lib.Dec.{leb}
-use lib.ListN.{length, getD, take, length-append}
+use lib.ListN.{length, getD, length-append}
 use lib.Seq.{take-all}
 use borrow.Author.Tests.{leb-true}
 use Rattle.text.specs.Parts.{part}
@@ -16,7 +16,7 @@ use Rattle.text.proofs.Checks.{must-held, both-fine}
 use Rattle.text.proofs.Parts.{part-bytes}
 use Rattle.text.proofs.Stands.{Stands, stands-left, stands-right, stands-whole, stands-byte, part-add}
 use Rattle.field.specs.declared.Step.the-variants.{Next}
-use Rattle.field.proofs.Accepted.{mark, delimiter, next-same}
+use Rattle.field.proofs.Accepted.{mark, delimiter}
 use Rattle.field.proofs.Decimal.{decimal-length}
 use Rattle.field.proofs.Local.{after-cases}
 use Rattle.field.proofs.RoundTrip.{number-read, number-value, number-stands, mark-stands, delimiter-stands}
@@ -24,7 +24,7 @@ use Rattle.lists.proofs.RoundTrip.{airfields-read, airfields-held, airfields-st
 use Rattle.lists.specs.Lists.{airfieldsText, boxesText}
 use Rattle.lists.proofs.Spelling.{airfields-length, boxes-length}
 use Rattle.section.specs.Layout.{Item, Number, Mark, AirfieldList, BoxList, checkItem, checkItems, itemSize, itemsSize}
-use Rattle.section.specs.Contents.{Content, Amount, Names, Areas, amountOf, contentAt, contentsAt, contentText, contentsText, contentAllowed, contentsAllowed}
+use Rattle.section.specs.Contents.{Content, Amount, Names, Areas, contentAt, contentsAt, contentText, contentsText, contentAllowed, contentsAllowed}
 use Rattle.section.proofs.Local.{item-sized}
 use Rattle.section.proofs.Own.{Own, own-length}
 

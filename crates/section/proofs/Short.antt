@@ -67,10 +67,12 @@ contents-anywhere (i ∷ is) p q (c ∷ cs) e =
 abbrev pub Full : Content → Type 0
 Full c = (length (namesOf c .names) ≡ 80) × (length (areasOf c .regions) ≡ 16)
 
+-- every array of a section
 abbrev pub AllFull : List Content → Type 0
 AllFull [] = Unit
 AllFull (c ∷ cs) = Full c × AllFull cs
 
+-- an allowed item is written no longer than its longest
 pub content-short : (i : Item) (at : ℕ) (c : Content) → Full c → contentAllowed i at c ≡ Fine → length (contentText i c) ≤ itemMost i
 content-short (Number w least most) at c full e = omega (arith, decimal-length w (amountOf c))
 content-short (Mark least most) at c full e = omega arith
@@ -170,11 +172,13 @@ reaches-more m n (Stop code place) h l = tt
 
 -- ---- The room that the writers of the sections ask
 
+-- section 2, by its lists
 pub regions-room : (x : Regions) (n : ℕ) → length (contentsText (layoutOf 2) (regionsHold x)) ≤ n
     → length (boxesText (x .reporting)) + length (boxesText (x .inhibiting)) + 1 ≤ n
 unfolding layoutOf contentsText
 regions-room x n h = omega (arith, length-append (boxesText (x .reporting)) (boxesText (x .inhibiting) ++ 47 ∷ []), length-append (boxesText (x .inhibiting)) (47 ∷ []))
 
+-- section 3, by its lists
 pub airports-room : (x : Airports) (n : ℕ) → length (contentsText (layoutOf 3) (airportsHold x)) ≤ n
     → length (airfieldsText (x .selected .ascent)) + length (airfieldsText (x .selected .descent))
     + (length (airfieldsText (x .inhibited .ascent)) + length (airfieldsText (x .inhibited .descent)))
@@ -197,18 +201,22 @@ airports-room x n h =
       decimal-length 1 (x .routine),
     )
 
+-- the others have one length each
 pub enroute-long : (x : Enroute) → length (contentsText (layoutOf 4) (enrouteHold x)) ≡ 4
 unfolding layoutOf contentsText
 enroute-long x = simp (length-append, decimal-length)
 
+-- section 5
 pub ascent-long : (x : Ascent) → length (contentsText (layoutOf 5) (ascentHold x)) ≡ 17
 unfolding layoutOf contentsText
 ascent-long x = simp (length-append, decimal-length)
 
+-- sections 6 and 8
 pub digit-long : (d : ℕ) → length (contentsText (layoutOf 6) (digitHold d)) ≡ 2
 unfolding layoutOf contentsText
 digit-long d = simp (length-append, decimal-length)
 
+-- section 9
 pub hours-long : (x : Hours) → length (contentsText (layoutOf 9) (hoursHold x)) ≡ 5
 unfolding layoutOf contentsText
 hours-long x = simp (length-append, decimal-length)
