@@ -8,5 +8,5 @@ pub mod Accepted
 pub mod Written
 pub mod Checking
 pub mod Writing
-pub mod Reading
+pub mod ReadBack
 pub mod RoundTrip

@@ -32,7 +32,7 @@ use Rattle.command.proofs.Walk.{holds-some}
 use Rattle.command.proofs.Accepted.{accepted, held-own}
 use Rattle.command.proofs.Written.{flags-back, downlink-back, marks-back, bodies-back, text-accepted, text-fine}
 use Rattle.command.proofs.Writing.{indicated, named-at, headAllowed, allowed-halves, sections-named}
-use Rattle.command.proofs.Reading.{texts-are, flagsN, read-allowed, read-written}
+use Rattle.command.proofs.ReadBack.{texts-are, flagsN, read-allowed, read-written}
 
 -- each accepted text reads to an allowed record that is written back as the same bytes
 pub read-write : (s : List ℕ) → checkCommand s ≡ Fine → (commandAllowed (commandOf s) ≡ Fine) × (commandText (commandOf s) ≡ s)
