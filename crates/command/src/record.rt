@@ -191,7 +191,7 @@ fn ascent_in_turn(named: bool, x: Ascent, at: usize) -> Step
     zero_turn(ascent_zero(x), at)
 }
 
-// Sections 6 and 8 in its turn.
+// Sections 6 and 8, each in its turn.
 fn digit_in_turn(named: bool, x: u8, at: usize) -> Step
     requires { ⌜ at ≤ 1000 ⌝ }
     ensures { λ r. ⌜ (r ≡ sectionTurn named 6 at (digitHold x)) × Reaches (at + 2) r ⌝ }
