@@ -1,2 +1,3 @@
 -- The laws of the desk.
 pub mod Each
+pub mod Given

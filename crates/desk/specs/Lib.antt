@@ -1,3 +1,5 @@
+pub mod Commands
+pub mod Joins
 pub mod Numbers
 pub mod Outcomes
 pub mod Records

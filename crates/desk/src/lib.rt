@@ -1,8 +1,13 @@
 // The exported calls, for the host program in C. Each takes numbers and byte strings, and its answer is made of numbers.
+mod answers;
+mod command_calls;
 mod config_calls;
+mod join_calls;
 mod packed_calls;
 mod records;
 mod report_calls;
+
+use command::Command;
 
 // The answer of a call that checks or writes.
 #[repr(C)]
@@ -62,6 +67,13 @@ pub struct HostReport {
 pub struct ReportAnswer {
     pub answer: Answer,
     pub report: HostReport,
+}
+
+// The answer of reading a command.
+#[repr(C)]
+pub struct CommandAnswer {
+    pub answer: Answer,
+    pub command: Command,
 }
 
 // The answer of applying a command: the digit where it is accepted.
