@@ -18,8 +18,8 @@ use Rattle.command.proofs.RoundTrip.{Filled, written-short}
 use Rattle.join.specs.Join.{Joined, Joins, Refuses, joinText, bySeen, join, told}
 use Rattle.join.proofs.Laws.{join-short}
 use Rattle.desk.specs.Numbers.{checkNumbers, writeNumbers}
-use Rattle.desk.specs.Commands.{wroteNumbers}
-use Rattle.desk.specs.Joins.{joinNumbers, toldNumbers, toldLength}
+use Rattle.desk.specs.Joins.{joinNumbers}
+use Rattle.desk.specs.Steps.{wroteNumbers, toldNumbers, toldLength}
 
 -- a check's numbers are those of a writer that gives no length
 pub no-length : (x : Seen) → writeNumbers x 0 ≡ checkNumbers x

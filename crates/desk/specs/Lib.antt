@@ -3,3 +3,4 @@ pub mod Joins
 pub mod Numbers
 pub mod Outcomes
 pub mod Records
+pub mod Steps

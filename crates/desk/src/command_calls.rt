@@ -16,7 +16,8 @@ ghost use lib.ListN.{length};
 ghost use Rattle.command.specs.Text.{checkCommand};
 ghost use Rattle.command.specs.Record.{readCommand, commandText, writeSeen, leftBy};
 ghost use Rattle.desk.specs.Numbers.{checkNumbers, writeNumbers};
-ghost use Rattle.desk.specs.Commands.{commandNumbers, wroteNumbers};
+ghost use Rattle.desk.specs.Commands.{commandNumbers};
+ghost use Rattle.desk.specs.Steps.{wroteNumbers};
 
 #[no_mangle]
 pub extern "C" fn esk_command_check(text: &[u8]) -> Answer

@@ -7,7 +7,8 @@ ghost use mathlib.Core.Path.{_≡_};
 ghost use Prim.Native.Nat.{_≤_};
 ghost use lib.ListN.{length};
 ghost use Rattle.join.specs.Join.{join, joinedOver};
-ghost use Rattle.desk.specs.Joins.{joinNumbers, toldNumbers, toldLength};
+ghost use Rattle.desk.specs.Joins.{joinNumbers};
+ghost use Rattle.desk.specs.Steps.{toldNumbers, toldLength};
 
 // A join's answer names the text at fault, 1 or 2, else 0.
 fn told_answer(told: Told) -> Answer

@@ -1,3 +1,4 @@
+-- `desk::command_calls::command_answer` meets its contract.
 use borrow.Author.Needs.{needs}
 use Rattle.desk.proofs.command_calls.command_answer.Statement.{statement}
 use Rattle.desk.proofs.command_calls.command_answer.Tie as tie

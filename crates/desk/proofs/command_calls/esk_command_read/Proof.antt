@@ -1,3 +1,4 @@
+-- `desk::command_calls::esk_command_read` meets its contract.
 use borrow.Author.Needs.{needs}
 use Rattle.desk.proofs.command_calls.esk_command_read.Statement.{statement}
 use Rattle.desk.proofs.command_calls.esk_command_read.Tie as tie

@@ -1,7 +1,8 @@
+-- `desk::command_calls::esk_command_write` meets its contract.
 use borrow.Author.Needs.{needs}
 use Rattle.desk.proofs.command_calls.esk_command_write.Statement.{statement}
 use Rattle.desk.proofs.command_calls.esk_command_write.Tie as tie
-use mathlib.Core.Path.{_≡_, sym, _∙_}
+use mathlib.Core.Path.{sym, _∙_}
 use lib.ListN.{length, length-map}
 use Rattle.command.specs.Record.{commandText, writeSeen}
 use Rattle.command.proofs.RoundTrip.{Filled}

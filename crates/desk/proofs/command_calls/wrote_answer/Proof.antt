@@ -1,3 +1,4 @@
+-- `desk::command_calls::wrote_answer` meets its contract.
 use borrow.Author.Needs.{needs}
 use Rattle.desk.proofs.command_calls.wrote_answer.Statement.{statement}
 use Rattle.desk.proofs.command_calls.wrote_answer.Tie as tie

@@ -1,7 +1,8 @@
+-- `desk::join_calls::esk_join` meets its contract.
 use borrow.Author.Needs.{needs}
 use Rattle.desk.proofs.join_calls.esk_join.Statement.{statement}
 use Rattle.desk.proofs.join_calls.esk_join.Tie as tie
-use mathlib.Core.Path.{_≡_, _∙_}
+use mathlib.Core.Path.{_∙_}
 use lib.ListN.{length}
 use Rattle.join.specs.Join.{join}
 use Rattle.desk.proofs.Given.{told-numbers, told-short}

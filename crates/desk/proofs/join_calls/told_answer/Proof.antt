@@ -1,9 +1,7 @@
+-- `desk::join_calls::told_answer` meets its contract.
 use borrow.Author.Needs.{needs}
 use Rattle.desk.proofs.join_calls.told_answer.Statement.{statement}
 use Rattle.desk.proofs.join_calls.told_answer.Tie as tie
-use mathlib.Core.Path.{_≡_}
-use Prim.Native.Nat.{_≤_}
-use Rattle.desk.specs.Joins.{toldLength}
 
 enum-known-told : tie.Need-enum-known-told
 enum-known-told c = search needs
