@@ -9,6 +9,9 @@ export CARGO_TARGET_DIR := $(CURDIR)/target/compare
 
 archive := target/staticlib/libdesk.a
 
+# Those that make the proved calls for the comparison, one for each group of calls that it compares.
+programs := answer answer_command answer_config answer_join
+
 .PHONY: all demo test compare bench clean
 
 all: $(archive)
@@ -24,7 +27,7 @@ test:
 	.ci/run
 
 compare: $(archive)
-	@host/tool build answer host/test/answer.c
+	@for program in $(programs); do host/tool build $$program host/test/$$program.c || exit 1; done
 	@cd compare && cargo build --release --offline --locked --quiet
 	@target/compare/release/compare $(ARGS)
 

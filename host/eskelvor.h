@@ -237,7 +237,7 @@ typedef struct esk_command {
     uint8_t named[8];      /* for sections 2 to 9: the section's number where it is named, else 0; 7 is never named */
 } esk_command;
 
-/* The answer of esk_command_read. 624 bytes. Where the answer is a refusal the command is 0 in every member. */
+/* The answer of esk_command_read. 632 bytes. Where the answer is a refusal the command is 0 in every member. */
 typedef struct esk_command_got {
     esk_answer answer;
     esk_command command;

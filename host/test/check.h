@@ -61,10 +61,12 @@ static inline int is_written(lent *l, const void *text, size_t length)
     return memcmp(l->now, l->was, sizeof l->now) == 0;
 }
 
+static inline int is_spare(esk_answer got) { return got.spare[0] == 0 && got.spare[1] == 0; }
+
 static inline int is_answer(esk_answer got, unsigned code, unsigned long place, unsigned length)
 {
     checks++;
-    return got.code == code && got.place == place && got.length == length && got.text == 0;
+    return got.code == code && got.place == place && got.length == length && got.text == 0 && is_spare(got);
 }
 
 /* Ends the program over an answer that is another than expected. */

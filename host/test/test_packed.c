@@ -162,7 +162,7 @@ static void write_all(int null)
 static void layout(void)
 {
     HOLD(sizeof(esk_answer) == 16 && offsetof(esk_answer, place) == 0 && offsetof(esk_answer, length) == 8);
-    HOLD(offsetof(esk_answer, code) == 12 && offsetof(esk_answer, text) == 13);
+    HOLD(offsetof(esk_answer, code) == 12 && offsetof(esk_answer, text) == 13 && offsetof(esk_answer, spare) == 14);
     HOLD(sizeof(esk_figure) == 8 && offsetof(esk_figure, number) == 0 && offsetof(esk_figure, given) == 4);
     HOLD(sizeof(esk_packed) == 8 && offsetof(esk_packed, number) == 0 && offsetof(esk_packed, place) == 4);
     HOLD(offsetof(esk_packed, code) == 6 && offsetof(esk_packed, given) == 7);

@@ -31,7 +31,7 @@ static inline void answer_holds(esk_answer got, unsigned code, unsigned long pla
                                 const char *call, const char *why)
 {
     checks++;
-    if (got.code == code && got.place == place && got.length == length && got.text == text)
+    if (got.code == code && got.place == place && got.length == length && got.text == text && is_spare(got))
         return;
     fprintf(stderr, "FAILED after %lu checks: %s: %s\n", checks, call, why);
     fprintf(stderr, "  expected: code %u place %lu length %lu text %u\n", code, place, (unsigned long)length, text);

@@ -9,3 +9,6 @@ pub mod Written
 pub mod Checking
 pub mod Placed
 pub mod Codes
+pub mod Writing
+pub mod ReadBack
+pub mod RoundTrip

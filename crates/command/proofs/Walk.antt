@@ -65,7 +65,8 @@ present-some : (b : List ℕ) → 1 ≤ length b → present b ≡ true
 present-some [] h = absurd (omega arith)
 present-some (c ∷ b) h = refl
 
-holds-some : (k : ℕ) (b : List ℕ) → 1 ≤ length b → contentsAt (layoutOf k) b 0 ≡ holds k b
+-- bytes that are there hold what they hold by themselves
+pub holds-some : (k : ℕ) (b : List ℕ) → 1 ≤ length b → contentsAt (layoutOf k) b 0 ≡ holds k b
 holds-some k [] h = absurd (omega arith)
 holds-some k (c ∷ b) h = refl
 

@@ -1,3 +1,4 @@
 pub mod Record
 pub mod Steps
 pub mod Text
+pub mod Writing

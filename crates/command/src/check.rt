@@ -53,7 +53,7 @@ fn is_downlink(b: u8) -> bool
 }
 
 // Whether there is a section of this number: E7 is only 0.
-fn is_section(k: usize) -> bool
+pub fn is_section(k: usize) -> bool
     ensures { λ r. ⌜ r ≡ not (isEmpty (layoutOf k)) ⌝ }
 {
     match k {

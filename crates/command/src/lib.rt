@@ -2,6 +2,8 @@
 pub mod check;
 pub mod places;
 pub mod read;
+pub mod record;
+pub mod write;
 
 use section::Settings;
 
@@ -19,4 +21,11 @@ pub struct Got {
     pub code: u8,
     pub place: usize,
     pub command: Command,
+}
+
+// What writing gives: the length of the text that was written, or the refusal's code and place and no length.
+pub struct Wrote {
+    pub code: u8,
+    pub place: usize,
+    pub length: usize,
 }

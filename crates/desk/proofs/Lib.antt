@@ -2,3 +2,4 @@
 pub mod Each
 mod Shared
 mod Waited
+pub mod Given

@@ -1,9 +1,14 @@
 // The exported calls, for the host program in C. Each takes numbers and byte strings, and its answer is made of numbers.
+mod answers;
 mod board_calls;
+mod command_calls;
 mod config_calls;
+mod join_calls;
 mod packed_calls;
 mod records;
 mod report_calls;
+
+use command::Command;
 
 // The answer of a call that checks or writes.
 #[repr(C)]
@@ -63,6 +68,13 @@ pub struct HostReport {
 pub struct ReportAnswer {
     pub answer: Answer,
     pub report: HostReport,
+}
+
+// The answer of reading a command.
+#[repr(C)]
+pub struct CommandAnswer {
+    pub answer: Answer,
+    pub command: Command,
 }
 
 // The answer of applying a command: the digit where it is accepted.

@@ -2,6 +2,8 @@
 use crate::Answer;
 use crate::HostReport;
 use crate::ReportAnswer;
+use crate::answers::answer_of;
+use crate::answers::numbers;
 use crate::records::host_report;
 use crate::records::record_from;
 use packed::table::digit_table;
@@ -10,41 +12,11 @@ use report::Got;
 use report::check::check;
 use report::read::read;
 use report::write::write;
-use text::Seen;
 ghost use mathlib.Core.Path.{_≡_};
-ghost use Prim.Native.Nat.{ℕ};
 ghost use lib.ListN.{length};
 ghost use Rattle.report.specs.Report.{checkText, readReport, reportText, writeSeen, leftBy};
-ghost use Rattle.desk.specs.Numbers.{accepted, refusal};
-ghost use Rattle.desk.specs.Records.{reportNumbers, recordOf, checkNumbers, writeNumbers};
-
-fn refused(code: u8, place: usize) -> Answer
-    ensures { λ r. ⌜ r ≡ refusal code place ⌝ }
-{
-    Answer {
-        place,
-        length: 0,
-        code,
-        text: 0,
-        spare: 0,
-    }
-}
-
-// The numbers of what was seen; `length` is given where all is fine.
-fn numbers(seen: Seen, length: u32) -> Answer
-    ensures { λ r. ⌜ r ≡ writeNumbers seen length ⌝ }
-{
-    match seen {
-        Seen::Fine => Answer {
-            place: 0,
-            length,
-            code: 0,
-            text: 0,
-            spare: 0,
-        },
-        Seen::Bad(code, place) => refused(code, place),
-    }
-}
+ghost use Rattle.desk.specs.Numbers.{checkNumbers, writeNumbers};
+ghost use Rattle.desk.specs.Records.{reportNumbers, recordOf};
 
 #[no_mangle]
 pub extern "C" fn esk_report_check(text: &[u8]) -> Answer
@@ -59,7 +31,7 @@ fn report_answer(g: Got) -> ReportAnswer
 {
     let report = g.report;
     ReportAnswer {
-        answer: refused(g.code, g.place),
+        answer: answer_of(g.code, g.place),
         report: host_report(report),
     }
 }

@@ -30,7 +30,7 @@ use Rattle.field.proofs.RoundTrip.{number-value, number-stands, digits-read, re
 use Rattle.field.proofs.Spelling.{region-length}
 use Rattle.lists.specs.declared.Airfields.{Airfields}
 use Rattle.lists.specs.declared.Boxes.{Boxes}
-use Rattle.lists.specs.Lists.{countAt, checkList, checkAirfields, checkBoxes, airfieldsAt, allZero, namesAllowed, airfieldsAllowed, airfieldsText, regionsAt, boxesAt, edgeZero, regionZero, regionsZero, regionsAllowed, boxesAllowed, regionsText, boxesText}
+use Rattle.lists.specs.Lists.{countAt, checkList, checkAirfields, checkBoxes, airfieldsAt, allZero, namesAllowed, airfieldsAllowed, airfieldsText, regionsAt, boxesAt, edgeZero, regionZero, regionsZero, regionsAllowed, boxesAllowed, regionsText, boxesText, noAirfields, noBoxes}
 use Rattle.lists.proofs.Accepted.{Counted, counted, Named, airfields}
 use Rattle.lists.proofs.Fill.{regions-length}
 
@@ -333,3 +333,27 @@ module _ (s : List ℕ) (at p : ℕ) (e : checkBoxes s at ≡ Next p) where
         regions-read s n (at + 2) p 0 [] (boxed .entries) .1,
         part-add s at 2 (14 * n),
       )
+
+-- ---- Lists with nothing in them
+
+names-of : ℕ → List ℕ → Airfields
+names-of n names = record { count = n; names = names }
+
+-- a list of airfields that is all zero is the one empty list
+pub airfields-nothing : (l : Airfields) → length (l .names) ≡ 80 → (eqb (l .count) 0 && allZero (l .names)) ≡ true → l ≡ noAirfields
+unfolding names-of
+airfields-nothing l full e =
+    let n : l .count ≡ 0 = eqb-true (l .count) 0 (both-left (eqb (l .count) 0) (allZero (l .names)) e) in
+    let z : l .names ≡ replicate 80 0 = zeros-are (l .names) (both-right (eqb (l .count) 0) (allZero (l .names)) e) ∙ rw full in
+    ap (λ (x : ℕ). names-of x (l .names)) n ∙ ap (names-of 0) z
+
+boxes-of : ℕ → List Region → Boxes
+boxes-of n regions = record { count = n; regions = regions }
+
+-- and so is a list of boxes
+pub boxes-nothing : (l : Boxes) → length (l .regions) ≡ 16 → (eqb (l .count) 0 && regionsZero (l .regions)) ≡ true → l ≡ noBoxes
+unfolding boxes-of
+boxes-nothing l full e =
+    let n : l .count ≡ 0 = eqb-true (l .count) 0 (both-left (eqb (l .count) 0) (regionsZero (l .regions)) e) in
+    let z : l .regions ≡ replicate 16 noRegion = regions-zero-are (l .regions) (both-right (eqb (l .count) 0) (regionsZero (l .regions)) e) ∙ rw full in
+    ap (λ (x : ℕ). boxes-of x (l .regions)) n ∙ ap (boxes-of 0) z

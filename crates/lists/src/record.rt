@@ -8,7 +8,9 @@ use field::record::wide;
 use text::Seen;
 use text::all_allowed;
 ghost use mathlib.Core.Path.{_≡_};
+ghost use mathlib.Core.Bool.{_&&_};
 ghost use Prim.Native.Nat.{_*_, _≤_};
+ghost use lib.Dec.{eqb};
 ghost use lib.ListN.{length, drop};
 ghost use Rattle.lists.specs.Lists.{
   allZero,
@@ -70,6 +72,14 @@ pub fn airfields_allowed(l: Airfields, at: usize) -> Seen
         return Seen::Bad(7, at);
     }
     names_allowed(&names, n, at + 2)
+}
+
+// A list with nothing in it, as a section that isn't named has it: all zero.
+pub fn airfields_zero(l: Airfields) -> bool
+    ensures { λ r. ⌜ r ≡ (eqb (l .count) 0 && allZero (l .names)) ⌝ }
+{
+    let names = l.names;
+    (l.count == 0) & zero_from(&names, 0)
 }
 
 fn edge_zero(e: Edge) -> bool
@@ -137,4 +147,12 @@ pub fn boxes_allowed(l: Boxes, at: usize) -> Seen
         return Seen::Bad(7, at);
     }
     regions_allowed(regions, n, at + 2)
+}
+
+// A list with nothing in it, all zero.
+pub fn boxes_zero(l: Boxes) -> bool
+    ensures { λ r. ⌜ r ≡ (eqb (l .count) 0 && regionsZero (l .regions)) ⌝ }
+{
+    let regions = l.regions;
+    (l.count == 0) & regions_zero(regions, 0)
 }

@@ -6,3 +6,6 @@ pub mod Come
 pub mod Walk
 pub mod Held
 pub mod Written
+pub mod Short
+pub mod RoundTrip
+pub mod Kept

@@ -1,3 +1,4 @@
 pub mod Contents
 pub mod Layout
 pub mod Settings
+pub mod Turn

@@ -6,6 +6,7 @@ pub mod check;
 pub mod read;
 pub mod record;
 pub mod size;
+pub mod turn;
 pub mod write;
 
 // Section 2.

@@ -57,6 +57,16 @@ pub fn put_regions(x: Regions, d: &mut [u8]) -> usize
     end + 1
 }
 
+// How long the text of section 2 is.
+pub fn regions_length(x: Regions) -> usize
+    requires { ⌜ (x .reporting .count ≤ 16) × (x .inhibiting .count ≤ 16) ⌝ }
+    ensures { λ r. ⌜ (r ≡ length (contentsText (layoutOf 2) (regionsHold x))) × (r ≤ 453) ⌝ }
+{
+    let reporting = x.reporting;
+    let inhibiting = x.inhibiting;
+    boxes_size(reporting) + boxes_size(inhibiting) + 1
+}
+
 // Section 4.
 pub fn put_enroute(x: Enroute, d: &mut [u8]) -> usize
     requires { ⌜ 4 ≤ length (now d) ⌝ }
@@ -119,6 +129,17 @@ fn put_phases(x: ByPhase, d: &mut [u8])
     let end = mid + airfields_size(descent);
     put_airfields(ascent, &mut d[0..mid]);
     put_airfields(descent, &mut d[mid..end]);
+}
+
+// How long the text of section 3 is.
+pub fn airports_length(x: Airports) -> usize
+    requires { ⌜ (x .selected .ascent .count ≤ 20) × (x .selected .descent .count ≤ 20) ⌝ }
+    requires { ⌜ (x .inhibited .ascent .count ≤ 20) × (x .inhibited .descent .count ≤ 20) ⌝ }
+    ensures { λ r. ⌜ (r ≡ length (contentsText (layoutOf 3) (airportsHold x))) × (r ≤ 330) ⌝ }
+{
+    let selected = x.selected;
+    let inhibited = x.inhibited;
+    phases_size(selected) + phases_size(inhibited) + 2
 }
 
 // Section 3.

@@ -1,15 +1,9 @@
 use borrow.Author.Needs.{needs}
 use Rattle.desk.proofs.report_calls.esk_report_check.Statement.{statement}
 use Rattle.desk.proofs.report_calls.esk_report_check.Tie as tie
-use mathlib.Core.Path.{_≡_, refl, sym, _∙_, ap}
-use Rattle.desk.specs.Records.{checkNumbers, writeNumbers}
-use Rattle.text.specs.declared.Seen.{Seen}
-use Rattle.text.specs.declared.Seen.the-variants.{Fine, Bad}
+use mathlib.Core.Path.{_∙_}
 use Rattle.report.specs.Report.{checkText}
-
-same : (x : Seen) → writeNumbers x 0 ≡ checkNumbers x
-same Fine = refl
-same (Bad c p) = refl
+use Rattle.desk.proofs.Given.{no-length}
 
 worth-table-requires : tie.Need-worth-table-requires
 worth-table-requires c κs = search needs
@@ -21,7 +15,7 @@ numbers-requires : tie.Need-numbers-requires
 numbers-requires c κs = search needs
 
 returns : tie.Need-returns
-returns c = c .numbers .ensures ∙ rw (c .before .check .ensures) (same (checkText (c .before .before .before .before .before .args .text .now)))
+returns c = c .numbers .ensures ∙ rw (c .before .check .ensures) (no-length (checkText (c .before .before .before .before .before .args .text .now)))
 
 pub esk-report-check-spec : {M : Type 1} → statement M
 esk-report-check-spec =

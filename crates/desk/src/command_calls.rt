@@ -1,0 +1,67 @@
+// Commands for C.
+use crate::Answer;
+use crate::CommandAnswer;
+use crate::answers::answer_of;
+use crate::answers::length_of;
+use crate::answers::numbers;
+use command::Command;
+use command::Got;
+use command::Wrote;
+use command::check::check;
+use command::read::read;
+use command::write::write;
+ghost use mathlib.Core.Path.{_≡_};
+ghost use Prim.Native.Nat.{_≤_};
+ghost use lib.ListN.{length};
+ghost use Rattle.command.specs.Text.{checkCommand};
+ghost use Rattle.command.specs.Record.{readCommand, commandText, writeSeen, leftBy};
+ghost use Rattle.desk.specs.Numbers.{checkNumbers, writeNumbers};
+ghost use Rattle.desk.specs.Commands.{commandNumbers};
+ghost use Rattle.desk.specs.Steps.{wroteNumbers};
+
+#[no_mangle]
+pub extern "C" fn esk_command_check(text: &[u8]) -> Answer
+    ensures { λ r. ⌜ r ≡ checkNumbers (checkCommand (now (text .entry))) ⌝ }
+{
+    numbers(check(text), 0)
+}
+
+fn command_answer(g: Got) -> CommandAnswer
+    ensures { λ r. ⌜ r ≡ commandNumbers g ⌝ }
+{
+    let command = g.command;
+    CommandAnswer {
+        answer: answer_of(g.code, g.place),
+        command,
+    }
+}
+
+#[no_mangle]
+pub extern "C" fn esk_command_read(text: &[u8]) -> CommandAnswer
+    ensures { λ r. ⌜ r ≡ commandNumbers (readCommand (now (text .entry))) ⌝ }
+{
+    command_answer(read(text))
+}
+
+// The length of what was written, or the refusal.
+fn wrote_answer(w: Wrote) -> Answer
+    requires { ⌜ w .length ≤ 835 ⌝ }
+    ensures { λ r. ⌜ r ≡ wroteNumbers w ⌝ }
+{
+    Answer {
+        place: w.place,
+        length: length_of(w.length),
+        code: w.code,
+        text: 0,
+        spare: 0,
+    }
+}
+
+#[no_mangle]
+pub extern "C" fn esk_command_write(command: Command, out: &mut [u8]) -> Answer
+    ensures { λ r. ⌜ (r ≡ writeNumbers (writeSeen command (length (now (out .entry)))) (length (commandText command)))
+        × (now (out .exit) ≡ leftBy (writeSeen command (length (now (out .entry)))) (commandText command) (now (out .entry))) ⌝ }
+{
+    let w = write(command, out);
+    wrote_answer(w)
+}

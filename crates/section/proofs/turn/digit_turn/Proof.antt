@@ -1,0 +1,35 @@
+use borrow.Author.Needs.{needs}
+use Rattle.section.proofs.turn.digit_turn.Statement.{statement}
+use Rattle.section.proofs.turn.digit_turn.Tie as tie
+use native.Mathlib.Omega.{arith}
+use Prim.Native.Nat.{_+_}
+use Rattle.section.proofs.Short.{goes-reaches}
+use mathlib.Core.Path.{_≡_}
+use lib.ListN.{length, length-append}
+use Rattle.field.proofs.Decimal.{decimal-length}
+use Rattle.section.specs.Layout.{layoutOf}
+use Rattle.section.specs.Contents.{contentsText}
+use Rattle.section.specs.Settings.{digitHold}
+
+long : (c : tie.Start) → length (contentsText (layoutOf 6) (digitHold (c .args .d))) ≡ 2
+unfolding layoutOf contentsText
+long c = simp (length-append, decimal-length)
+
+digit-allowed-requires : tie.Need-digit-allowed-requires
+digit-allowed-requires c κs = search needs
+
+add-goes-on : tie.Need-add-goes-on
+add-goes-on c = search needs
+
+goes-on-requires : tie.Need-goes-on-requires
+goes-on-requires c κs = search needs
+
+returns : tie.Need-returns
+returns c =
+    let at = c .before .before .args .at in (
+      rw (c .goes-on .ensures, c .before .digit-allowed .ensures, long (c .before .before)),
+      rw (c .goes-on .ensures) (goes-reaches (c .before .digit-allowed .result) (at + 2) (at + 2) (λ e. omega arith)),
+    )
+
+pub digit-turn-spec : {M : Type 1} → statement M
+digit-turn-spec = tie.close (tie.spec digit-allowed-requires add-goes-on goes-on-requires returns)
