@@ -1,3 +1,4 @@
+pub mod Decisions
 pub mod Numbers
 pub mod Outcomes
 pub mod Records

@@ -1,5 +1,6 @@
 // The exported calls, for the host program in C. Each takes numbers and byte strings, and its answer is made of numbers.
 mod config_calls;
+mod decide_calls;
 mod packed_calls;
 mod records;
 mod report_calls;
@@ -72,4 +73,11 @@ pub struct HostApplied {
     pub downlink: u8,
     pub spare: u16,
     pub rest: u32,
+}
+
+// The answer of whether to report: 0 silent, 1 routine, 2 scheme.
+#[repr(C)]
+pub struct HostDecided {
+    pub code: u8,
+    pub decision: u8,
 }
