@@ -1,4 +1,6 @@
--- What the code's proofs rest on.
+-- What a forecaster would ask, computed cases, and what the code's proofs rest on.
+pub mod Asked
+pub mod Cases
 pub mod Few
 pub mod Inside
 pub mod Listed
