@@ -2,16 +2,27 @@
 use borrow.Author.Needs.{needs}
 use Rattle.decide.proofs.rules.is_silenced.Statement.{statement}
 use Rattle.decide.proofs.rules.is_silenced.Tie as tie
-use mathlib.Core.Path.{_∙_}
+use native.Mathlib.Omega.{arith}
+use mathlib.Core.Path.{_≡_, _∙_}
+use mathlib.Core.Bool.{true, false}
+use lib.Dec.{eqb}
 use borrow.Author.Tests.{eq-eqb, ne-eqb}
 use mir.Facts.{toZ-ofZ}
+use Rattle.decide.specs.Decide.{amdar}
 use Rattle.decide.proofs.Few.{boxes-few}
+
+-- the AMDAR flag is 0, or not
+off : (c : tie.Then1) → eqb (amdar (c .before .before .before .args .x)) 0 ≡ true
+off c = eq-eqb (amdar (c .before .before .before .args .x)) 0 (omega (arith, c .if1 .taken))
+
+on : (c : tie.Else1) → eqb (amdar (c .before .before .before .args .x)) 0 ≡ false
+on c = ne-eqb (amdar (c .before .before .before .args .x)) 0 (λ (e : amdar (c .before .before .before .args .x) ≡ 0). absurd (omega (arith, c .if1 .left)))
 
 array-read-if1 : tie.Need-array-read-if1
 array-read-if1 c = search needs
 
 returns : tie.Need-returns
-returns c = rw (eq-eqb _ 0 (c .if1 .taken))
+returns c = rw (off c)
 
 array-read-if2 : tie.Need-array-read-if2
 array-read-if2 c = search needs
@@ -20,13 +31,13 @@ in-window-requires : tie.Need-in-window-requires
 in-window-requires c κs = search needs
 
 returns-2 : tie.Need-returns-2
-returns-2 c = rw (ne-eqb _ 0 (c .before .before .if1 .left), ← c .before .in-window .ensures, c .if2 .taken)
+returns-2 c = rw (on (c .before .before), ← c .before .in-window .ensures, c .if2 .taken)
 
 array-read-if3 : tie.Need-array-read-if3
 array-read-if3 c = search needs
 
 returns-3 : tie.Need-returns-3
-returns-3 c = rw (ne-eqb _ 0 (c .before .before .before .if1 .left), ← c .before .before .in-window .ensures, c .before .if2 .left, ne-eqb _ 1 (c .if3 .taken))
+returns-3 c = rw (on (c .before .before .before), ← c .before .before .in-window .ensures, c .before .if2 .left, ne-eqb _ 1 (c .if3 .taken))
 
 is-outside-requires : tie.Need-is-outside-requires
 is-outside-requires c κs =
@@ -37,7 +48,7 @@ is-outside-requires c κs =
 returns-4 : tie.Need-returns-4
 returns-4 c =
     let start = c .before .before .before .before .before .before .before .before in
-    rw (ne-eqb _ 0 (c .before .before .before .before .before .if1 .left), ← c .before .before .before .before .in-window .ensures, c .before .before .before .if2 .left, eq-eqb _ 1 (c .before .before .if3 .left))
+    rw (on (c .before .before .before .before .before), ← c .before .before .before .before .in-window .ensures, c .before .before .before .if2 .left, eq-eqb _ 1 (c .before .before .if3 .left))
     (c .is-outside .ensures ∙ rw (toZ-ofZ (start .fits .north), toZ-ofZ (start .fits .east)))
 
 pub is-silenced-spec : {M : Type 1} → statement M
