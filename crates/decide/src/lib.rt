@@ -1,4 +1,8 @@
 // Whether an aircraft reports.
+mod airfield;
+mod area;
+pub mod rules;
+mod window;
 
 pub enum Decision {
     Silent,

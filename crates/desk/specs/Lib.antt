@@ -1,7 +1,8 @@
 pub mod Commands
+pub mod Decisions
 pub mod Joins
 pub mod Numbers
 pub mod Outcomes
 pub mod Records
-pub mod Waiting
 pub mod Steps
+pub mod Waiting

@@ -3,6 +3,7 @@ mod answers;
 mod board_calls;
 mod command_calls;
 mod config_calls;
+mod decide_calls;
 mod join_calls;
 mod packed_calls;
 mod records;
@@ -85,4 +86,11 @@ pub struct HostApplied {
     pub downlink: u8,
     pub spare: u16,
     pub rest: u32,
+}
+
+// The answer of whether to report: 0 silent, 1 routine, 2 scheme.
+#[repr(C)]
+pub struct HostDecided {
+    pub code: u8,
+    pub decision: u8,
 }

@@ -1,0 +1,8 @@
+-- What a forecaster would ask, computed cases, and what the code's proofs rest on.
+pub mod Asked
+pub mod Cases
+pub mod Few
+pub mod Inside
+pub mod Listed
+pub mod Order
+pub mod Position

@@ -1,0 +1,71 @@
+// The airfield against the lists of section 3.
+use field::record::wide;
+use lists::Airfields;
+use text::all_allowed;
+ghost use mathlib.Core.Path.{_≡_};
+ghost use mathlib.Core.Bool.{_&&_};
+ghost use mathlib.Core.List.{_∷_, []};
+ghost use Prim.Native.Nat.{_≤_};
+ghost use lib.Dec.{eqb};
+ghost use lib.ListN.{length};
+ghost use Rattle.text.specs.Equal.{sameBytes};
+ghost use Rattle.decide.specs.Decide.{isAirfield, has, admits};
+
+// Four allowed bytes.
+pub fn is_airfield(s: &[u8]) -> bool
+    ensures { λ r. ⌜ r ≡ isAirfield (now (s .entry)) ⌝ }
+{
+    if s.len() != 4 {
+        return false;
+    }
+    all_allowed(s)
+}
+
+// The same four bytes by value: the lists are then searched without a slice.
+pub fn name_of(s: &[u8]) -> [u8; 4]
+    requires { ⌜ length (now s) ≡ 4 ⌝ }
+    ensures { λ r. ⌜ r ≡ now (s .entry) ⌝ }
+{
+    [s[0], s[1], s[2], s[3]]
+}
+
+fn is_name(a: u8, b: u8, c: u8, d: u8, name: [u8; 4]) -> bool
+    ensures { λ r. ⌜ r ≡ sameBytes (a ∷ b ∷ c ∷ d ∷ []) name ⌝ }
+{
+    (a == name[0]) & (b == name[1]) & (c == name[2]) & (d == name[3])
+}
+
+// Whether a list has the airfield.
+fn has_name(l: Airfields, name: [u8; 4]) -> bool
+    requires { ⌜ l .count ≤ 20 ⌝ }
+    ensures { λ r. ⌜ r ≡ has l name ⌝ }
+{
+    let n = wide(l.count);
+    let names = l.names;
+    let mut i = 0;
+    while i < n {
+        let p = 4 * i;
+        if is_name(names[p], names[p + 1], names[p + 2], names[p + 3], name) {
+            return true;
+        }
+        i += 1;
+    }
+    false
+}
+
+// The phase's flag is 1, the airfield isn't inhibited, and the selected list is empty or has it.
+pub fn is_admitted(flag: u8, selected: Airfields, inhibited: Airfields, name: [u8; 4]) -> bool
+    requires { ⌜ (selected .count ≤ 20) × (inhibited .count ≤ 20) ⌝ }
+    ensures { λ r. ⌜ r ≡ (eqb flag 1 && admits selected inhibited name) ⌝ }
+{
+    if flag != 1 {
+        return false;
+    }
+    if has_name(inhibited, name) {
+        return false;
+    }
+    if selected.count == 0 {
+        return true;
+    }
+    has_name(selected, name)
+}

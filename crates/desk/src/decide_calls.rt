@@ -1,0 +1,56 @@
+// Whether to report, for C.
+use crate::HostDecided;
+use decide::Decided;
+use decide::Decision;
+use decide::rules::decide;
+use section::Settings;
+ghost use mathlib.Core.Path.{_≡_};
+ghost use Rattle.decide.specs.Decide.{decided};
+ghost use Rattle.desk.specs.Decisions.{decisionNumber, decidedNumbers};
+
+fn number_of(decision: Decision) -> u8
+    ensures { λ r. ⌜ r ≡ decisionNumber decision ⌝ }
+{
+    match decision {
+        Decision::Silent => 0,
+        Decision::Routine => 1,
+        Decision::Scheme => 2,
+    }
+}
+
+// A refusal carries its code and the one empty decision.
+fn decided_answer(d: Decided) -> HostDecided
+    ensures { λ r. ⌜ r ≡ decidedNumbers d ⌝ }
+{
+    match d {
+        Decided::Is(decision) => HostDecided {
+            code: 0,
+            decision: number_of(decision),
+        },
+        Decided::Refused(code) => HostDecided { code, decision: 0 },
+    }
+}
+
+#[no_mangle]
+pub extern "C" fn esk_decide(
+    settings: Settings,
+    phase: u8,
+    latitude: i32,
+    longitude: i32,
+    hour: u8,
+    airfield: &[u8],
+) -> HostDecided
+    ensures { λ r. ⌜
+        r
+        ≡ decidedNumbers
+        (decided settings (record {
+          phase = phase;
+          north = latitude;
+          east = longitude;
+          hour = hour;
+          airfield = now (airfield .entry);
+        }))
+        ⌝ }
+{
+    decided_answer(decide(settings, phase, latitude, longitude, hour, airfield))
+}
