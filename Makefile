@@ -10,7 +10,7 @@ export CARGO_TARGET_DIR := $(CURDIR)/target/compare
 archive := target/staticlib/libdesk.a
 
 # Those that make the proved calls for the comparison, one for each group of calls that it compares.
-programs := answer answer_command answer_config answer_join
+programs := answer answer_command answer_config answer_decide answer_join answer_board
 
 .PHONY: all demo test compare bench clean
 
