@@ -1,5 +1,6 @@
 # make            the proved archive, target/staticlib/libdesk.a
-# make demo       one report, read and shown figure by figure
+# make demo       a busy night on the waiting board, and one report shown figure by figure
+# make report     one report shown figure by figure: REPORT=file, or the example
 # make test       the gate: every test, the comparison and every proof
 # make compare    the archive and the second program on the same inputs; ARGS='--seed 2 --long' and the like
 # make bench      ns per call, ours and the second program's (x86-64)
@@ -12,7 +13,7 @@ archive := target/staticlib/libdesk.a
 # Those that make the proved calls for the comparison, one for each group of calls that it compares.
 programs := answer answer_command answer_config answer_decide answer_join answer_board
 
-.PHONY: all demo test compare bench clean
+.PHONY: all demo report test compare bench clean
 
 all: $(archive)
 
@@ -20,8 +21,14 @@ $(archive): crates.txt $(shell find crates -type f)
 	rt staticlib desk
 
 demo: $(archive)
-	@host/tool build demo host/demo.c
-	@host/tool run demo
+	@host/tool build night host/night.c
+	@host/tool run night
+	@echo
+	@$(MAKE) --no-print-directory report
+
+report: $(archive)
+	@host/tool build report host/report.c
+	@host/tool run report $(REPORT)
 
 test:
 	.ci/run

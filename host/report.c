@@ -1,6 +1,11 @@
 /*
- * Reads one report from standard input, or the example below where there is none, and shows it figure by figure; a
- * figure that is missing is a dash. A refusal shows its code and its place.
+ * Reads one report and shows it figure by figure; a figure that is missing is a dash.
+ *
+ *   report            the example below
+ *   report FILE       the report in a file, every byte of it, CR LF kept
+ *   report -          the report on standard input
+ *
+ * Status 0 where the report is accepted, 1 where it is refused (its code and place are shown), 2 for anything else.
  */
 #include "eskelvor.h"
 
@@ -56,20 +61,56 @@ static void show_observation(int number, const esk_observation *o)
     show("water vapour", o->vapour, 1000, 3, "grams a kilogram");
 }
 
+/* The line that a refused byte stands in, with a mark under it. */
+static void show_place(const uint8_t *text, size_t length, size_t place)
+{
+    size_t from = place, to = place;
+    if (place >= length)
+        return;
+    while (from > 0 && text[from - 1] != '\n')
+        from--;
+    while (to < length && text[to] != '\r' && text[to] != '\n')
+        to++;
+    printf("  %.*s\n  %*s^\n", (int)(to - from), (const char *)text + from, (int)(place - from), "");
+}
+
+/* The bytes of a file, or of standard input; one more than a report has tells a longer text. */
+static int fill(const char *word, uint8_t *text, size_t room, size_t *length)
+{
+    FILE *file = strcmp(word, "-") == 0 ? stdin : fopen(word, "rb");
+    if (!file) {
+        perror(word);
+        return 2;
+    }
+    *length = fread(text, 1, room, file);
+    if (ferror(file)) {
+        perror(word);
+        return 2;
+    }
+    if (file != stdin)
+        fclose(file);
+    return 0;
+}
+
 int main(int count, char **words)
 {
     static uint8_t text[4096];
     size_t length = sizeof example - 1;
     esk_report_got got;
 
-    if (count > 1 && strcmp(words[1], "-") == 0)
-        length = fread(text, 1, sizeof text, stdin);
-    else
-        memcpy(text, example, length);
+    if (count > 2 || (count == 2 && words[1][0] == '-' && words[1][1])) {
+        fputs("usage: report [FILE | -]\n", stderr);
+        return 2;
+    }
+    memcpy(text, example, length);
+    if (count == 2 && fill(words[1], text, sizeof text, &length))
+        return 2;
     got = esk_report_read(text, length);
     if (got.answer.code) {
         printf("refused: code %u at byte %lu: %s\n", (unsigned)got.answer.code, (unsigned long)got.answer.place,
                meaning(got.answer.code));
+        if (got.answer.code >= ESK_FIXED)
+            show_place(text, length, got.answer.place);
         return 1;
     }
     printf("%.4s to %.4s, aircraft %.6s\n", (const char *)got.report.departure, (const char *)got.report.arrival,
