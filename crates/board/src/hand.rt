@@ -3,6 +3,7 @@ use crate::Done;
 use crate::Slot;
 use crate::Survey;
 use crate::Wanted;
+use section::record::middle;
 use text::copy;
 ghost use mathlib.Core.Path.{_≡_};
 ghost use Prim.Native.Nat.{_*_, _+_, _≤_, _<_};
@@ -10,7 +11,7 @@ ghost use lib.ListN.{length};
 ghost use Rattle.text.specs.Parts.{part};
 ghost use Rattle.text.specs.Over.{over};
 ghost use Rattle.board.specs.Board.{Stay};
-ghost use Rattle.board.specs.Lent.{noSlot, onOut};
+ghost use Rattle.board.specs.Lent.{onOut};
 ghost use Rattle.board.specs.Survey.{fitsAt, doneOf, takeMove};
 
 // A refusal stores no slot.
@@ -67,12 +68,6 @@ fn freed(v: Survey, w: Wanted) -> Done
             length: 0,
         },
     }
-}
-
-fn middle(n: u16) -> usize
-    ensures { λ r. ⌜ r ≡ n ⌝ }
-{
-    n as usize
 }
 
 // Taking: 10, 4, 11, 2; then exactly what waits is copied out.

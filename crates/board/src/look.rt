@@ -3,17 +3,15 @@ use crate::Slot;
 use crate::Survey;
 use crate::Wanted;
 use command::check::check;
-use text::Seen;
+use config::settings::is_fine;
+use section::record::middle;
 use text::all_allowed;
 ghost use mathlib.Core.Path.{_≡_};
 ghost use mathlib.Core.Bool.{not, _&&_};
 ghost use Prim.Native.Nat.{_<_};
-ghost use lib.Dec.{eqb};
 ghost use mathlib.Core.List.{[]};
 ghost use lib.ListN.{length};
 ghost use Rattle.text.specs.Equal.{sameBytes};
-ghost use Rattle.command.specs.Text.{checkCommand};
-ghost use Rattle.config.specs.Config.{isFine};
 ghost use Rattle.board.specs.Survey.{wantedBy, usedFor, soundAt, beginAt, startOf, firstOf, withUsed, stepOf};
 
 // The aircraft that a call is about.
@@ -90,21 +88,6 @@ pub fn begin(a: Survey, s: Slot, i: usize, n: usize) -> usize
         return i + 1;
     }
     n
-}
-
-fn is_fine(seen: Seen) -> bool
-    ensures { λ r. ⌜ r ≡ isFine seen ⌝ }
-{
-    match seen {
-        Seen::Fine => true,
-        Seen::Bad(_, _) => false,
-    }
-}
-
-fn middle(n: u16) -> usize
-    ensures { λ r. ⌜ r ≡ n ⌝ }
-{
-    n as usize
 }
 
 // Whether a used slot's designator is well formed and its text accepted.

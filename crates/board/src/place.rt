@@ -8,6 +8,7 @@ use crate::hand::refused;
 use command::check::check;
 use join::Told;
 use join::join_texts;
+use section::record::middle;
 use text::Seen;
 use text::copy;
 ghost use mathlib.Core.Path.{_≡_};
@@ -42,12 +43,6 @@ fn put_at(i: usize, t: &[u8], area: &mut [u8])
     let at = 835 * i;
     let end = at + 835;
     copy(&mut area[at..end], t);
-}
-
-fn middle(n: u16) -> usize
-    ensures { λ r. ⌜ r ≡ n ⌝ }
-{
-    n as usize
 }
 
 // Joins the command onto the text that waits.

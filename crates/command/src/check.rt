@@ -1,6 +1,7 @@
 // Checking a command's text: code and place, and no record built.
 use field::Step;
 use field::check::delimiter;
+use field::record::wide;
 use section::check::check_section;
 use text::Seen;
 ghost use mathlib.Core.Path.{_≡_};
@@ -13,12 +14,6 @@ ghost use Rattle.section.specs.Layout.{layoutOf, isEmpty};
 ghost use Rattle.command.specs.Text.{awr04, isFlag, isDownlink, isIndicator, isNamed, headBytes, numbers, checkAwr04, checkEach, checkHead, checkFrom, ended, checkCommand};
 ghost use Rattle.field.specs.Fields.{after, checkDelimiter};
 ghost use Rattle.command.specs.Steps.{headTest, sectionSeen};
-
-fn wide(b: u8) -> usize
-    ensures { λ r. ⌜ r ≡ b ⌝ }
-{
-    b as usize
-}
 
 fn is_awr04(s: &[u8]) -> bool
     requires { ⌜ 5 ≤ length (now s) ⌝ }

@@ -65,7 +65,7 @@ pub fn after_reset() -> Settings
 
 // ---- Validity
 
-fn is_fine(seen: Seen) -> bool
+pub fn is_fine(seen: Seen) -> bool
     ensures { λ r. ⌜ r ≡ isFine seen ⌝ }
 {
     match seen {

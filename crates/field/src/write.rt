@@ -4,7 +4,7 @@ use crate::Region;
 use crate::record::wide;
 ghost use mathlib.Core.Path.{_≡_};
 ghost use mathlib.Core.List.{_++_};
-ghost use Prim.Native.Nat.{_+_, _*_, _≤_, _<_};
+ghost use Prim.Native.Nat.{_+_, _≤_, _<_};
 ghost use lib.ListN.{length};
 ghost use Rattle.text.specs.Over.{over};
 ghost use Rattle.field.specs.Decimal.{decimal};
