@@ -160,10 +160,10 @@ pub fn read_lone(f: &[u8]) -> Packed
     if 5 < w {
         return Packed::Refused(1, 0);
     }
-    let from = behind_spaces(f);
-    let run = lone_number(&f[from..]);
+    let start = behind_spaces(f);
+    let run = lone_number(&f[start..]);
     match run {
-        Number::Whole(n) => figure_of(n, w - from),
+        Number::Whole(n) => figure_of(n, w - start),
         Number::Other => other(f),
     }
 }
