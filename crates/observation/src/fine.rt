@@ -17,15 +17,18 @@ use crate::table::VAPOUR;
 use packed::Figure;
 use packed::Packed;
 use packed::read::read;
+use packed::sign::less;
+use packed::sign::size;
+use packed::table::worth;
 ghost use mathlib.Core.Path.{_≡_};
-ghost use mathlib.Core.Bool.{false};
-ghost use mathlib.Core.List.{[], _∷_};
+ghost use mathlib.Core.Bool.{true, false, cond, _&&_};
+ghost use lib.Dec.{eqb};
 ghost use Prim.Native.Nat.{_+_, _≤_};
 ghost use lib.ListN.{length};
 ghost use Rattle.packed.specs.Packed.{worths};
 ghost use Rattle.observation.specs.Figures.{ranged};
-ghost use Rattle.observation.specs.Observation.{readFirst, readLater, acceptedFirst, acceptedPresent};
-ghost use Rattle.observation.specs.Steps.{presenceOf, presence, held, figuresFine, airFine, waterFine, fieldsFine};
+ghost use Rattle.observation.specs.Observation.{firstRows, laterRows, readFirst, readLater, acceptedFirst, acceptedPresent};
+ghost use Rattle.observation.specs.Steps.{presenceOf, presence, classOf, narrow, pairFigure, pairGiven, tripleFigure, tripleGiven, figuresFine, heightFine, windFine, waterFine};
 
 // 0 for a field that is refused, 1 for a missing figure, 2 for a given one.
 fn class(row: Row, field: Packed) -> u8
@@ -55,40 +58,137 @@ fn class_at(t: &[u8; 256], s: &[u8], from: usize, row: Row) -> u8
     class(row, read(t, &s[from..end]))
 }
 
-fn is_held(t: &[u8; 256], s: &[u8], from: usize, row: Row) -> bool
-    requires { ⌜ now t ≡ worths ⌝ }
-    requires { ⌜ (length (now s) ≤ 27) × (from + row .width ≤ length (now s)) ⌝ }
-    ensures { λ r. ⌜ r ≡ held row from (now (s .entry)) ⌝ }
+fn wide(b: u8) -> u32
+    ensures { λ r. ⌜ r ≡ b ⌝ }
 {
-    class_at(t, s, from, row) != 0
+    b as u32
 }
 
-fn position_fine(t: &[u8; 256], s: &[u8], a: Row, b: Row, c: Row) -> bool
-    requires { ⌜ now t ≡ worths ⌝ }
-    requires { ⌜ (length (now s) ≤ 27) × (1 + a .width + b .width + c .width ≤ length (now s)) ⌝ }
-    ensures { λ r. ⌜ r ≡ figuresFine (a ∷ b ∷ c ∷ []) 1 (now (s .entry)) ⌝ }
+// A choice that costs no jump: which bytes are spaces varies from field to field.
+fn either(t: bool, a: u32, b: u32) -> u32
+    ensures { λ r. ⌜ r ≡ cond t a b ⌝ }
 {
-    let second = 1 + a.width;
-    let third = second + b.width;
-    is_held(t, s, 1, a) & is_held(t, s, second, b) & is_held(t, s, third, c)
+    if t {
+        return a;
+    }
+    b
+}
+
+fn class_of(missing: bool, given: bool) -> u8
+    ensures { λ r. ⌜ r ≡ classOf missing given ⌝ }
+{
+    if missing {
+        return 1;
+    }
+    if given {
+        return 2;
+    }
+    0
+}
+
+// Two bytes as one number: a byte that is no digit makes it too great for the row, or is seen for itself.
+fn pair_figure(t: &[u8; 256], a: u8, b: u8) -> i32
+    requires { ⌜ now t ≡ worths ⌝ }
+    ensures { λ r. ⌜ r ≡ pairFigure a b ⌝ }
+{
+    let x = wide(worth(t, a));
+    let y = wide(worth(t, b));
+    less(either(a == b' ', 780, x * 40) + y, 800)
+}
+
+fn pair(t: &[u8; 256], a: u8, b: u8, row: Row) -> u8
+    requires { ⌜ now t ≡ worths ⌝ }
+    ensures { λ r. ⌜ r ≡ classOf (eqb a 47 && eqb b 47) (pairGiven row a b) ⌝ }
+{
+    let figure = pair_figure(t, a, b);
+    let fewest = (a == b' ') | (20 <= size(figure));
+    let given = (worth(t, b) < 40) & fewest & in_range(row, figure);
+    class_of((a == b'/') & (b == b'/'), given)
+}
+
+fn triple_figure(t: &[u8; 256], a: u8, b: u8, c: u8) -> i32
+    requires { ⌜ now t ≡ worths ⌝ }
+    ensures { λ r. ⌜ r ≡ tripleFigure a b c ⌝ }
+{
+    let x = wide(worth(t, a));
+    let y = wide(worth(t, b));
+    let z = wide(worth(t, c));
+    let high = either(a == b' ', 31200, x * 1600);
+    let middle = either((a == b' ') & (b == b' '), 780, y * 40);
+    less(high + middle + z, 32000)
+}
+
+fn triple(t: &[u8; 256], a: u8, b: u8, c: u8, row: Row) -> u8
+    requires { ⌜ now t ≡ worths ⌝ }
+    ensures { λ r. ⌜ r ≡ classOf (eqb a 47 && eqb b 47 && eqb c 47) (tripleGiven row a b c) ⌝ }
+{
+    let figure = triple_figure(t, a, b, c);
+    let one = a == b' ';
+    let two = one & (b == b' ');
+    let digits = (worth(t, c) < 40) & (two | (worth(t, b) < 40));
+    let m = size(figure);
+    let given = digits & (one | (800 <= m)) & (two | (20 <= m)) & in_range(row, figure);
+    class_of((a == b'/') & (b == b'/') & (c == b'/'), given)
+}
+
+fn pair_at(t: &[u8; 256], s: &[u8], from: usize, row: Row) -> u8
+    requires { ⌜ now t ≡ worths ⌝ }
+    requires { ⌜ (length (now s) ≤ 27) × (from + 2 ≤ length (now s)) × (row .width ≡ 2) × (narrow 800 row ≡ true) ⌝ }
+    ensures { λ r. ⌜ r ≡ presence row from (now (s .entry)) ⌝ }
+{
+    let second = from + 1;
+    pair(t, s[from], s[second], row)
+}
+
+fn triple_at(t: &[u8; 256], s: &[u8], from: usize, row: Row) -> u8
+    requires { ⌜ now t ≡ worths ⌝ }
+    requires { ⌜ (length (now s) ≤ 27) × (from + 3 ≤ length (now s)) × (row .width ≡ 3) × (narrow 32000 row ≡ true) ⌝ }
+    ensures { λ r. ⌜ r ≡ presence row from (now (s .entry)) ⌝ }
+{
+    let second = from + 1;
+    let third = from + 2;
+    triple(t, s[from], s[second], s[third], row)
+}
+
+fn first_position_fine(t: &[u8; 256], s: &[u8]) -> bool
+    requires { ⌜ now t ≡ worths ⌝ }
+    requires { ⌜ length (now s) ≡ 27 ⌝ }
+    ensures { λ r. ⌜ r ≡ figuresFine firstRows 1 (now (s .entry)) ⌝ }
+{
+    (triple_at(t, s, 1, LATITUDE) != 0)
+        & (triple_at(t, s, 4, LONGITUDE) != 0)
+        & (class_at(t, s, 7, SECONDS) != 0)
+}
+
+fn later_position_fine(t: &[u8; 256], s: &[u8]) -> bool
+    requires { ⌜ now t ≡ worths ⌝ }
+    requires { ⌜ length (now s) ≡ 23 ⌝ }
+    ensures { λ r. ⌜ r ≡ figuresFine laterRows 1 (now (s .entry)) ⌝ }
+{
+    (pair_at(t, s, 1, CHANGE) != 0)
+        & (pair_at(t, s, 3, CHANGE) != 0)
+        & (triple_at(t, s, 5, SINCE) != 0)
+}
+
+fn height_fine(t: &[u8; 256], s: &[u8], from: usize) -> bool
+    requires { ⌜ now t ≡ worths ⌝ }
+    requires { ⌜ (length (now s) ≤ 27) × (from + 5 ≤ length (now s)) ⌝ }
+    ensures { λ r. ⌜ r ≡ heightFine from (now (s .entry)) ⌝ }
+{
+    let second = from + 3;
+    (triple_at(t, s, from, ALTITUDE) != 0) & (pair_at(t, s, second, TEMPERATURE) != 0)
 }
 
 // Direction and speed are both missing or both given.
-fn air_fine(t: &[u8; 256], s: &[u8], from: usize) -> bool
+fn wind_fine(t: &[u8; 256], s: &[u8], from: usize) -> bool
     requires { ⌜ now t ≡ worths ⌝ }
-    requires { ⌜ (length (now s) ≤ 27) × (from + 9 ≤ length (now s)) ⌝ }
-    ensures { λ r. ⌜ r ≡ airFine from (now (s .entry)) ⌝ }
+    requires { ⌜ (length (now s) ≤ 27) × (from + 4 ≤ length (now s)) ⌝ }
+    ensures { λ r. ⌜ r ≡ windFine from (now (s .entry)) ⌝ }
 {
-    let second = from + 3;
-    let third = second + 2;
-    let fourth = third + 2;
-    let direction = class_at(t, s, third, DIRECTION);
-    let speed = class_at(t, s, fourth, SPEED);
-    is_held(t, s, from, ALTITUDE)
-        & is_held(t, s, second, TEMPERATURE)
-        & (direction != 0)
-        & (speed != 0)
-        & (direction == speed)
+    let second = from + 2;
+    let direction = pair_at(t, s, from, DIRECTION);
+    let speed = pair_at(t, s, second, SPEED);
+    (direction != 0) & (direction == speed)
 }
 
 fn water_fine(t: &[u8; 256], s: &[u8], from: usize) -> bool
@@ -98,15 +198,7 @@ fn water_fine(t: &[u8; 256], s: &[u8], from: usize) -> bool
 {
     let second = from + 2;
     let last = from + 5;
-    is_held(t, s, from, SPEED) & is_held(t, s, second, VAPOUR) & is_quality(s[last])
-}
-
-fn fields_fine(t: &[u8; 256], s: &[u8], n: usize, a: Row, b: Row, c: Row) -> bool
-    requires { ⌜ now t ≡ worths ⌝ }
-    requires { ⌜ (n ≤ 11) × (length (now s) ≡ 16 + n) × (1 + a .width + b .width + c .width ≤ length (now s)) ⌝ }
-    ensures { λ r. ⌜ r ≡ fieldsFine (a ∷ b ∷ c ∷ []) n (now (s .entry)) ⌝ }
-{
-    position_fine(t, s, a, b, c) & air_fine(t, s, 1 + n) & water_fine(t, s, 10 + n)
+    (pair_at(t, s, from, SPEED) != 0) & (triple_at(t, s, second, VAPOUR) != 0) & is_quality(s[last])
 }
 
 // Whether the 27 bytes are a first observation.
@@ -115,7 +207,11 @@ pub fn first_fine(t: &[u8; 256], s: &[u8]) -> bool
     requires { ⌜ length (now s) ≡ 27 ⌝ }
     ensures { λ r. ⌜ r ≡ acceptedFirst (readFirst 0 (now (s .entry))) ⌝ }
 {
-    is_kind(s[0]) & fields_fine(t, s, 11, LATITUDE, LONGITUDE, SECONDS)
+    is_kind(s[0])
+        & first_position_fine(t, s)
+        & height_fine(t, s, 12)
+        & wind_fine(t, s, 17)
+        & water_fine(t, s, 21)
 }
 
 // Whether the 23 bytes are a later observation that is present, where none before it is absent.
@@ -124,5 +220,9 @@ pub fn later_fine(t: &[u8; 256], s: &[u8]) -> bool
     requires { ⌜ length (now s) ≡ 23 ⌝ }
     ensures { λ r. ⌜ r ≡ acceptedPresent (readLater false 0 (now (s .entry))) ⌝ }
 {
-    is_kind(s[0]) & fields_fine(t, s, 7, CHANGE, CHANGE, SINCE)
+    is_kind(s[0])
+        & later_position_fine(t, s)
+        & height_fine(t, s, 8)
+        & wind_fine(t, s, 13)
+        & water_fine(t, s, 17)
 }

@@ -1,6 +1,6 @@
 // The packed field of document 01: a figure in base 40, given or missing, in 1 to 5 bytes.
 pub mod read;
-mod sign;
+pub mod sign;
 pub mod table;
 pub mod write;
 

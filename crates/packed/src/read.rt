@@ -4,6 +4,7 @@ use crate::Packed;
 use crate::sign::less;
 use crate::sign::size;
 use crate::table::worth;
+use crate::table::worth_of;
 ghost use mathlib.Core.Path.{_≡_};
 ghost use Prim.Native.Nat.{_≤_, _<_, _^_};
 ghost use lib.ListN.{length, drop};
@@ -48,6 +49,27 @@ fn number_of(t: &[u8; 256], s: &[u8]) -> Number
     let mut i = 0;
     while i < s.len() {
         let d = worth(t, s[i]);
+        if 40 <= d {
+            return Number::Other;
+        }
+        n = n * 40 + wide(d);
+        i += 1;
+    }
+    Number::Whole(n)
+}
+
+// The same with no table lent.
+fn lone_number(s: &[u8]) -> Number
+    requires { ⌜ length (now s) ≤ 5 ⌝ }
+    ensures { λ r. ⌜ r ≡ numberOf (now (s .entry)) ⌝ }
+{
+    if s.len() < 1 {
+        return Number::Other;
+    }
+    let mut n: u32 = 0;
+    let mut i = 0;
+    while i < s.len() {
+        let d = worth_of(s[i]);
         if 40 <= d {
             return Number::Other;
         }
@@ -123,6 +145,25 @@ pub fn read(t: &[u8; 256], f: &[u8]) -> Packed
     let run = number_of(t, &f[from..]);
     match run {
         Number::Whole(n) => figure_of(n, w - from),
+        Number::Other => other(f),
+    }
+}
+
+// A field that stands alone, for which building the table would cost more than reading does.
+pub fn read_lone(f: &[u8]) -> Packed
+    ensures { λ r. ⌜ r ≡ readPacked (now (f .entry)) ⌝ }
+{
+    let w = f.len();
+    if w < 1 {
+        return Packed::Refused(1, 0);
+    }
+    if 5 < w {
+        return Packed::Refused(1, 0);
+    }
+    let start = behind_spaces(f);
+    let run = lone_number(&f[start..]);
+    match run {
+        Number::Whole(n) => figure_of(n, w - start),
         Number::Other => other(f),
     }
 }

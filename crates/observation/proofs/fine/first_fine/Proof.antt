@@ -1,10 +1,12 @@
--- `observation::fine::first_fine` meets its contract: the kind and the fields behind it are what reading accepts.
 use borrow.Author.Needs.{needs}
 use Rattle.observation.proofs.fine.first_fine.Statement.{statement}
 use Rattle.observation.proofs.fine.first_fine.Tie as tie
-use mathlib.Core.Path.{sym}
+use mathlib.Core.Path.{sym, _∙_}
 use denote.Ref.{now}
+use lib.ListN.{getD}
+use Rattle.observation.specs.Observation.{isKind}
 use Rattle.observation.proofs.Acceptance.{first-fine}
+use Rattle.observation.proofs.Gathered.{first-gathered}
 
 shared-slice-read-is-kind : tie.Need-shared-slice-read-is-kind
 shared-slice-read-is-kind c = search needs
@@ -12,14 +14,31 @@ shared-slice-read-is-kind c = search needs
 is-kind-requires : tie.Need-is-kind-requires
 is-kind-requires c κs = search needs
 
-fields-fine-requires : tie.Need-fields-fine-requires
-fields-fine-requires c κs = search needs
+first-position-fine-requires : tie.Need-first-position-fine-requires
+first-position-fine-requires c κs = search needs
+
+height-fine-requires : tie.Need-height-fine-requires
+height-fine-requires c κs = search needs
+
+wind-fine-requires : tie.Need-wind-fine-requires
+wind-fine-requires c κs = search needs
+
+water-fine-requires : tie.Need-water-fine-requires
+water-fine-requires c κs = search needs
 
 returns : tie.Need-returns
 returns c =
-    rw (c .fields-fine .ensures, c .before .is-kind .ensures)
-    (sym (first-fine 0 (now (c .before .before .before .before .args .s))))
+    let s = now (c .before .before .before .before .before .before .before .args .s) in
+    rw (c .water-fine .ensures, c .before .wind-fine .ensures, c .before .before .height-fine .ensures, c .before .before .before .first-position-fine .ensures, c .before .before .before .before .is-kind .ensures) (first-gathered (isKind (getD s 0 0)) s ∙ sym (first-fine 0 s))
 
 pub first-fine-spec : {M : Type 1} → statement M
 first-fine-spec =
-    tie.close (tie.spec shared-slice-read-is-kind is-kind-requires fields-fine-requires returns)
+    tie.close
+    (tie.spec
+    shared-slice-read-is-kind
+    is-kind-requires
+    first-position-fine-requires
+    height-fine-requires
+    wind-fine-requires
+    water-fine-requires
+    returns)

@@ -1,8 +1,6 @@
--- `observation::fine::water_fine` meets its contract: two figures, none refused, and the quality.
 use borrow.Author.Needs.{needs}
 use Rattle.observation.proofs.fine.water_fine.Statement.{statement}
 use Rattle.observation.proofs.fine.water_fine.Tie as tie
-use denote.Ref.{now}
 use Rattle.observation.proofs.Gathered.{water-gathered}
 
 add-second : tie.Need-add-second
@@ -11,11 +9,11 @@ add-second c = search needs
 add-last : tie.Need-add-last
 add-last c = search needs
 
-is-held-requires : tie.Need-is-held-requires
-is-held-requires c κs = search needs
+pair-at-requires : tie.Need-pair-at-requires
+pair-at-requires c κs = search needs
 
-is-held-requires-2 : tie.Need-is-held-requires-2
-is-held-requires-2 c κs = search needs
+triple-at-requires : tie.Need-triple-at-requires
+triple-at-requires c κs = search needs
 
 shared-slice-read-is-quality : tie.Need-shared-slice-read-is-quality
 shared-slice-read-is-quality c = search needs
@@ -24,10 +22,7 @@ is-quality-requires : tie.Need-is-quality-requires
 is-quality-requires c κs = search needs
 
 returns : tie.Need-returns
-returns c =
-    let a = c .before .before .before .before .before .args in
-    rw (c .is-quality .ensures, c .before .before .is-held2 .ensures, c .before .before .before .is-held .ensures)
-    (water-gathered (a .from) (now (a .s)))
+returns c = rw (c .is-quality .ensures, c .before .before .triple-at .ensures, c .before .before .before .pair-at .ensures) (water-gathered _ _)
 
 pub water-fine-spec : {M : Type 1} → statement M
 water-fine-spec =
@@ -35,8 +30,8 @@ water-fine-spec =
     (tie.spec
     add-second
     add-last
-    is-held-requires
-    is-held-requires-2
+    pair-at-requires
+    triple-at-requires
     shared-slice-read-is-quality
     is-quality-requires
     returns)
