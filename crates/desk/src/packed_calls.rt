@@ -4,9 +4,8 @@ use crate::HostFigure;
 use crate::PackedAnswer;
 use packed::Figure;
 use packed::Packed;
-use packed::read::read;
+use packed::read::read_lone;
 use packed::table::digit_table;
-use packed::table::worth_table;
 use packed::write::write;
 ghost use mathlib.Core.Path.{_≡_};
 ghost use Prim.Native.Nat.{_≤_};
@@ -68,8 +67,7 @@ fn packed_answer(p: Packed) -> PackedAnswer
 pub extern "C" fn esk_packed_read(field: &[u8]) -> PackedAnswer
     ensures { λ r. ⌜ r ≡ packedNumbers (readPacked (now (field .entry))) ⌝ }
 {
-    let t = worth_table();
-    packed_answer(read(&t, field))
+    packed_answer(read_lone(field))
 }
 
 pub fn figure_from(f: HostFigure) -> Figure

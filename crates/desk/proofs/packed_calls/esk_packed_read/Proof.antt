@@ -6,18 +6,15 @@ use Rattle.packed.specs.Packed.{placeOf, readPacked}
 use Rattle.packed.proofs.Refusal.{refusal-place}
 use Rattle.desk.specs.Numbers.{packedNumbers}
 
-worth-table-requires : tie.Need-worth-table-requires
-worth-table-requires c κs = search needs
-
-read-requires : tie.Need-read-requires
-read-requires c κs = search needs
+read-lone-requires : tie.Need-read-lone-requires
+read-lone-requires c κs = search needs
 
 packed-answer-requires : tie.Need-packed-answer-requires
-packed-answer-requires c κs = rw (c .read .ensures) (refusal-place _)
+packed-answer-requires c κs = rw (c .read-lone .ensures) (refusal-place _)
 
 returns : tie.Need-returns
-returns c = c .packed-answer .ensures ∙ ap packedNumbers (c .before .read .ensures)
+returns c = c .packed-answer .ensures ∙ ap packedNumbers (c .before .read-lone .ensures)
 
 pub esk-packed-read-spec : {M : Type 1} → statement M
 esk-packed-read-spec =
-    tie.close (tie.spec worth-table-requires read-requires packed-answer-requires returns)
+    tie.close (tie.spec read-lone-requires packed-answer-requires returns)
