@@ -5,6 +5,7 @@ pub mod LocalFields
 pub mod Decimal
 pub mod Number
 pub mod Edges
+pub mod Keys
 pub mod Within
 pub mod Accepted
 pub mod Repeat

@@ -1,6 +1,6 @@
 -- The number that a few digits spell, or 1000.
 use mathlib.Core.Path.{_≡_, refl}
-use mathlib.Core.Bool.{Bool, true, false, _&&_, and-assoc, and-true}
+use mathlib.Core.Bool.{Bool, true, false, _&&_}
 use mathlib.Core.List.{List, [], _∷_}
 use Prim.Native.Nat.{ℕ, _+_, _-_, _*_, _≤_, _<_}
 use native.Mathlib.Omega.{arith}
@@ -20,19 +20,11 @@ pub two-digits : (a b : ℕ) → isDigit a ≡ true → isDigit b ≡ true → n
 unfolding numberOr allDigits valueFrom
 two-digits a b x y = rw (x, y) (omega arith)
 
-pub two-other : (a b : ℕ) → (isDigit a && isDigit b) ≡ false → numberOr (a ∷ b ∷ []) ≡ 1000
-unfolding numberOr allDigits
-two-other a b e = rw (and-true (isDigit b), e)
-
 -- and three
 pub three-digits : (a b c : ℕ) → isDigit a ≡ true → isDigit b ≡ true → isDigit c ≡ true
     → numberOr (a ∷ b ∷ c ∷ []) ≡ (a - 48) * 100 + (b - 48) * 10 + (c - 48)
 unfolding numberOr allDigits valueFrom
 three-digits a b c x y z = rw (x, y, z) (omega arith)
-
-pub three-other : (a b c : ℕ) → (isDigit a && isDigit b && isDigit c) ≡ false → numberOr (a ∷ b ∷ c ∷ []) ≡ 1000
-unfolding numberOr allDigits
-three-other a b c e = rw (and-true (isDigit c), ← and-assoc (isDigit a) (isDigit b) (isDigit c), e)
 
 -- a number below 1000 is what digits spell
 pub number-is : (ds : List ℕ) → numberOr ds ≤ 999 → (allDigits ds ≡ true) × (numberOr ds ≡ value ds)

@@ -1,14 +1,14 @@
 -- What the inner functions answer. No promise to a caller rests on these names.
 use mathlib.Core.Bool.{Bool, cond, _&&_}
 use mathlib.Core.List.{List, [], _∷_, _++_}
-use Prim.Native.Nat.{ℕ, _+_}
-use lib.Dec.{leb, ltb}
+use Prim.Native.Nat.{ℕ, _+_, _-_, _*_}
+use lib.Dec.{leb, ltb, eqb}
 use lib.ListN.{length, getD}
 use Rattle.text.specs.Parts.{part}
 use Rattle.text.specs.Checks.{must, _andThen_}
 use Rattle.text.specs.declared.Seen.{Seen}
-use Rattle.field.specs.Decimal.{allDigits, value, decimal}
-use Rattle.field.specs.Boxes.{isLetter, belowZero, lineOf, edgeAllowed}
+use Rattle.field.specs.Decimal.{isDigit, allDigits, value, decimal}
+use Rattle.field.specs.Boxes.{latitude, longitude, isLetter, belowZero, lineOf, edgeAllowed}
 use Rattle.field.specs.declared.Circle.{Circle}
 use Rattle.field.specs.declared.Edge.{Edge}
 use Rattle.field.specs.declared.Step.{Step}
@@ -46,6 +46,36 @@ abbrev pub twoLines : Bool → Line → Line → ℕ → ℕ → ℕ → Step
 twoLines falling (Wrong code) second at mid end = Stop code at
 twoLines falling (Lies x) (Wrong code) at mid end = Stop code mid
 twoLines falling (Lies x) (Lies y) at mid end = cond (orderly falling x y) (Next end) (Stop 7 mid)
+
+-- ---- A box by the keys of its edges
+
+-- three bytes as one number
+abbrev pub keyOf : ℕ → ℕ → ℕ → ℕ
+keyOf a b c = a * 65536 + b * 256 + c
+
+-- the least that may stand before a letter: 000, below zero 001; before another letter nothing may
+unfoldable pub leastKey : Circle → ℕ → ℕ
+leastKey c l = cond (eqb l (c .below)) (keyOf 48 48 49) (cond (eqb l (c .above)) (keyOf 48 48 48) 16777216)
+
+-- where an edge lies, by its key
+unfoldable pub keyLine : Circle → ℕ → ℕ → ℕ
+keyLine c l k = cond (eqb l (c .below)) (16777216 - k) (16777216 + k)
+
+abbrev pub edgeFine : Circle → ℕ → ℕ → ℕ → ℕ → Bool
+edgeFine c most k digit l = (isDigit digit && leb (leastKey c l) k) && leb k most
+
+abbrev pub latitudesFine : ℕ → ℕ → ℕ → ℕ → ℕ → ℕ → Bool
+latitudesFine a b l d e m =
+    (edgeFine latitude (keyOf 48 57 48) (keyOf 48 a b) b l && edgeFine latitude (keyOf 48 57 48) (keyOf 48 d e) e m)
+    && leb (keyLine latitude m (keyOf 48 d e)) (keyLine latitude l (keyOf 48 a b))
+
+abbrev pub longitudeFine : ℕ → ℕ → ℕ → ℕ → Bool
+longitudeFine k middle last l = isDigit middle && edgeFine longitude (keyOf 49 56 48) k last l
+
+abbrev pub longitudesFine : ℕ → ℕ → ℕ → ℕ → ℕ → ℕ → ℕ → ℕ → Bool
+longitudesFine a b d l e f g m =
+    (longitudeFine (keyOf a b d) b d l && longitudeFine (keyOf e f g) f g m)
+    && leb (keyLine longitude l (keyOf a b d)) (keyLine longitude m (keyOf e f g))
 
 -- a record's pair of edges, which would stand at two places
 unfoldable pub pairAllowed : Bool → Circle → Edge → Edge → ℕ → ℕ → Seen

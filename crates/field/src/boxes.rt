@@ -2,14 +2,12 @@
 use crate::Circle;
 use crate::Step;
 use crate::digits::number_at;
-use crate::digits::three;
-use crate::digits::two;
+use crate::fine::is_fine;
 ghost use mathlib.Core.Path.{_≡_};
-ghost use mathlib.Core.List.{_∷_, []};
 ghost use Prim.Native.Nat.{_+_, _≤_};
 ghost use lib.ListN.{length};
-ghost use Rattle.field.specs.Boxes.{latitude, longitude, checkPair, checkBox, northFirst, westFirst};
-ghost use Rattle.field.specs.Steps.{numberOr, lineOr, edgeLine, orderly, inOrder, twoLines};
+ghost use Rattle.field.specs.Boxes.{latitude, longitude, checkPair, checkBox};
+ghost use Rattle.field.specs.Steps.{lineOr, edgeLine, orderly, inOrder, twoLines};
 
 // Where an edge lies, in degrees from 1000 below zero, or the code of its refusal.
 enum Line {
@@ -77,19 +75,6 @@ fn edge_line(c: Circle, s: &[u8], at: usize) -> Line
     line_or(c, number_at(s, at, w), s[last])
 }
 
-// The same for a latitude and for a longitude, from their bytes.
-fn latitude_of(a: u8, b: u8, l: u8) -> Line
-    ensures { λ r. ⌜ r ≡ lineOr latitude (numberOr (a ∷ b ∷ [])) l ⌝ }
-{
-    line_or(latitudes(), two(a, b), l)
-}
-
-fn longitude_of(a: u8, b: u8, c: u8, l: u8) -> Line
-    ensures { λ r. ⌜ r ≡ lineOr longitude (numberOr (a ∷ b ∷ c ∷ [])) l ⌝ }
-{
-    line_or(longitudes(), three(a, b, c), l)
-}
-
 pub fn in_order(falling: bool, x: usize, y: usize) -> bool
     ensures { λ r. ⌜ r ≡ orderly falling x y ⌝ }
 {
@@ -133,43 +118,28 @@ fn pair(falling: bool, c: Circle, s: &[u8], at: usize) -> Step
     )
 }
 
-// North not below south. Where the text has both edges whole, by their bytes.
-fn latitude_pair(s: &[u8], at: usize) -> Step
+// A box edge by edge, up to the first refusal.
+fn by_edges(s: &[u8], at: usize) -> Step
     requires { ⌜ at ≤ length (now s) ⌝ }
-    ensures { λ r. ⌜ r ≡ checkPair latitude northFirst (now (s .entry)) at ⌝ }
+    ensures { λ r. ⌜ r ≡ checkBox (now (s .entry)) at ⌝ }
 {
-    let end = at + 6;
-    if s.len() < end {
-        return pair(true, latitudes(), s, at);
+    let latitudes = pair(true, latitudes(), s, at);
+    match latitudes {
+        Step::Stop(code, place) => Step::Stop(code, place),
+        Step::Next(west) => pair(false, longitudes(), s, west),
     }
-    let mid = at + 3;
-    let north = latitude_of(s[at], s[at + 1], s[at + 2]);
-    let south = latitude_of(s[mid], s[mid + 1], s[mid + 2]);
-    two_lines(true, north, south, at, mid, end)
 }
 
-// West not above east.
-fn longitude_pair(s: &[u8], at: usize) -> Step
-    requires { ⌜ at ≤ length (now s) ⌝ }
-    ensures { λ r. ⌜ r ≡ checkPair longitude westFirst (now (s .entry)) at ⌝ }
-{
-    let end = at + 8;
-    if s.len() < end {
-        return pair(false, longitudes(), s, at);
-    }
-    let mid = at + 4;
-    let west = longitude_of(s[at], s[at + 1], s[at + 2], s[at + 3]);
-    let east = longitude_of(s[mid], s[mid + 1], s[mid + 2], s[mid + 3]);
-    two_lines(false, west, east, at, mid, end)
-}
-
+// North not below south, west not above east. A box that is fine is passed whole, any other one edge by edge.
 pub fn a_box(s: &[u8], at: usize) -> Step
     requires { ⌜ at ≤ length (now s) ⌝ }
     ensures { λ r. ⌜ r ≡ checkBox (now (s .entry)) at ⌝ }
 {
-    let latitudes = latitude_pair(s, at);
-    match latitudes {
-        Step::Stop(code, place) => Step::Stop(code, place),
-        Step::Next(west) => longitude_pair(s, west),
+    let end = at + 14;
+    if end <= s.len() {
+        if is_fine(s, at) {
+            return Step::Next(end);
+        }
     }
+    by_edges(s, at)
 }

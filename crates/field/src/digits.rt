@@ -1,7 +1,6 @@
 // Decimal digits. Only `0` to `9` are digits in a command.
 ghost use mathlib.Core.Path.{_≡_};
 ghost use mathlib.Core.Bool.{true};
-ghost use mathlib.Core.List.{_∷_, []};
 ghost use Prim.Native.Nat.{_+_, _-_, _≤_, _<_};
 ghost use lib.ListN.{length};
 ghost use Rattle.text.specs.Parts.{part};
@@ -42,27 +41,6 @@ pub fn number_at(s: &[u8], at: usize, w: usize) -> usize
         i += 1;
     }
     n
-}
-
-// The same for two digits and for three, from their bytes.
-pub fn two(a: u8, b: u8) -> usize
-    ensures { λ r. ⌜ r ≡ numberOr (a ∷ b ∷ []) ⌝ }
-{
-    if is_digit(a) & is_digit(b) {
-        worth(a) * 10 + worth(b)
-    } else {
-        1000
-    }
-}
-
-pub fn three(a: u8, b: u8, c: u8) -> usize
-    ensures { λ r. ⌜ r ≡ numberOr (a ∷ b ∷ c ∷ []) ⌝ }
-{
-    if is_digit(a) & is_digit(b) & is_digit(c) {
-        worth(a) * 100 + worth(b) * 10 + worth(c)
-    } else {
-        1000
-    }
 }
 
 // What w digits spell, where they are known to be digits.

@@ -2,6 +2,7 @@
 pub mod boxes;
 pub mod check;
 pub mod digits;
+mod fine;
 pub mod read;
 pub mod record;
 pub mod write;
