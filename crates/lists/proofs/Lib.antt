@@ -3,6 +3,7 @@ pub mod Local
 pub mod Fill
 pub mod Accepted
 pub mod Spelling
+mod Sums
 pub mod Turns
 pub mod RoundTrip
 pub mod Within

@@ -1,13 +1,13 @@
 -- Turns of the loops over a record's entries.
 use mathlib.Core.Path.{_≡_, refl, sym, ap, _∙_}
-use mathlib.Core.Bool.{true, false}
+use mathlib.Core.Bool.{Bool, true, false, _&&_, and-assoc, and-true}
 use mathlib.Core.List.{List, [], _∷_, _++_, append-nil, append-assoc}
 use Prim.Native.Nat.{ℕ, suc, _+_, _-_, _*_, _≤_, _<_}
 use native.Mathlib.Omega.{arith}
 use native.Mathlib.Numerals.{add-one}
 use lib.ListN.{length, getD, take, drop, drop-of-length-le, length-append}
 use lib.Seq.{drop-cons, drop-drop, take-suc}
-use borrow.Author.Tests.{eq-eqb, ne-eqb}
+use lib.Dec.{eqb}
 use Rattle.text.specs.declared.Seen.the-variants.{Fine, Bad}
 use Rattle.text.specs.Names.{allAllowed}
 use Rattle.field.specs.declared.Region.{Region}
@@ -21,18 +21,14 @@ from l i z h = rw (add-one, drop-cons l i z)
 
 -- ---- Unused bytes
 
-module _ (s : List ℕ) (i : ℕ) where
-  pub zero-turn : i < length s → getD s i 0 ≡ 0 → allZero (drop i s) ≡ allZero (drop (i + 1) s)
+module _ (t : Bool) (s : List ℕ) (i : ℕ) where
+  pub zero-turn : i < length s → (t && allZero (drop i s)) ≡ (t && eqb (getD s i 0) 0 && allZero (drop (i + 1) s))
   unfolding allZero
-  zero-turn h e = rw (from s i 0 h, eq-eqb (getD s i 0) 0 e)
+  zero-turn h = rw (from s i 0 h) (sym (and-assoc t (eqb (getD s i 0) 0) (allZero (drop (i + 1) s))))
 
-  pub zero-stop : i < length s → (getD s i 0 ≡ 0 → ⊥) → allZero (drop i s) ≡ false
+  pub zero-end : length s ≤ i → (t && allZero (drop i s)) ≡ t
   unfolding allZero
-  zero-stop h e = rw (from s i 0 h, ne-eqb (getD s i 0) 0 e)
-
-  pub zero-end : length s ≤ i → allZero (drop i s) ≡ true
-  unfolding allZero
-  zero-end h = rw (drop-of-length-le s {i = i} h)
+  zero-end h = rw (drop-of-length-le s {i = i} h) (and-true t)
 
 -- ---- Names
 
@@ -54,18 +50,14 @@ module _ (names : List ℕ) (n i p q : ℕ) where
 
 -- ---- Boxes
 
-module _ (bs : List Region) (i : ℕ) where
-  pub regions-zero-turn : i < length bs → regionZero (getD bs i noRegion) ≡ true → regionsZero (drop i bs) ≡ regionsZero (drop (i + 1) bs)
+module _ (t : Bool) (bs : List Region) (i : ℕ) where
+  pub regions-zero-turn : i < length bs → (t && regionsZero (drop i bs)) ≡ (t && regionZero (getD bs i noRegion) && regionsZero (drop (i + 1) bs))
   unfolding regionsZero
-  regions-zero-turn h e = rw (from bs i noRegion h, e)
+  regions-zero-turn h = rw (from bs i noRegion h) (sym (and-assoc t (regionZero (getD bs i noRegion)) (regionsZero (drop (i + 1) bs))))
 
-  pub regions-zero-stop : i < length bs → regionZero (getD bs i noRegion) ≡ false → regionsZero (drop i bs) ≡ false
+  pub regions-zero-end : length bs ≤ i → (t && regionsZero (drop i bs)) ≡ t
   unfolding regionsZero
-  regions-zero-stop h e = rw (from bs i noRegion h, e)
-
-  pub regions-zero-end : length bs ≤ i → regionsZero (drop i bs) ≡ true
-  unfolding regionsZero
-  regions-zero-end h = rw (drop-of-length-le bs {i = i} h)
+  regions-zero-end h = rw (drop-of-length-le bs {i = i} h) (and-true t)
 
 module _ (bs : List Region) (n i q : ℕ) where
   pub regions-turn : i < n → i < length bs → regionAllowed q (getD bs i noRegion) ≡ Fine

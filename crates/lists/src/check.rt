@@ -32,11 +32,15 @@ fn each_name(s: &[u8], at: usize, n: usize) -> Step
     Step::Next(p)
 }
 
-// n airfields: all their bytes at once where the text has them and they are allowed, else one by one to the one that is wrong.
+// n airfields. Few are gone through one by one; of more, all bytes at once where the text has them and they are allowed, else one
+// by one to the one that is wrong.
 fn each_airfield(s: &[u8], at: usize, n: usize) -> Step
     requires { ⌜ (at ≤ length (now s)) × (n ≤ 20) ⌝ }
     ensures { λ r. ⌜ r ≡ repeat (checkAirfield (now (s .entry))) n at ⌝ }
 {
+    if n < 4 {
+        return each_name(s, at, n);
+    }
     let end = at + 4 * n;
     if end <= s.len() {
         if all_allowed(&s[at..end]) {
