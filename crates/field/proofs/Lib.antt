@@ -10,5 +10,6 @@ pub mod Within
 pub mod Accepted
 pub mod Repeat
 pub mod Pairs
+pub mod Wherever
 pub mod Spelling
 pub mod RoundTrip

@@ -1,5 +1,5 @@
 -- What the inner functions answer. No promise to a caller rests on these names.
-use mathlib.Core.Bool.{Bool, cond, _&&_}
+use mathlib.Core.Bool.{Bool, true, false, cond, not, _&&_}
 use mathlib.Core.List.{List, [], _∷_, _++_}
 use Prim.Native.Nat.{ℕ, _+_, _-_, _*_}
 use lib.Dec.{leb, ltb, eqb}
@@ -11,6 +11,7 @@ use Rattle.field.specs.Decimal.{isDigit, allDigits, value, decimal}
 use Rattle.field.specs.Boxes.{latitude, longitude, isLetter, belowZero, lineOf, edgeAllowed}
 use Rattle.field.specs.declared.Circle.{Circle}
 use Rattle.field.specs.declared.Edge.{Edge}
+use Rattle.field.specs.declared.Region.{Region}
 use Rattle.field.specs.declared.Step.{Step}
 use Rattle.field.specs.declared.Step.the-variants.{Next, Stop}
 use Rattle.field.specs.declared.boxes.Line.{Line}
@@ -81,6 +82,16 @@ longitudesFine a b d l e f g m =
 unfoldable pub pairAllowed : Bool → Circle → Edge → Edge → ℕ → ℕ → Seen
 pairAllowed falling c first second at mid =
     edgeAllowed c at first andThen edgeAllowed c mid second andThen must (inOrder falling c first second) 7 mid
+
+-- whether it is refused nowhere: an edge, a pair of edges, a box
+abbrev pub edgeIs : Circle → Edge → Bool
+edgeIs c e = isLetter c (e .letter) && not (belowZero c (e .degrees) (e .letter)) && leb (e .degrees) (c .most)
+
+abbrev pub pairIs : Bool → Circle → Edge → Edge → Bool
+pairIs falling c first second = edgeIs c first && edgeIs c second && inOrder falling c first second
+
+unfoldable pub regionIs : Region → Bool
+regionIs b = pairIs true latitude (b .north) (b .south) && pairIs false longitude (b .west) (b .east)
 
 -- the edge that stands at a place, its degrees in w digits
 abbrev pub edgeFrom : ℕ → List ℕ → ℕ → Edge

@@ -9,7 +9,7 @@ use text::Seen;
 ghost use mathlib.Core.Path.{_≡_};
 ghost use Prim.Native.Nat.{_≤_};
 ghost use Rattle.field.specs.Boxes.{lineOf, edgeAllowed, regionAllowed};
-ghost use Rattle.field.specs.Steps.{pairAllowed};
+ghost use Rattle.field.specs.Steps.{pairAllowed, edgeIs, pairIs, regionIs};
 
 pub fn wide(b: u8) -> usize
     ensures { λ r. ⌜ r ≡ b ⌝ }
@@ -65,6 +65,36 @@ fn pair_allowed(falling: bool, c: Circle, first: Edge, second: Edge, at: usize, 
         },
     }
 }
+
+// ---- The same without code and place: tests that are gathered, for a list of boxes at once
+
+fn edge_is(c: Circle, e: Edge) -> bool
+    ensures { λ r. ⌜ r ≡ edgeIs c e ⌝ }
+{
+    let l = e.letter;
+    let n = wide(e.degrees);
+    ((l == c.above) | (l == c.below)) & !((n == 0) & (l == c.below)) & (n <= c.most)
+}
+
+fn pair_is(falling: bool, c: Circle, first: Edge, second: Edge) -> bool
+    ensures { λ r. ⌜ r ≡ pairIs falling c first second ⌝ }
+{
+    let order = in_order(falling, line_of(c, first), line_of(c, second));
+    edge_is(c, first) & edge_is(c, second) & order
+}
+
+// Whether a box would be taken, wherever it stands.
+pub fn region_is(b: Region) -> bool
+    ensures { λ r. ⌜ r ≡ regionIs b ⌝ }
+{
+    let north = b.north;
+    let south = b.south;
+    let west = b.west;
+    let east = b.east;
+    pair_is(true, latitudes(), north, south) & pair_is(false, longitudes(), west, east)
+}
+
+// ---- A box, with the place where it would stand
 
 pub fn region_allowed(at: usize, b: Region) -> Seen
     requires { ⌜ at ≤ 4096 ⌝ }

@@ -2,14 +2,16 @@
 use mathlib.Core.Path.{_≡_, refl, sym, ap, _∙_}
 use mathlib.Core.Bool.{Bool, true, false, _&&_, and-assoc, and-true}
 use mathlib.Core.List.{List, [], _∷_, _++_, append-nil, append-assoc}
-use Prim.Native.Nat.{ℕ, suc, _+_, _-_, _*_, _≤_, _<_}
+use Prim.Native.Nat.{ℕ, zero, suc, _+_, _-_, _*_, _≤_, _<_}
 use native.Mathlib.Omega.{arith}
 use native.Mathlib.Numerals.{add-one}
 use lib.ListN.{length, getD, take, drop, drop-of-length-le, length-append}
-use lib.Seq.{drop-cons, drop-drop, take-suc}
+use lib.Seq.{drop-cons, drop-drop, take-add, take-suc}
 use lib.Dec.{eqb}
 use Rattle.text.specs.declared.Seen.the-variants.{Fine, Bad}
 use Rattle.text.specs.Names.{allAllowed}
+use Rattle.text.proofs.Cases.{both-left, both-right}
+use Rattle.text.proofs.Names.{allowed-append}
 use Rattle.field.specs.declared.Region.{Region}
 use Rattle.field.specs.Boxes.{regionAllowed, regionText, noRegion}
 use Rattle.field.proofs.Spelling.{region-length}
@@ -48,6 +50,18 @@ module _ (names : List ℕ) (n i p q : ℕ) where
   unfolding namesAllowed
   names-end h = let e : n - i ≡ 0 = omega arith in rw e
 
+-- names whose bytes are all allowed
+pub names-all : (n at : ℕ) (names : List ℕ) → allAllowed (take (4 * n) names) ≡ true → namesAllowed n at names ≡ Fine
+unfolding namesAllowed
+names-all zero at names e = refl
+names-all (suc n) at names e =
+    let more : 4 * suc n ≡ 4 + 4 * n = omega arith in
+    let split = ap allAllowed (take-add 4 (4 * n) names) ∙ allowed-append (take 4 names) (take (4 * n) (drop 4 names)) in
+    let all = sym split ∙ ap (λ (k : ℕ). allAllowed (take k names)) (sym more) ∙ e in
+    let first = both-left (allAllowed (take 4 names)) (allAllowed (take (4 * n) (drop 4 names))) all in
+    let others = both-right (allAllowed (take 4 names)) (allAllowed (take (4 * n) (drop 4 names))) all in
+    rw first (names-all n (at + 4) (drop 4 names) others)
+
 -- ---- Boxes
 
 module _ (t : Bool) (bs : List Region) (i : ℕ) where
@@ -58,6 +72,13 @@ module _ (t : Bool) (bs : List Region) (i : ℕ) where
   pub regions-zero-end : length bs ≤ i → (t && regionsZero (drop i bs)) ≡ t
   unfolding regionsZero
   regions-zero-end h = rw (drop-of-length-le bs {i = i} h) (and-true t)
+
+-- before the first turn
+pub regions-start : (n at : ℕ) (bs : List Region) → regionsAllowed n at bs ≡ regionsAllowed (n - 0) (at + 14 * 0) (drop 0 bs)
+regions-start n at bs =
+    let all : n - 0 ≡ n = omega arith in
+    let here : at + 14 * 0 ≡ at = omega arith in
+    ap (λ (k : ℕ). regionsAllowed k at bs) (sym all) ∙ ap (λ (q : ℕ). regionsAllowed (n - 0) q bs) (sym here)
 
 module _ (bs : List Region) (n i q : ℕ) where
   pub regions-turn : i < n → i < length bs → regionAllowed q (getD bs i noRegion) ≡ Fine

@@ -4,14 +4,16 @@ use crate::Boxes;
 use field::Edge;
 use field::Region;
 use field::record::region_allowed;
+use field::record::region_is;
 use field::record::wide;
 use text::Seen;
 use text::all_allowed;
 ghost use mathlib.Core.Path.{_≡_};
-ghost use mathlib.Core.Bool.{_&&_};
-ghost use Prim.Native.Nat.{_*_, _≤_, _<_};
+ghost use mathlib.Core.Bool.{true, _&&_};
+ghost use Prim.Native.Nat.{ℕ, _*_, _≤_, _<_};
 ghost use lib.Dec.{eqb};
 ghost use lib.ListN.{length, drop};
+ghost use Rattle.text.specs.declared.Seen.the-variants.{Fine};
 ghost use Rattle.lists.specs.Lists.{
   allZero,
   namesAllowed,
@@ -38,7 +40,7 @@ fn zero_from(s: &[u8], from: usize) -> bool
 }
 
 // n names, the first of which would stand at a place: a byte that is not allowed is 4 at its name.
-fn names_allowed(names: &[u8], n: usize, at: usize) -> Seen
+fn each_name_allowed(names: &[u8], n: usize, at: usize) -> Seen
     requires { ⌜ (4 * n ≤ length (now names)) × (n ≤ 20) × (at ≤ 4096) ⌝ }
     ensures { λ r. ⌜ r ≡ namesAllowed n at (now (names .entry)) ⌝ }
 {
@@ -55,6 +57,18 @@ fn names_allowed(names: &[u8], n: usize, at: usize) -> Seen
         i += 1;
     }
     Seen::Fine
+}
+
+// The same: all bytes at once, and one name after the other only where one is wrong.
+fn names_allowed(names: &[u8], n: usize, at: usize) -> Seen
+    requires { ⌜ (4 * n ≤ length (now names)) × (n ≤ 20) × (at ≤ 4096) ⌝ }
+    ensures { λ r. ⌜ r ≡ namesAllowed n at (now (names .entry)) ⌝ }
+{
+    let all = 4 * n;
+    if all_allowed(&names[0..all]) {
+        return Seen::Fine;
+    }
+    each_name_allowed(names, n, at)
 }
 
 // A count above 20 is 5, unused entries that are not zero 7, both at the count.
@@ -115,8 +129,22 @@ fn regions_zero(regions: [Region; 16], n: usize) -> bool
     sum == 0
 }
 
+// Whether n boxes would be taken, wherever they stand. Gathered, as above.
+fn regions_are(regions: [Region; 16], n: usize) -> bool
+    requires { ⌜ n ≤ 16 ⌝ }
+    ensures { λ r. ⌜ ((at : ℕ) → r ≡ true → regionsAllowed n at regions ≡ Fine) ⌝ }
+{
+    let mut fine = true;
+    let mut i = 0;
+    while i < n {
+        fine = fine & region_is(regions[i]);
+        i += 1;
+    }
+    fine
+}
+
 // n boxes, the first of which would stand at a place.
-fn regions_allowed(regions: [Region; 16], n: usize, at: usize) -> Seen
+fn each_region_allowed(regions: [Region; 16], n: usize, at: usize) -> Seen
     requires { ⌜ (n ≤ 16) × (at ≤ 2048) ⌝ }
     ensures { λ r. ⌜ r ≡ regionsAllowed n at regions ⌝ }
 {
@@ -133,6 +161,17 @@ fn regions_allowed(regions: [Region; 16], n: usize, at: usize) -> Seen
         i += 1;
     }
     Seen::Fine
+}
+
+// The same: all boxes at once, and one after the other only where one is wrong.
+fn regions_allowed(regions: [Region; 16], n: usize, at: usize) -> Seen
+    requires { ⌜ (n ≤ 16) × (at ≤ 2048) ⌝ }
+    ensures { λ r. ⌜ r ≡ regionsAllowed n at regions ⌝ }
+{
+    if regions_are(regions, n) {
+        return Seen::Fine;
+    }
+    each_region_allowed(regions, n, at)
 }
 
 // A count above 16 is 5, unused entries that are not zero 7, both at the count.
