@@ -15,13 +15,13 @@ use Rattle.text.specs.Parts.{part}
 use Rattle.text.specs.Table.{values}
 use Rattle.text.proofs.Table.{at}
 use Rattle.text.proofs.Parts.{part-bytes}
-use Rattle.field.specs.Fields.{after}
+use Rattle.field.specs.Fields.{after, checkDelimiter}
 use Rattle.field.specs.declared.Step.{Step}
 use Rattle.field.specs.declared.Step.the-variants.{Next, Stop}
 use Rattle.field.proofs.Local.{ends-inside}
 use Rattle.section.proofs.Local.{items-local}
 use Rattle.section.specs.Layout.{layoutOf, isEmpty, checkItems, checkSection}
-use Rattle.command.specs.Text.{awr04, isFlag, isNamed, headBytes, numbers, checkAwr04, checkEach, checkFrom}
+use Rattle.command.specs.Text.{awr04, isFlag, isNamed, headBytes, numbers, checkAwr04, checkEach, checkHead, checkFrom}
 use Rattle.command.specs.Steps.{headTest, sectionSeen}
 
 -- ---- `AWR04`
@@ -70,6 +70,12 @@ module _ (s : List ℕ) (i : ℕ) (lt : i < 16) where
 pub head-end : (s : List ℕ) (i : ℕ) → i ≤ 16 → 16 ≤ i → checkEach (drop i headBytes) s (5 + i) ≡ Next 21
 unfolding checkEach
 head-end s i h j = let e : i ≡ 16 = omega arith in rw e
+
+-- the three groups of the first 22 bytes together
+pub head-fine : (s : List ℕ) → 22 ≤ length s → sameBytes (part 0 5 s) awr04 ≡ true → checkEach headBytes s 5 ≡ Next 21
+    → eqb (getD s 21 0) 47 ≡ true → checkHead s ≡ Next 22
+unfolding checkHead checkAwr04 checkDelimiter
+head-fine s h a b d = rw (le-leb 5 (length s) (omega arith), a, b, le-leb 22 (length s) h, d)
 
 -- ---- the sections
 

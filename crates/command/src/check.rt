@@ -5,7 +5,7 @@ use field::record::wide;
 use section::check::check_section;
 use text::Seen;
 ghost use mathlib.Core.Path.{_≡_};
-ghost use mathlib.Core.Bool.{not};
+ghost use mathlib.Core.Bool.{true, not};
 ghost use Prim.Native.Nat.{_+_, _≤_, _<_};
 ghost use lib.ListN.{length};
 ghost use Rattle.text.specs.Equal.{sameBytes};
@@ -13,6 +13,7 @@ ghost use Rattle.text.specs.Parts.{part};
 ghost use Rattle.section.specs.Layout.{layoutOf, isEmpty};
 ghost use Rattle.command.specs.Text.{awr04, isFlag, isDownlink, isIndicator, isNamed, headBytes, numbers, checkAwr04, checkEach, checkHead, checkFrom, ended, checkCommand};
 ghost use Rattle.field.specs.Fields.{after, checkDelimiter};
+ghost use Rattle.field.specs.declared.Step.the-variants.{Next};
 ghost use Rattle.command.specs.Steps.{headTest, sectionSeen};
 
 fn is_awr04(s: &[u8]) -> bool
@@ -103,8 +104,8 @@ fn check_bytes(s: &[u8]) -> Step
     Step::Next(21)
 }
 
-// The first 22 bytes.
-fn check_head(s: &[u8]) -> Step
+// The first 22 bytes, group by group, up to the one that is wrong.
+fn head_by_groups(s: &[u8]) -> Step
     ensures { λ r. ⌜ r ≡ checkHead (now (s .entry)) ⌝ }
 {
     match check_awr04(s) {
@@ -121,6 +122,39 @@ fn check_rest(s: &[u8]) -> Step
         Step::Stop(code, place) => Step::Stop(code, place),
         Step::Next(at) => delimiter(s, at),
     }
+}
+
+// Whether flags, downlink digit and indicators are all allowed. The answers are gathered, without a way out for each byte.
+fn bytes_fine(s: &[u8]) -> bool
+    requires { ⌜ 22 ≤ length (now s) ⌝ }
+    ensures { λ r. ⌜ (r ≡ true → checkEach headBytes (now (s .entry)) 5 ≡ Next 21) ⌝ }
+{
+    let mut fine = true;
+    let mut i: usize = 0;
+    while i < 16 {
+        fine = fine & is_head_byte(i, s[5 + i]);
+        i += 1;
+    }
+    fine
+}
+
+fn head_fine(s: &[u8]) -> bool
+    requires { ⌜ 22 ≤ length (now s) ⌝ }
+    ensures { λ r. ⌜ (r ≡ true → checkHead (now (s .entry)) ≡ Next 22) ⌝ }
+{
+    is_awr04(s) & bytes_fine(s) & (s[21] == b'/')
+}
+
+// The first 22 bytes: all at once, and group by group only where one is wrong.
+fn check_head(s: &[u8]) -> Step
+    ensures { λ r. ⌜ r ≡ checkHead (now (s .entry)) ⌝ }
+{
+    if 22 <= s.len() {
+        if head_fine(s) {
+            return Step::Next(22);
+        }
+    }
+    head_by_groups(s)
 }
 
 // Whether section k is named: E2 stands at byte 13.

@@ -1,33 +1,20 @@
+-- `command::check::check_head` meets its contract.
+use mathlib.Core.Path.{sym}
 use borrow.Author.Needs.{needs}
 use Rattle.command.proofs.check.check_head.Statement.{statement}
 use Rattle.command.proofs.check.check_head.Tie as tie
-use mathlib.Core.Path.{_≡_, refl, sym, _∙_, ap}
-use Rattle.command.specs.Text.{checkHead}
-use Rattle.command.proofs.Checking.{awr04-next}
 
-check-awr04-requires : tie.Need-check-awr04-requires
-check-awr04-requires c κs = search needs
-
-enum-known-code : tie.Need-enum-known-code
-enum-known-code c = search needs
-
-enum-told : tie.Need-enum-told
-enum-told c = search needs
-
-check-rest-requires : tie.Need-check-rest-requires
-check-rest-requires c κs = awr04-next _ _ (sym (c .before .before .check-awr04 .ensures) ∙ c .enum-told .given .1) .0
+head-fine-requires : tie.Need-head-fine-requires
+head-fine-requires c κs = search needs
 
 returns : tie.Need-returns
-unfolding checkHead
-returns c = rw (sym (c .before .before .before .check-awr04 .ensures) ∙ c .before .code .given .1)
+returns c = sym (c .before .head-fine .ensures (c .if2 .taken))
+
+head-by-groups-requires : tie.Need-head-by-groups-requires
+head-by-groups-requires c κs = search needs
 
 returns-2 : tie.Need-returns-2
-unfolding checkHead
-returns-2 c =
-    let e = sym (c .before .before .before .check-awr04 .ensures) ∙ c .before .enum-told .given .1 in
-    c .check-rest .ensures ∙ rw (e, awr04-next _ _ e .1)
+returns-2 c = search needs
 
 pub check-head-spec : {M : Type 1} → statement M
-check-head-spec =
-    tie.close
-    (tie.spec check-awr04-requires enum-known-code enum-told check-rest-requires returns returns-2)
+check-head-spec = tie.close (tie.spec head-fine-requires returns head-by-groups-requires returns-2)
