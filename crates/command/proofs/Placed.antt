@@ -5,7 +5,7 @@ use mathlib.Core.List.{List, [], _∷_}
 use Prim.Native.Nat.{ℕ, _+_, _≤_, _<_}
 use native.Mathlib.Omega.{arith}
 use lib.Dec.{eqb, leb}
-use lib.ListN.{length, getD, replicate}
+use lib.ListN.{length, getD}
 use borrow.Author.Tests.{eqb-true, leb-true, ne-eqb}
 use Rattle.text.specs.declared.Seen.the-variants.{Fine}
 use Rattle.text.proofs.Cases.{by-test, by-eq, both-left, both-right}
@@ -13,7 +13,6 @@ use Rattle.field.specs.declared.Step.the-variants.{Next}
 use Rattle.field.proofs.Local.{after-cases}
 use Rattle.section.specs.Layout.{layoutOf, isEmpty, checkSection, itemsSize, Accepted}
 use Rattle.section.specs.Contents.{Content, contentsAt}
-use Rattle.section.specs.Settings.{contentsOf, settingsFrom, amountIn, regionsFrom, airportsFrom, enrouteFrom, ascentFrom, hoursFrom}
 use Rattle.section.proofs.Own.{cut-end}
 use Rattle.command.specs.Text.{isFlag, isIndicator, numbers, isNamed, checkFrom, checkCommand}
 use Rattle.command.specs.Record.{held, heldIn}
@@ -155,24 +154,12 @@ module _ (s : List ℕ) (fine : checkCommand s ≡ Fine) where
 -- ---- Over settings that are all zero
 
 module _ (s : List ℕ) where
-  over-zero : {A : Type 0} (f : List Content → A) (k : ℕ) (old : List Content) → f old ≡ f [] → f (heldOver s k old) ≡ f (heldIn s k)
+  pub over-zero : {A : Type 0} (f : List Content → A) (k : ℕ) (old : List Content) → f old ≡ f [] → f (heldOver s k old) ≡ f (heldIn s k)
   over-zero f k old e =
       by-test (isNamed s k)
       (λ (n : isNamed s k ≡ true). rw n)
       (λ (n : isNamed s k ≡ false). rw (n, held-none numbers s 22 k n) e)
 
-  -- a text's sections over nothing are what the text holds
-  pub over-nothing : (flags : List ℕ)
-      → settingsFrom flags (λ k. heldOver s k (contentsOf (settingsFrom (replicate 7 0) (λ (j : ℕ). [])) k)) ≡ settingsFrom flags (heldIn s)
-  unfolding settingsFrom contentsOf regionsFrom airportsFrom enrouteFrom ascentFrom hoursFrom
-  over-nothing flags =
-      let old = contentsOf (settingsFrom (replicate 7 0) (λ (j : ℕ). [])) in
-      rw (
-        over-zero regionsFrom 2 (old 2) refl,
-        over-zero airportsFrom 3 (old 3) refl,
-        over-zero enrouteFrom 4 (old 4) refl,
-        over-zero ascentFrom 5 (old 5) refl,
-        over-zero (λ cs. amountIn cs 0) 6 (old 6) refl,
-        over-zero (λ cs. amountIn cs 0) 8 (old 8) refl,
-        over-zero hoursFrom 9 (old 9) refl,
-      )
+  -- a section that is not named
+  pub not-held : (k : ℕ) → isNamed s k ≡ false → heldIn s k ≡ []
+  not-held k n = held-none numbers s 22 k n

@@ -200,23 +200,33 @@ fn no_ascent() -> Ascent
     }
 }
 
+fn no_regions() -> Regions
+    ensures { λ r. ⌜ r ≡ regionsFrom [] ⌝ }
+{
+    Regions {
+        reporting: no_boxes(),
+        inhibiting: no_boxes(),
+    }
+}
+
+fn no_airports() -> Airports
+    ensures { λ r. ⌜ r ≡ airportsFrom [] ⌝ }
+{
+    Airports {
+        selected: no_phases(),
+        inhibited: no_phases(),
+        routine: 0,
+    }
+}
+
 // The settings that every refusal carries.
 pub fn no_settings() -> Settings
     ensures { λ r. ⌜ r ≡ settingsFrom (replicate 7 0) (λ (k : ℕ). []) ⌝ }
 {
-    let boxes = no_boxes();
-    let phases = no_phases();
     Settings {
         flags: [0u8; 7],
-        regions: Regions {
-            reporting: boxes,
-            inhibiting: boxes,
-        },
-        airports: Airports {
-            selected: phases,
-            inhibited: phases,
-            routine: 0,
-        },
+        regions: no_regions(),
+        airports: no_airports(),
         enroute: Enroute {
             interval: 0,
             wind: 0,
@@ -241,13 +251,57 @@ fn no_command() -> Command
 
 // ---- The whole
 
-// An accepted text's command: sections that aren't named are zero.
+// The large sections over nothing: written at once, where those over others are copied.
+fn regions_in(s: &[u8], at: usize) -> Regions
+    requires { ⌜ Stands (now s) 2 at ⌝ }
+    ensures { λ r. ⌜ r ≡ regionsFrom (heldIn (now (s .entry)) 2) ⌝ }
+{
+    if is_named(s, 2) {
+        return regions_at(s, at);
+    }
+    no_regions()
+}
+
+fn airports_in(s: &[u8], at: usize) -> Airports
+    requires { ⌜ Stands (now s) 3 at ⌝ }
+    ensures { λ r. ⌜ r ≡ airportsFrom (heldIn (now (s .entry)) 3) ⌝ }
+{
+    if is_named(s, 3) {
+        return airports_at(s, at);
+    }
+    no_airports()
+}
+
+// Flags and sections of an accepted text: those that aren't named are zero.
+fn settings_of(s: &[u8]) -> Settings
+    requires { ⌜ checkCommand (now s) ≡ Fine ⌝ }
+    ensures { λ r. ⌜ r ≡ settingsFrom (flagsOf (now (s .entry))) (heldIn (now (s .entry))) ⌝ }
+{
+    let p = places_of(s);
+    let enroute = Enroute {
+        interval: 0,
+        wind: 0,
+    };
+    let hours = Hours { start: 0, end: 0 };
+    Settings {
+        flags: flags_of(s),
+        regions: regions_in(s, p.regions),
+        airports: airports_in(s, p.airports),
+        enroute: enroute_over(s, p.enroute, enroute),
+        ascent: ascent_over(s, p.ascent, no_ascent()),
+        routine6: digit_over(s, 6, p.routine6, 0),
+        routine8: digit_over(s, 8, p.routine8, 0),
+        hours: hours_over(s, p.hours, hours),
+    }
+}
+
+// An accepted text's command.
 fn command_of(s: &[u8]) -> Command
     requires { ⌜ checkCommand (now s) ≡ Fine ⌝ }
     ensures { λ r. ⌜ r ≡ commandOf (now (s .entry)) ⌝ }
 {
     Command {
-        settings: settings_over(no_settings(), flags_of(s), s),
+        settings: settings_of(s),
         downlink: downlink_of(s),
         named: named_of(s),
     }

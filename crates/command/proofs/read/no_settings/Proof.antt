@@ -1,22 +1,22 @@
 -- `command::read::no_settings` meets its contract.
+use Rattle.section.specs.Settings.{settingsFrom, enrouteFrom, hoursFrom}
 use borrow.Author.Needs.{needs}
 use Rattle.command.proofs.read.no_settings.Statement.{statement}
 use Rattle.command.proofs.read.no_settings.Tie as tie
-use Rattle.section.specs.Settings.{settingsFrom, regionsFrom, airportsFrom, enrouteFrom, hoursFrom}
 
-no-boxes-requires : tie.Need-no-boxes-requires
-no-boxes-requires c κs = search needs
+no-regions-requires : tie.Need-no-regions-requires
+no-regions-requires c κs = search needs
 
-no-phases-requires : tie.Need-no-phases-requires
-no-phases-requires c κs = search needs
+no-airports-requires : tie.Need-no-airports-requires
+no-airports-requires c κs = search needs
 
 no-ascent-requires : tie.Need-no-ascent-requires
 no-ascent-requires c κs = search needs
 
 returns : tie.Need-returns
-unfolding settingsFrom regionsFrom airportsFrom enrouteFrom hoursFrom
-returns c = rw (c .no-ascent .ensures, c .before .no-phases .ensures, c .before .before .no-boxes .ensures)
+unfolding settingsFrom enrouteFrom hoursFrom
+returns c = rw (c .no-ascent .ensures, c .before .no-airports .ensures, c .before .before .no-regions .ensures)
 
 pub no-settings-spec : {M : Type 1} → statement M
 no-settings-spec =
-    tie.close (tie.spec no-boxes-requires no-phases-requires no-ascent-requires returns)
+    tie.close (tie.spec no-regions-requires no-airports-requires no-ascent-requires returns)
