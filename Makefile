@@ -3,12 +3,19 @@
 # make report     one report shown figure by figure: REPORT=file, or the example
 # make test       the gate: every test, the comparison and every proof
 # make compare    the archive and the second program on the same inputs; ARGS='--seed 2 --long' and the like
-# make bench      ns per call, ours and the second program's (x86-64)
+# make bench      ns per call, ours and the second program's; ROWS=word for the rows whose name has the word
 # make clean      removes all that was built
 
 export CARGO_TARGET_DIR := $(CURDIR)/target/compare
 
 archive := target/staticlib/libdesk.a
+
+# The archive for this machine's own processor: the proved one, or one made of the same LLVM module.
+ifeq ($(shell uname -m),x86_64)
+native := $(archive)
+else
+native := target/native/libdesk.a
+endif
 
 # Those that make the proved calls for the comparison, one for each group of calls that it compares.
 programs := answer answer_command answer_config answer_decide answer_join answer_board
@@ -18,7 +25,10 @@ programs := answer answer_command answer_config answer_decide answer_join answer
 all: $(archive)
 
 $(archive): crates.txt $(shell find crates -type f)
-	rt staticlib desk
+	host/native archive
+
+target/native/libdesk.a: $(archive) host/native
+	host/native build
 
 demo: $(archive)
 	@host/tool build night host/night.c
@@ -38,9 +48,9 @@ compare: $(archive)
 	@cd compare && cargo build --release --offline --locked --quiet
 	@target/compare/release/compare $(ARGS)
 
-bench: $(archive)
+bench: $(native)
 	@cd compare && cargo build --release --offline --locked --quiet
-	@target/compare/release/bench
+	@target/compare/release/bench '$(ROWS)'
 
 clean:
 	rm -rf target

@@ -7,7 +7,7 @@
 pub mod asked;
 pub mod cases;
 pub mod figures;
-#[cfg(target_arch = "x86_64")]
+#[cfg(linked)]
 pub mod linked;
 pub mod make;
 pub mod meet;

@@ -1,4 +1,4 @@
-//! The proved calls, linked into this program: for the benchmark, on x86-64 alone, which the archive is for.
+//! The proved calls, linked into this program: for the benchmark, where there is an archive for this machine.
 
 pub mod uplink;
 

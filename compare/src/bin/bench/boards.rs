@@ -1,6 +1,6 @@
 //! Rows of the board: 64 slots, all with full commands, or three with typical ones.
 
-use crate::measure::{best, pass, row};
+use crate::measure::{pass, Bench};
 use desk_compare::linked::uplink as linked;
 use desk_compare::make::uplink::{command_of, full_text, text, Lists};
 use desk_compare::meet::uplink as meet;
@@ -46,48 +46,48 @@ fn board(texts: &[Vec<u8>]) -> Board {
 }
 
 /// Adds that are joined onto what waits in the last used slot.
-fn add_row(name: &str, board: &Board, used: usize, texts: &[Vec<u8>]) {
+fn add_row(bench: &Bench, name: &str, board: &Board, used: usize, texts: &[Vec<u8>]) {
     let of = designator(used - 1);
     let (mut slots, mut area): (Vec<ours::uplink::Slot>, _) =
         (board.slots.iter().map(meet::slot).collect(), board.area.clone());
     let mut second = board.clone();
-    let windows = best(
+    bench.row(
+        name,
+        texts.len(),
+        None,
         || pass(texts, |text| linked::board_add(black_box(&mut slots), black_box(&mut area), &of, text)),
         || pass(texts, |text| second_add(black_box(&mut second.slots), black_box(&mut second.area), &of, text)),
     );
-    row(name, texts.len(), None, windows);
 }
 
 /// Takings of what waits in the last used slot; its length is put back after each.
-fn take_row(name: &str, board: &Board, used: usize) {
+fn take_row(bench: &Bench, name: &str, board: &Board, used: usize) {
     let of = designator(used - 1);
     let length = board.slots[used - 1].length;
     let mut slots: Vec<ours::uplink::Slot> = board.slots.iter().map(meet::slot).collect();
     let mut second = board.clone();
     let (mut out, mut other) = ([0; MOST], [0; MOST]);
-    let ours = |_: &()| {
+    let mut ours = |_: &()| {
         let answer = linked::board_take(black_box(&mut slots), &board.area, &of, black_box(&mut out));
         slots[used - 1].length = length;
         answer
     };
-    let mut ours = ours;
     let mut second = |_: &()| {
         let answer = second_take(black_box(&mut second.slots), &board.area, &of, black_box(&mut other));
         second.slots[used - 1].length = length;
         answer
     };
-    let windows = best(|| pass(&[(); CALLS], &mut ours), || pass(&[(); CALLS], &mut second));
-    row(name, CALLS, None, windows);
+    bench.row(name, CALLS, None, || pass(&[(); CALLS], &mut ours), || pass(&[(); CALLS], &mut second));
 }
 
-pub fn rows() {
+pub fn rows(bench: &Bench) {
     let mut random = Random::new(1, "bench-board");
     let full: Vec<_> = (0..SLOTS).map(|_| full_text(&mut random)).collect();
     let mut typical = || text(&command_of(&mut random, 0x9d, Lists::Few));
     let few: Vec<_> = (0..3).map(|_| typical()).collect();
     let added: Vec<_> = (0..CALLS).map(|_| typical()).collect();
-    add_row("board add, 64 full slots", &board(&full), SLOTS, &full[..CALLS]);
-    take_row("board take, 64 full slots", &board(&full), SLOTS);
-    add_row("board add, 64 slots, 3 used", &board(&few), 3, &added);
-    take_row("board take, 64 slots, 3 used", &board(&few), 3);
+    add_row(bench, "board add, 64 full slots", &board(&full), SLOTS, &full[..CALLS]);
+    take_row(bench, "board take, 64 full slots", &board(&full), SLOTS);
+    add_row(bench, "board add, 64 slots, 3 used", &board(&few), 3, &added);
+    take_row(bench, "board take, 64 slots, 3 used", &board(&few), 3);
 }

@@ -1,6 +1,6 @@
 //! Rows of commands.
 
-use crate::measure::{best, pass, row, INPUTS};
+use crate::measure::{pass, Bench, INPUTS};
 use desk_compare::linked::uplink as linked;
 use desk_compare::make::uplink::{command_of, text, Lists};
 use desk_compare::meet::uplink as meet;
@@ -34,23 +34,24 @@ fn sizes(random: &mut Random) -> [(&'static str, Vec<Command>); 3] {
     ]
 }
 
-pub fn rows() {
+pub fn rows(bench: &Bench) {
     let mut random = Random::new(1, "bench-command");
     for (size, records) in sizes(&mut random) {
         let texts: Vec<Vec<u8>> = records.iter().map(text).collect();
         let bytes = Some(texts.iter().map(Vec::len).sum::<usize>() / INPUTS);
-        let windows =
-            best(|| pass(&texts, |text| linked::command_check(text)), || pass(&texts, |text| second_check(text)));
-        row(&format!("command check, {size}"), INPUTS, bytes, windows);
-        let windows =
-            best(|| pass(&texts, |text| linked::command_read(text)), || pass(&texts, |text| second_read(text)));
-        row(&format!("command read, {size}"), INPUTS, bytes, windows);
+        let row = |call: &str, ours: &mut dyn FnMut(), second: &mut dyn FnMut()| {
+            bench.row(&format!("command {call}, {size}"), INPUTS, bytes, ours, second)
+        };
+        row("check", &mut || pass(&texts, |text| linked::command_check(text)), &mut || {
+            pass(&texts, |text| second_check(text))
+        });
+        row("read", &mut || pass(&texts, |text| linked::command_read(text)), &mut || {
+            pass(&texts, |text| second_read(text))
+        });
         let raw: Vec<_> = records.iter().map(meet::command).collect();
         let (mut one, mut other) = ([0; MOST], [0; MOST]);
-        let windows = best(
-            || pass(&raw, |record| linked::command_write(*record, black_box(&mut one))),
-            || pass(&records, |record| second_write(record, black_box(&mut other))),
-        );
-        row(&format!("command write, {size}"), INPUTS, bytes, windows);
+        row("write", &mut || pass(&raw, |record| linked::command_write(*record, black_box(&mut one))), &mut || {
+            pass(&records, |record| second_write(record, black_box(&mut other)))
+        });
     }
 }

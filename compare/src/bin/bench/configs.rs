@@ -1,6 +1,6 @@
 //! Rows of the configuration: validity, and commands applied in place to one that stays as the call before left it.
 
-use crate::measure::{best, pass, row, INPUTS};
+use crate::measure::{pass, Bench, INPUTS};
 use desk_compare::linked::uplink as linked;
 use desk_compare::make::uplink::{command_of, configuration_of, short_command, text, Lists};
 use desk_compare::meet::uplink as meet;
@@ -19,28 +19,30 @@ fn second_apply(configuration: &mut Configuration, text: &[u8]) -> Result<u8, Re
     config::apply(configuration, text)
 }
 
-fn apply_row(name: &str, held: &Configuration, texts: &[Vec<u8>]) {
+fn apply_row(bench: &Bench, name: &str, held: &Configuration, texts: &[Vec<u8>]) {
     let (mut one, mut other) = (meet::configuration(held), *held);
-    let windows = best(
+    bench.row(
+        name,
+        texts.len(),
+        None,
         || pass(texts, |text| linked::apply(black_box(&mut one), text)),
         || pass(texts, |text| second_apply(black_box(&mut other), text)),
     );
-    row(name, texts.len(), None, windows);
 }
 
-pub fn rows() {
+pub fn rows(bench: &Bench) {
     let mut random = Random::new(1, "bench-config");
     let reset = config::reset();
     let full = configuration_of(&mut random, Lists::Full);
     for (name, held) in [("validity after reset", reset), ("validity, full lists", full)] {
         let (one, other) = (vec![meet::configuration(&held); INPUTS], vec![held; INPUTS]);
-        let windows = best(|| pass(&one, |held| linked::settings_valid(*held)), || pass(&other, second_valid));
-        row(name, INPUTS, None, windows);
+        let ours = || pass(&one, |held| linked::settings_valid(*held));
+        bench.row(name, INPUTS, None, ours, || pass(&other, second_valid));
     }
     let short: Vec<_> = (0..INPUTS).map(|_| text(&short_command(&mut random))).collect();
-    apply_row("apply in place, short commands after reset", &reset, &short);
+    apply_row(bench, "apply in place, short commands after reset", &reset, &short);
     let flags: Vec<_> = (0..INPUTS).map(|_| text(&command_of(&mut random, 0, Lists::Empty))).collect();
-    apply_row("apply in place, flags alone, full lists held", &full, &flags);
+    apply_row(bench, "apply in place, flags alone, full lists held", &full, &flags);
     let long: Vec<_> = (0..INPUTS).map(|_| text(&command_of(&mut random, 0xff, Lists::Full))).collect();
-    apply_row("apply in place, 835 bytes, full lists held", &full, &long);
+    apply_row(bench, "apply in place, 835 bytes, full lists held", &full, &long);
 }

@@ -1,6 +1,6 @@
 //! Rows of joins.
 
-use crate::measure::{best, pass, row, INPUTS};
+use crate::measure::{pass, Bench, INPUTS};
 use desk_compare::linked::uplink as linked;
 use desk_compare::make::uplink::{command_of, text, Lists};
 use desk_compare::random::Random;
@@ -13,7 +13,7 @@ fn second_join(first: &[u8], second: &[u8], out: &mut [u8]) -> Result<usize, Fau
     join(first, second, out)
 }
 
-pub fn rows() {
+pub fn rows(bench: &Bench) {
     let mut random = Random::new(1, "bench-join");
     for (name, bits, lists) in [
         ("join, two short commands (22 bytes)", 0, Lists::Empty),
@@ -24,10 +24,12 @@ pub fn rows() {
         let pairs: Vec<[Vec<u8>; 2]> = (0..INPUTS).map(|_| [one(), one()]).collect();
         let bytes = pairs.iter().flatten().map(Vec::len).sum::<usize>() / INPUTS;
         let (mut out, mut other) = ([0; MOST], [0; MOST]);
-        let windows = best(
+        bench.row(
+            name,
+            INPUTS,
+            Some(bytes),
             || pass(&pairs, |[first, second]| linked::join(first, second, black_box(&mut out))),
             || pass(&pairs, |[first, second]| second_join(first, second, black_box(&mut other))),
         );
-        row(name, INPUTS, Some(bytes), windows);
     }
 }

@@ -1,39 +1,41 @@
 //! The benchmark: ns per call of the proved calls and of the second program, and their ratio, from one run. The rows of a
 //! group of calls are there where Cargo.toml lists it as a feature: the archive then has its calls.
+//!
+//! bench [WORD]    every row, or those whose name has the word
 
-#[cfg(all(target_arch = "x86_64", feature = "board"))]
+#[cfg(all(linked, feature = "board"))]
 mod boards;
-#[cfg(all(target_arch = "x86_64", feature = "command"))]
+#[cfg(all(linked, feature = "command"))]
 mod commands;
-#[cfg(all(target_arch = "x86_64", feature = "config"))]
+#[cfg(all(linked, feature = "config"))]
 mod configs;
-#[cfg(all(target_arch = "x86_64", feature = "decide"))]
+#[cfg(all(linked, feature = "decide"))]
 mod decisions;
-#[cfg(all(target_arch = "x86_64", feature = "join"))]
+#[cfg(all(linked, feature = "join"))]
 mod joins;
-#[cfg(target_arch = "x86_64")]
+#[cfg(linked)]
 mod measure;
-#[cfg(target_arch = "x86_64")]
+#[cfg(linked)]
 mod reports;
 
-#[cfg(target_arch = "x86_64")]
+#[cfg(linked)]
 fn main() {
-    measure::head();
-    reports::rows();
+    let bench = measure::Bench::start(std::env::args().nth(1).unwrap_or_default());
+    reports::rows(&bench);
     #[cfg(feature = "command")]
-    commands::rows();
+    commands::rows(&bench);
     #[cfg(feature = "config")]
-    configs::rows();
+    configs::rows(&bench);
     #[cfg(feature = "decide")]
-    decisions::rows();
+    decisions::rows(&bench);
     #[cfg(feature = "join")]
-    joins::rows();
+    joins::rows(&bench);
     #[cfg(feature = "board")]
-    boards::rows();
+    boards::rows(&bench);
 }
 
-#[cfg(not(target_arch = "x86_64"))]
+#[cfg(not(linked))]
 fn main() {
-    println!("bench: the proved archive is for x86-64, and a time under an emulator says nothing: run this on x86-64");
+    eprintln!("bench: built without an archive for this machine: 'make bench' makes one first");
     std::process::exit(2);
 }
