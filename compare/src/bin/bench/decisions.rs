@@ -1,6 +1,6 @@
 //! Rows of decisions.
 
-use crate::measure::{pass, Bench, INPUTS};
+use crate::measure::{best, pass, Bench, INPUTS};
 use desk_compare::linked::uplink as linked;
 use desk_compare::make::uplink::{airfield, configuration_of, edge, Lists};
 use desk_compare::meet::uplink as meet;
@@ -48,7 +48,8 @@ pub fn rows(bench: &Bench) {
             let Question { phase, hour, latitude, longitude, airfield } = *question;
             linked::decide(settings, [phase, hour], [latitude, longitude], airfield)
         };
-        let second = || pass(&questions, |question| second_decide(&held, question));
-        bench.row(name, INPUTS, None, || pass(&questions, ours), second);
+        bench.row(name, INPUTS, None, || {
+            best(|| pass(&questions, ours), || pass(&questions, |question| second_decide(&held, question)))
+        });
     }
 }

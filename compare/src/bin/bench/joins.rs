@@ -1,6 +1,6 @@
 //! Rows of joins.
 
-use crate::measure::{pass, Bench, INPUTS};
+use crate::measure::{best, pass, Bench, INPUTS};
 use desk_compare::linked::uplink as linked;
 use desk_compare::make::uplink::{command_of, text, Lists};
 use desk_compare::random::Random;
@@ -13,6 +13,15 @@ fn second_join(first: &[u8], second: &[u8], out: &mut [u8]) -> Result<usize, Fau
     join(first, second, out)
 }
 
+/// Joins of pairs of texts.
+pub fn joins<T: AsRef<[u8]>>(pairs: &[[T; 2]]) -> [f64; 2] {
+    let (mut out, mut other) = ([0; MOST], [0; MOST]);
+    best(
+        || pass(pairs, |[first, second]| linked::join(first.as_ref(), second.as_ref(), black_box(&mut out))),
+        || pass(pairs, |[first, second]| second_join(first.as_ref(), second.as_ref(), black_box(&mut other))),
+    )
+}
+
 pub fn rows(bench: &Bench) {
     let mut random = Random::new(1, "bench-join");
     for (name, bits, lists) in [
@@ -23,13 +32,6 @@ pub fn rows(bench: &Bench) {
         let mut one = || text(&command_of(&mut random, bits, lists));
         let pairs: Vec<[Vec<u8>; 2]> = (0..INPUTS).map(|_| [one(), one()]).collect();
         let bytes = pairs.iter().flatten().map(Vec::len).sum::<usize>() / INPUTS;
-        let (mut out, mut other) = ([0; MOST], [0; MOST]);
-        bench.row(
-            name,
-            INPUTS,
-            Some(bytes),
-            || pass(&pairs, |[first, second]| linked::join(first, second, black_box(&mut out))),
-            || pass(&pairs, |[first, second]| second_join(first, second, black_box(&mut other))),
-        );
+        bench.row(name, INPUTS, Some(bytes), || joins(&pairs));
     }
 }

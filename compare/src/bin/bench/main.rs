@@ -1,17 +1,20 @@
-//! The benchmark: ns per call of the proved calls and of the second program, and their ratio, from one run. The rows of a
-//! group of calls are there where Cargo.toml lists it as a feature: the archive then has its calls.
+//! The benchmark: ns per call of the proved calls and of the second program, and their ratio, from one run. It needs an
+//! archive for this machine (build.rs), which `make bench` makes first.
 //!
 //! bench [WORD]    every row, or those whose name has the word
+//! bench growth    how the cost grows with the length of a text and with the used slots of a board
 
-#[cfg(all(linked, feature = "board"))]
+#[cfg(linked)]
 mod boards;
-#[cfg(all(linked, feature = "command"))]
+#[cfg(linked)]
 mod commands;
-#[cfg(all(linked, feature = "config"))]
+#[cfg(linked)]
 mod configs;
-#[cfg(all(linked, feature = "decide"))]
+#[cfg(linked)]
 mod decisions;
-#[cfg(all(linked, feature = "join"))]
+#[cfg(linked)]
+mod growth;
+#[cfg(linked)]
 mod joins;
 #[cfg(linked)]
 mod measure;
@@ -20,17 +23,16 @@ mod reports;
 
 #[cfg(linked)]
 fn main() {
-    let bench = measure::Bench::start(std::env::args().nth(1).unwrap_or_default());
+    let word = std::env::args().nth(1).unwrap_or_default();
+    if word == "growth" {
+        return growth::table();
+    }
+    let bench = measure::Bench::start(word);
     reports::rows(&bench);
-    #[cfg(feature = "command")]
     commands::rows(&bench);
-    #[cfg(feature = "config")]
     configs::rows(&bench);
-    #[cfg(feature = "decide")]
     decisions::rows(&bench);
-    #[cfg(feature = "join")]
     joins::rows(&bench);
-    #[cfg(feature = "board")]
     boards::rows(&bench);
 }
 

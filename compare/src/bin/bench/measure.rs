@@ -31,13 +31,13 @@ impl Bench {
         Bench { word }
     }
 
-    /// Measures and prints a row that is wanted: a pass of `calls` calls of each program. `bytes` is the text of one call
-    /// where its rate means something.
-    pub fn row(&self, name: &str, calls: usize, bytes: Option<usize>, ours: impl FnMut(), second: impl FnMut()) {
+    /// Measures and prints a row that is wanted; a window has so many calls. `bytes` is the text of one call where its
+    /// rate means something.
+    pub fn row(&self, name: &str, calls: usize, bytes: Option<usize>, windows: impl FnOnce() -> [f64; 2]) {
         if !name.contains(&self.word) {
             return;
         }
-        let [ours, second] = best(ours, second).map(|window| window / calls as f64);
+        let [ours, second] = windows().map(|window| window / calls as f64);
         let rate = |ns: f64| bytes.map_or(String::new(), |bytes| format!("{:.0}", bytes as f64 / ns * 1000.0));
         println!("{name:<44} {ours:>9.2} {second:>9.2} {:>7.2} {:>10} {:>10}", ours / second, rate(ours), rate(second));
     }

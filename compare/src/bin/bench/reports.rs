@@ -1,6 +1,6 @@
 //! Rows of packed figures and reports.
 
-use crate::measure::{pass, Bench, INPUTS};
+use crate::measure::{best, pass, Bench, INPUTS};
 use desk_compare::random::Random;
 use desk_compare::second::record::{Observation, Report, BYTES};
 use desk_compare::second::{packed, report, write, Refusal};
@@ -53,23 +53,21 @@ fn packed_fields(random: &mut Random) -> Vec<(Option<i32>, Vec<u8>)> {
 
 fn packed_rows(bench: &Bench) {
     let fields = packed_fields(&mut Random::new(1, "bench-packed"));
-    bench.row(
-        "packed read (256 valid fields)",
-        INPUTS,
-        None,
-        || pass(&fields, |(_, field)| linked::packed_read(field)),
-        || pass(&fields, |(_, field)| second_packed_read(field)),
-    );
+    bench.row("packed read (256 valid fields)", INPUTS, None, || {
+        best(
+            || pass(&fields, |(_, field)| linked::packed_read(field)),
+            || pass(&fields, |(_, field)| second_packed_read(field)),
+        )
+    });
     let figures: Vec<_> = fields.iter().map(|(figure, field)| (*figure, field.len())).collect();
     let raw: Vec<_> = figures.iter().map(|(figure, width)| (meet::figure(*figure), *width)).collect();
     let (mut one, mut other) = ([0; 8], [0; 8]);
-    bench.row(
-        "packed write (256 figures)",
-        INPUTS,
-        None,
-        || pass(&raw, |(figure, width)| linked::packed_write(*figure, *width, black_box(&mut one))),
-        || pass(&figures, |(figure, width)| second_packed_write(*figure, *width, black_box(&mut other))),
-    );
+    bench.row("packed write (256 figures)", INPUTS, None, || {
+        best(
+            || pass(&raw, |(figure, width)| linked::packed_write(*figure, *width, black_box(&mut one))),
+            || pass(&figures, |(figure, width)| second_packed_write(*figure, *width, black_box(&mut other))),
+        )
+    });
 }
 
 /// An observation as aircraft send them; `lost` figures in a hundred are missing.
@@ -106,27 +104,21 @@ fn report_rows(bench: &Bench) {
     let records: Vec<Report> = (0..INPUTS).map(|_| typical(&mut random)).collect();
     let texts: Vec<[u8; BYTES]> = records.iter().map(make::text).collect();
     let full = [make::text(&make::record_of(&mut random, 7, 0)); 64];
-    check_row(bench, "report check (256 typical reports)", &texts);
-    check_row(bench, "report check (one report, all figures given)", &full);
-    bench.row(
-        "report read (256 typical reports)",
-        INPUTS,
-        Some(BYTES),
-        || pass(&texts, |text| linked::report_read(text)),
-        || pass(&texts, |text| second_read(text)),
-    );
+    bench.row("report check (256 typical reports)", INPUTS, Some(BYTES), || checks(&texts));
+    bench.row("report check (one report, all figures given)", full.len(), Some(BYTES), || checks(&full));
+    bench.row("report read (256 typical reports)", INPUTS, Some(BYTES), || {
+        best(|| pass(&texts, |text| linked::report_read(text)), || pass(&texts, |text| second_read(text)))
+    });
     let raw: Vec<ours::Report> = records.iter().map(meet::record).collect();
     let (mut one, mut other) = ([0; 256], [0; 256]);
-    bench.row(
-        "report write (256 typical records)",
-        INPUTS,
-        Some(BYTES),
-        || pass(&raw, |record| linked::report_write(*record, black_box(&mut one))),
-        || pass(&records, |record| second_write(record, black_box(&mut other))),
-    );
+    bench.row("report write (256 typical records)", INPUTS, Some(BYTES), || {
+        best(
+            || pass(&raw, |record| linked::report_write(*record, black_box(&mut one))),
+            || pass(&records, |record| second_write(record, black_box(&mut other))),
+        )
+    });
 }
 
-fn check_row(bench: &Bench, name: &str, texts: &[[u8; BYTES]]) {
-    let ours = || pass(texts, |text| linked::report_check(text));
-    bench.row(name, texts.len(), Some(BYTES), ours, || pass(texts, |text| second_check(text)));
+fn checks(texts: &[[u8; BYTES]]) -> [f64; 2] {
+    best(|| pass(texts, |text| linked::report_check(text)), || pass(texts, |text| second_check(text)))
 }
