@@ -4,6 +4,7 @@
 # make test       the gate: every test, the comparison and every proof
 # make compare    the archive and the second program on the same inputs; ARGS='--seed 2 --long' and the like
 # make bench      ns per call, ours and the second program's; ROWS=word for the rows whose name has the word
+# make growth     docs/growth.svg: how the cost grows with a text's length and a board's used slots
 # make clean      removes all that was built
 
 export CARGO_TARGET_DIR := $(CURDIR)/target/compare
@@ -20,7 +21,7 @@ endif
 # Those that make the proved calls for the comparison, one for each group of calls that it compares.
 programs := answer answer_command answer_config answer_decide answer_join answer_board
 
-.PHONY: all demo report test compare bench clean
+.PHONY: all demo report test compare bench growth clean
 
 all: $(archive)
 
@@ -51,6 +52,12 @@ compare: $(archive)
 bench: $(native)
 	@cd compare && cargo build --release --offline --locked --quiet
 	@target/compare/release/bench '$(ROWS)'
+
+growth: $(native)
+	@cd compare && cargo build --release --offline --locked --quiet
+	@target/compare/release/bench growth >target/growth.txt
+	@target/compare/release/plot <target/growth.txt >docs/growth.svg
+	@cat target/growth.txt
 
 clean:
 	rm -rf target
