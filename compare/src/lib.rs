@@ -7,8 +7,6 @@
 pub mod asked;
 pub mod cases;
 pub mod figures;
-#[cfg(linked)]
-pub mod linked;
 pub mod make;
 pub mod meet;
 pub mod ours;

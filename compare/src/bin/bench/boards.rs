@@ -1,7 +1,7 @@
 //! Rows of the board: 64 slots, all with full commands, or three with typical ones.
 
+use crate::linked::uplink as linked;
 use crate::measure::{best, pass, Bench};
-use desk_compare::linked::uplink as linked;
 use desk_compare::make::uplink::{command_of, full_text, text, Lists};
 use desk_compare::meet::uplink as meet;
 use desk_compare::ours;

@@ -1,7 +1,7 @@
 //! Rows of the configuration: validity, and commands applied in place to one that stays as the call before left it.
 
+use crate::linked::uplink as linked;
 use crate::measure::{best, pass, Bench, INPUTS};
-use desk_compare::linked::uplink as linked;
 use desk_compare::make::uplink::{command_of, configuration_of, short_command, text, Lists};
 use desk_compare::meet::uplink as meet;
 use desk_compare::random::Random;

@@ -1,7 +1,7 @@
 //! Rows of joins.
 
+use crate::linked::uplink as linked;
 use crate::measure::{best, pass, Bench, INPUTS};
-use desk_compare::linked::uplink as linked;
 use desk_compare::make::uplink::{command_of, text, Lists};
 use desk_compare::random::Random;
 use desk_compare::second::join::{join, Fault};

@@ -17,6 +17,8 @@ mod growth;
 #[cfg(linked)]
 mod joins;
 #[cfg(linked)]
+mod linked;
+#[cfg(linked)]
 mod measure;
 #[cfg(linked)]
 mod reports;

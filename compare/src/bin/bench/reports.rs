@@ -1,10 +1,11 @@
 //! Rows of packed figures and reports.
 
+use crate::linked;
 use crate::measure::{best, pass, Bench, INPUTS};
 use desk_compare::random::Random;
 use desk_compare::second::record::{Observation, Report, BYTES};
 use desk_compare::second::{packed, report, write, Refusal};
-use desk_compare::{linked, make, meet, ours};
+use desk_compare::{make, meet, ours};
 use std::hint::black_box;
 
 pub fn rows(bench: &Bench) {

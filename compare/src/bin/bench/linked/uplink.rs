@@ -1,7 +1,7 @@
-//! The calls of what goes up. A call that the archive lacks does not matter as long as nothing uses it.
+//! The calls of what goes up.
 
-use crate::ours::uplink::{Applied, Command, CommandGot, Decided, Settings, Slot};
-use crate::ours::Answer;
+use desk_compare::ours::uplink::{Applied, Command, CommandGot, Decided, Settings, Slot};
+use desk_compare::ours::Answer;
 
 extern "C" {
     fn esk_command_check(text: *const u8, length: usize) -> Answer;
