@@ -1,7 +1,7 @@
 /* Targets of the waiting board. */
 #include "harness.h"
 
-#include <string.h>
+#define MOST_SLOTS 66 /* more than a board may have */
 
 typedef struct board {
     lent slots, area;
@@ -19,21 +19,20 @@ static esk_slot *slots_of(uint8_t *bytes)
  */
 static board take_board(input *from)
 {
-    size_t n = take_byte(from) % 67, odd = take_byte(from), bytes = n * ESK_COMMAND_BYTES;
-    lent pattern = lend_room(bytes + 1);
-    esk_slot slots[66];
+    static uint8_t area[MOST_SLOTS * ESK_COMMAND_BYTES + 1];
+    esk_slot slots[MOST_SLOTS];
+    size_t n = take_byte(from) % (MOST_SLOTS + 1), odd = take_byte(from), bytes = n * ESK_COMMAND_BYTES;
+    fill(area, bytes + 1);
     for (size_t i = 0; i < n; i++) {
         take_into(from, &slots[i], sizeof slots[i]);
         if (slots[i].length <= ESK_COMMAND_BYTES)
-            take_into(from, pattern.ours + i * ESK_COMMAND_BYTES, slots[i].length);
+            take_into(from, area + i * ESK_COMMAND_BYTES, slots[i].length);
     }
-    memcpy(pattern.second, pattern.ours, pattern.length);
     if (odd == 1)
         bytes++;
     else if (odd == 2 && bytes > 0)
         bytes--;
-    board taken = {lend(slots, n * sizeof slots[0]), lend(pattern.ours, bytes), n};
-    give_back("pattern", pattern);
+    board taken = {lend(slots, n * sizeof slots[0]), lend(area, bytes), n};
     return taken;
 }
 

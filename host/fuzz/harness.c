@@ -75,17 +75,19 @@ lent lend_rest(input *from)
     return lend_next(from, from->left);
 }
 
+void fill(uint8_t *to, size_t length)
+{
+    for (size_t i = 0; i < length; i++)
+        to[i] = (uint8_t)(i * 37) ^ 0xa5;
+}
+
 lent lend_room(size_t length)
 {
-    lent what;
-    uint8_t *pattern = malloc(length + 1);
-    if (pattern == NULL)
+    uint8_t pattern[1024];
+    if (length > sizeof pattern)
         abort();
-    for (size_t i = 0; i < length; i++)
-        pattern[i] = (uint8_t)(i * 37) ^ 0xa5;
-    what = lend(pattern, length);
-    free(pattern);
-    return what;
+    fill(pattern, length);
+    return lend(pattern, length);
 }
 
 /* ---- holding ---- */

@@ -19,8 +19,8 @@ uint16_t take_short(input *from);
 uint32_t take_word(input *from);
 void take_into(input *from, void *to, size_t length);
 
-/* The same bytes for each program, each in a heap block of exactly that length: a step over an end is seen by the address
- * sanitizer. An empty block's pointer is one past a block's end, and readable nowhere. */
+/* The same bytes for each program, each in a heap block of exactly that length: a step over an end is seen by the
+ * address sanitizer. An empty block's pointer is one past a block's end, and readable nowhere. */
 typedef struct lent {
     uint8_t *ours, *second;
     size_t length;
@@ -29,7 +29,9 @@ typedef struct lent {
 lent lend(const void *bytes, size_t length);
 lent lend_next(input *from, size_t length); /* the next bytes, or as many as there are */
 lent lend_rest(input *from);
-lent lend_room(size_t length); /* for writing, filled with a pattern */
+lent lend_room(size_t length); /* for writing, filled with the pattern */
+
+void fill(uint8_t *to, size_t length); /* the pattern */
 
 /* Ends the program with both sides shown where they differ. `part` names what is held. */
 void hold(const char *part, const void *ours, const void *second, size_t length);

@@ -1,6 +1,6 @@
 /*
- * second.h: the second program's calls, as compare/second_c exports them. Each means what the call of eskelvor.h with its
- * name says, and shares no code with it.
+ * second.h: the second program's calls, as compare/second_c exports them. Each means what the call of eskelvor.h with
+ * its name says, and shares no code with it.
  */
 #ifndef SECOND_H
 #define SECOND_H
