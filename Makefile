@@ -5,6 +5,8 @@
 # make compare    the archive and the second program on the same inputs; ARGS='--seed 2 --long' and the like
 # make bench      ns per call, ours and the second program's; ROWS=word for the rows whose name has the word
 # make growth     docs/growth.svg: how the cost grows with a text's length and a board's used slots
+# make fuzz       every call beside the second program under libFuzzer; SECONDS_EACH=60 for each; needs clang
+# make replay     the inputs that the fuzzer found, replayed without it
 # make clean      removes all that was built
 
 export CARGO_TARGET_DIR := $(CURDIR)/target/compare
@@ -21,7 +23,7 @@ endif
 # Those that make the proved calls for the comparison, one for each group of calls that it compares.
 programs := answer answer_command answer_config answer_decide answer_join answer_board
 
-.PHONY: all demo report test compare bench growth clean
+.PHONY: all demo report test compare bench growth fuzz replay clean
 
 all: $(archive)
 
@@ -58,6 +60,14 @@ growth: $(native)
 	@target/compare/release/bench growth >target/growth.txt
 	@target/compare/release/plot <target/growth.txt >docs/growth.svg
 	@cat target/growth.txt
+
+SECONDS_EACH ?= 60
+
+fuzz: $(archive)
+	host/fuzz/run all $(SECONDS_EACH)
+
+replay: $(archive)
+	host/fuzz/run replay
 
 clean:
 	rm -rf target
