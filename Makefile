@@ -7,6 +7,7 @@
 # make growth     docs/growth.svg: how the cost grows with a text's length and a board's used slots
 # make fuzz       every call beside the second program under libFuzzer; SECONDS_EACH=60 for each; needs clang
 # make replay     the inputs that the fuzzer found, replayed without it
+# make coverage   the lines of the second program that the comparison reaches; needs llvm-cov, 19 or later
 # make clean      removes all that was built
 
 export CARGO_TARGET_DIR := $(CURDIR)/target/compare
@@ -23,7 +24,7 @@ endif
 # Those that make the proved calls for the comparison, one for each group of calls that it compares.
 programs := answer answer_command answer_config answer_decide answer_join answer_board
 
-.PHONY: all demo report test compare bench growth fuzz replay clean
+.PHONY: all demo report test compare bench growth fuzz replay coverage clean
 
 all: $(archive)
 
@@ -68,6 +69,10 @@ fuzz: $(archive)
 
 replay: $(archive)
 	host/fuzz/run replay
+
+coverage: $(archive)
+	@for program in $(programs); do host/tool build $$program host/test/$$program.c || exit 1; done
+	@compare/coverage $(ARGS)
 
 clean:
 	rm -rf target
