@@ -23,26 +23,26 @@ pub struct Panel {
     curves: Vec<Curve>,
 }
 
-/// The numbers at an axis: from 0 in steps of 1, 2 or 5 times a power of ten, up to or past the most.
+/// The numbers at an axis: from 0 in steps of 1, 2 or 5 times a power of ten, as far as it goes.
 struct Axis {
     step: f64,
-    count: usize,
+    end: f64,
 }
 
 impl Axis {
     fn up_to(most: f64) -> Axis {
         let power = 10f64.powf((most / 5.0).log10().floor());
         let step = [1.0, 2.0, 5.0, 10.0].map(|times| times * power).into_iter().find(|step| step * 6.0 >= most);
-        let step = step.expect("ten times the power is enough");
-        Axis { step, count: (most / step).ceil() as usize }
+        Axis { step: step.expect("ten times the power is enough"), end: most }
     }
 
-    fn end(&self) -> f64 {
-        self.step * self.count as f64
+    /// As far as the next number past the most.
+    fn rounded(self) -> Axis {
+        Axis { end: (self.end / self.step).ceil() * self.step, ..self }
     }
 
     fn ticks(&self) -> impl Iterator<Item = f64> + '_ {
-        (0..=self.count).map(|tick| tick as f64 * self.step)
+        (0..=(self.end / self.step) as usize).map(|tick| tick as f64 * self.step)
     }
 }
 
@@ -62,9 +62,9 @@ impl Panel {
     pub fn drawn(&self) -> String {
         let points = || self.curves.iter().flat_map(|curve| &curve.points);
         let sizes = Axis::up_to(points().map(|(size, _)| *size).fold(1.0, f64::max));
-        let times = Axis::up_to(points().flat_map(|(_, ns)| *ns).fold(1.0, f64::max));
-        let across = |size: f64| LEFT + size / sizes.end() * (RIGHT - LEFT);
-        let up = |ns: f64| BOTTOM - ns / times.end() * (BOTTOM - TOP);
+        let times = Axis::up_to(points().flat_map(|(_, ns)| *ns).fold(1.0, f64::max)).rounded();
+        let across = |size: f64| LEFT + size / sizes.end * (RIGHT - LEFT);
+        let up = |ns: f64| BOTTOM - ns / times.end * (BOTTOM - TOP);
         let mut drawn = self.axes(&sizes, &times, &across, &up);
         let mut free = f64::MAX;
         for (curve, colour) in self.by_height().into_iter().rev().zip(COLOURS) {
