@@ -7,8 +7,6 @@
 pub mod asked;
 pub mod cases;
 pub mod figures;
-#[cfg(target_arch = "x86_64")]
-pub mod linked;
 pub mod make;
 pub mod meet;
 pub mod ours;

@@ -11,8 +11,12 @@ pub enum Lists {
     Empty,
     Few,
     Any,
+    /// So many `PARTS` of a full one.
+    Part(usize),
     Full,
 }
+
+pub const PARTS: usize = 16;
 
 fn length(random: &mut Random, lists: Lists, most: usize) -> usize {
     match lists {
@@ -20,6 +24,7 @@ fn length(random: &mut Random, lists: Lists, most: usize) -> usize {
         Lists::Few => random.below(3),
         Lists::Any if random.percent(20) => random.of(&[0, 1, most - 1, most]),
         Lists::Any => random.below(most + 1),
+        Lists::Part(parts) => most * parts / PARTS,
         Lists::Full => most,
     }
 }

@@ -1,18 +1,23 @@
 //! Rows of the board: 64 slots, all with full commands, or three with typical ones.
 
-use crate::measure::{best, pass, row};
-use desk_compare::linked::uplink as linked;
+use crate::linked::uplink as linked;
+use crate::measure::{best, pass, Bench};
 use desk_compare::make::uplink::{command_of, full_text, text, Lists};
 use desk_compare::meet::uplink as meet;
 use desk_compare::ours;
 use desk_compare::random::Random;
-use desk_compare::second::board::{add, take, Slot, SLOTS};
+use desk_compare::second::board::{add, check, take, Slot, SLOTS};
 use desk_compare::second::settings::MOST;
 use desk_compare::second::Refusal;
 use std::hint::black_box;
 
 /// Calls of a window: a board's validity is 64 texts.
 const CALLS: usize = 16;
+
+#[inline(never)]
+fn second_check(slots: &[Slot], area: &[u8]) -> Result<(), Refusal> {
+    check(slots, area)
+}
 
 #[inline(never)]
 fn second_add(slots: &mut [Slot], area: &mut [u8], of: &[u8], text: &[u8]) -> Result<usize, Refusal> {
@@ -25,7 +30,7 @@ fn second_take(slots: &mut [Slot], area: &[u8], of: &[u8], out: &mut [u8]) -> Re
 }
 
 #[derive(Clone)]
-struct Board {
+pub struct Board {
     slots: Vec<Slot>,
     area: Vec<u8>,
 }
@@ -35,7 +40,7 @@ fn designator(index: usize) -> [u8; 6] {
 }
 
 /// A board whose first slots hold the texts.
-fn board(texts: &[Vec<u8>]) -> Board {
+pub fn board(texts: &[Vec<u8>]) -> Board {
     let mut board = Board { slots: Vec::new(), area: vec![0; SLOTS * MOST] };
     for index in 0..SLOTS {
         let text = texts.get(index).map_or(&[][..], |text| text);
@@ -45,49 +50,74 @@ fn board(texts: &[Vec<u8>]) -> Board {
     board
 }
 
-/// Adds that are joined onto what waits in the last used slot.
-fn add_row(name: &str, board: &Board, used: usize, texts: &[Vec<u8>]) {
-    let of = designator(used - 1);
+/// Checks of the whole board.
+fn checks(board: &Board, calls: usize) -> [f64; 2] {
+    let slots: Vec<ours::uplink::Slot> = board.slots.iter().map(meet::slot).collect();
+    let calls = vec![(); calls];
+    best(
+        || pass(&calls, |()| linked::board_check(black_box(&slots), black_box(&board.area))),
+        || pass(&calls, |()| second_check(black_box(&board.slots), black_box(&board.area))),
+    )
+}
+
+/// Adds that are joined onto what waits in the last used slot. On an empty board each goes into the first one, which is
+/// then freed.
+pub fn adds(board: &Board, used: usize, texts: &[Vec<u8>]) -> [f64; 2] {
+    let last = used.saturating_sub(1);
+    let of = designator(last);
     let (mut slots, mut area): (Vec<ours::uplink::Slot>, _) =
         (board.slots.iter().map(meet::slot).collect(), board.area.clone());
     let mut second = board.clone();
-    let windows = best(
-        || pass(texts, |text| linked::board_add(black_box(&mut slots), black_box(&mut area), &of, text)),
-        || pass(texts, |text| second_add(black_box(&mut second.slots), black_box(&mut second.area), &of, text)),
-    );
-    row(name, texts.len(), None, windows);
+    let mut ours = |text: &Vec<u8>| {
+        let answer = linked::board_add(black_box(&mut slots), black_box(&mut area), &of, text);
+        if used == 0 {
+            slots[last].length = 0;
+        }
+        answer
+    };
+    let mut second = |text: &Vec<u8>| {
+        let answer = second_add(black_box(&mut second.slots), black_box(&mut second.area), &of, text);
+        if used == 0 {
+            second.slots[last].length = 0;
+        }
+        answer
+    };
+    best(|| pass(texts, &mut ours), || pass(texts, &mut second))
 }
 
-/// Takings of what waits in the last used slot; its length is put back after each.
-fn take_row(name: &str, board: &Board, used: usize) {
-    let of = designator(used - 1);
-    let length = board.slots[used - 1].length;
+/// Takings of what waits in the last used slot; its length is put back after each. On an empty board nothing waits.
+pub fn takes(board: &Board, used: usize, calls: usize) -> [f64; 2] {
+    let last = used.saturating_sub(1);
+    let of = designator(last);
+    let length = board.slots[last].length;
     let mut slots: Vec<ours::uplink::Slot> = board.slots.iter().map(meet::slot).collect();
     let mut second = board.clone();
     let (mut out, mut other) = ([0; MOST], [0; MOST]);
-    let ours = |_: &()| {
+    let mut ours = |_: &()| {
         let answer = linked::board_take(black_box(&mut slots), &board.area, &of, black_box(&mut out));
-        slots[used - 1].length = length;
+        slots[last].length = length;
         answer
     };
-    let mut ours = ours;
     let mut second = |_: &()| {
         let answer = second_take(black_box(&mut second.slots), &board.area, &of, black_box(&mut other));
-        second.slots[used - 1].length = length;
+        second.slots[last].length = length;
         answer
     };
-    let windows = best(|| pass(&[(); CALLS], &mut ours), || pass(&[(); CALLS], &mut second));
-    row(name, CALLS, None, windows);
+    let calls = vec![(); calls];
+    best(|| pass(&calls, &mut ours), || pass(&calls, &mut second))
 }
 
-pub fn rows() {
+pub fn rows(bench: &Bench) {
     let mut random = Random::new(1, "bench-board");
     let full: Vec<_> = (0..SLOTS).map(|_| full_text(&mut random)).collect();
     let mut typical = || text(&command_of(&mut random, 0x9d, Lists::Few));
     let few: Vec<_> = (0..3).map(|_| typical()).collect();
     let added: Vec<_> = (0..CALLS).map(|_| typical()).collect();
-    add_row("board add, 64 full slots", &board(&full), SLOTS, &full[..CALLS]);
-    take_row("board take, 64 full slots", &board(&full), SLOTS);
-    add_row("board add, 64 slots, 3 used", &board(&few), 3, &added);
-    take_row("board take, 64 slots, 3 used", &board(&few), 3);
+    let (all, three) = (board(&full), board(&few));
+    bench.row("board check, 64 full slots", CALLS, None, || checks(&all, CALLS));
+    bench.row("board add, 64 full slots", CALLS, None, || adds(&all, SLOTS, &full[..CALLS]));
+    bench.row("board take, 64 full slots", CALLS, None, || takes(&all, SLOTS, CALLS));
+    bench.row("board check, 64 slots, 3 used", CALLS, None, || checks(&three, CALLS));
+    bench.row("board add, 64 slots, 3 used", CALLS, None, || adds(&three, 3, &added));
+    bench.row("board take, 64 slots, 3 used", CALLS, None, || takes(&three, 3, CALLS));
 }

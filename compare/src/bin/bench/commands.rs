@@ -1,7 +1,7 @@
 //! Rows of commands.
 
-use crate::measure::{best, pass, row, INPUTS};
-use desk_compare::linked::uplink as linked;
+use crate::linked::uplink as linked;
+use crate::measure::{best, pass, Bench, INPUTS};
 use desk_compare::make::uplink::{command_of, text, Lists};
 use desk_compare::meet::uplink as meet;
 use desk_compare::random::Random;
@@ -24,6 +24,23 @@ fn second_write(record: &Command, out: &mut [u8]) -> Result<usize, Refusal> {
     spell::write(record, out)
 }
 
+pub fn checks(texts: &[Vec<u8>]) -> [f64; 2] {
+    best(|| pass(texts, |text| linked::command_check(text)), || pass(texts, |text| second_check(text)))
+}
+
+pub fn reads(texts: &[Vec<u8>]) -> [f64; 2] {
+    best(|| pass(texts, |text| linked::command_read(text)), || pass(texts, |text| second_read(text)))
+}
+
+fn writes(records: &[Command]) -> [f64; 2] {
+    let raw: Vec<_> = records.iter().map(meet::command).collect();
+    let (mut one, mut other) = ([0; MOST], [0; MOST]);
+    best(
+        || pass(&raw, |record| linked::command_write(*record, black_box(&mut one))),
+        || pass(records, |record| second_write(record, black_box(&mut other))),
+    )
+}
+
 /// Commands of a size: head alone, about a hundred bytes (every section, few entries), full.
 fn sizes(random: &mut Random) -> [(&'static str, Vec<Command>); 3] {
     let mut many = |bits, lists| (0..INPUTS).map(|_| command_of(random, bits, lists)).collect();
@@ -34,23 +51,13 @@ fn sizes(random: &mut Random) -> [(&'static str, Vec<Command>); 3] {
     ]
 }
 
-pub fn rows() {
+pub fn rows(bench: &Bench) {
     let mut random = Random::new(1, "bench-command");
     for (size, records) in sizes(&mut random) {
         let texts: Vec<Vec<u8>> = records.iter().map(text).collect();
         let bytes = Some(texts.iter().map(Vec::len).sum::<usize>() / INPUTS);
-        let windows =
-            best(|| pass(&texts, |text| linked::command_check(text)), || pass(&texts, |text| second_check(text)));
-        row(&format!("command check, {size}"), INPUTS, bytes, windows);
-        let windows =
-            best(|| pass(&texts, |text| linked::command_read(text)), || pass(&texts, |text| second_read(text)));
-        row(&format!("command read, {size}"), INPUTS, bytes, windows);
-        let raw: Vec<_> = records.iter().map(meet::command).collect();
-        let (mut one, mut other) = ([0; MOST], [0; MOST]);
-        let windows = best(
-            || pass(&raw, |record| linked::command_write(*record, black_box(&mut one))),
-            || pass(&records, |record| second_write(record, black_box(&mut other))),
-        );
-        row(&format!("command write, {size}"), INPUTS, bytes, windows);
+        bench.row(&format!("command check, {size}"), INPUTS, bytes, || checks(&texts));
+        bench.row(&format!("command read, {size}"), INPUTS, bytes, || reads(&texts));
+        bench.row(&format!("command write, {size}"), INPUTS, bytes, || writes(&records));
     }
 }

@@ -1,13 +1,18 @@
 //! Rows of the configuration: validity, and commands applied in place to one that stays as the call before left it.
 
-use crate::measure::{best, pass, row, INPUTS};
-use desk_compare::linked::uplink as linked;
+use crate::linked::uplink as linked;
+use crate::measure::{best, pass, Bench, INPUTS};
 use desk_compare::make::uplink::{command_of, configuration_of, short_command, text, Lists};
 use desk_compare::meet::uplink as meet;
 use desk_compare::random::Random;
 use desk_compare::second::settings::Configuration;
 use desk_compare::second::{config, Refusal};
 use std::hint::black_box;
+
+#[inline(never)]
+fn second_reset() -> Configuration {
+    config::reset()
+}
 
 #[inline(never)]
 fn second_valid(configuration: &Configuration) -> bool {
@@ -19,28 +24,32 @@ fn second_apply(configuration: &mut Configuration, text: &[u8]) -> Result<u8, Re
     config::apply(configuration, text)
 }
 
-fn apply_row(name: &str, held: &Configuration, texts: &[Vec<u8>]) {
+fn applies(held: &Configuration, texts: &[Vec<u8>]) -> [f64; 2] {
     let (mut one, mut other) = (meet::configuration(held), *held);
-    let windows = best(
+    best(
         || pass(texts, |text| linked::apply(black_box(&mut one), text)),
         || pass(texts, |text| second_apply(black_box(&mut other), text)),
-    );
-    row(name, texts.len(), None, windows);
+    )
 }
 
-pub fn rows() {
+pub fn rows(bench: &Bench) {
     let mut random = Random::new(1, "bench-config");
+    let calls = [(); INPUTS];
+    bench.row("reset", INPUTS, None, || {
+        best(|| pass(&calls, |()| linked::reset()), || pass(&calls, |()| second_reset()))
+    });
     let reset = config::reset();
     let full = configuration_of(&mut random, Lists::Full);
     for (name, held) in [("validity after reset", reset), ("validity, full lists", full)] {
         let (one, other) = (vec![meet::configuration(&held); INPUTS], vec![held; INPUTS]);
-        let windows = best(|| pass(&one, |held| linked::settings_valid(*held)), || pass(&other, second_valid));
-        row(name, INPUTS, None, windows);
+        bench.row(name, INPUTS, None, || {
+            best(|| pass(&one, |held| linked::settings_valid(*held)), || pass(&other, second_valid))
+        });
     }
     let short: Vec<_> = (0..INPUTS).map(|_| text(&short_command(&mut random))).collect();
-    apply_row("apply in place, short commands after reset", &reset, &short);
+    bench.row("apply in place, short commands after reset", INPUTS, None, || applies(&reset, &short));
     let flags: Vec<_> = (0..INPUTS).map(|_| text(&command_of(&mut random, 0, Lists::Empty))).collect();
-    apply_row("apply in place, flags alone, full lists held", &full, &flags);
+    bench.row("apply in place, flags alone, full lists held", INPUTS, None, || applies(&full, &flags));
     let long: Vec<_> = (0..INPUTS).map(|_| text(&command_of(&mut random, 0xff, Lists::Full))).collect();
-    apply_row("apply in place, 835 bytes, full lists held", &full, &long);
+    bench.row("apply in place, 835 bytes, full lists held", INPUTS, None, || applies(&full, &long));
 }

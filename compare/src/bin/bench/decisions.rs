@@ -1,7 +1,7 @@
 //! Rows of decisions.
 
-use crate::measure::{best, pass, row, INPUTS};
-use desk_compare::linked::uplink as linked;
+use crate::linked::uplink as linked;
+use crate::measure::{best, pass, Bench, INPUTS};
 use desk_compare::make::uplink::{airfield, configuration_of, edge, Lists};
 use desk_compare::meet::uplink as meet;
 use desk_compare::ours::uplink::Settings;
@@ -31,7 +31,7 @@ fn full(random: &mut Random) -> Configuration {
     held
 }
 
-pub fn rows() {
+pub fn rows(bench: &Bench) {
     let mut random = Random::new(1, "bench-decide");
     for (name, held) in [("decide, full lists", full(&mut random)), ("decide, after reset", config::reset())] {
         let names: Vec<[u8; 4]> = (0..INPUTS).map(|_| airfield(&mut random)).collect();
@@ -48,7 +48,8 @@ pub fn rows() {
             let Question { phase, hour, latitude, longitude, airfield } = *question;
             linked::decide(settings, [phase, hour], [latitude, longitude], airfield)
         };
-        let windows = best(|| pass(&questions, ours), || pass(&questions, |question| second_decide(&held, question)));
-        row(name, INPUTS, None, windows);
+        bench.row(name, INPUTS, None, || {
+            best(|| pass(&questions, ours), || pass(&questions, |question| second_decide(&held, question)))
+        });
     }
 }

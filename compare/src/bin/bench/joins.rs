@@ -1,7 +1,7 @@
 //! Rows of joins.
 
-use crate::measure::{best, pass, row, INPUTS};
-use desk_compare::linked::uplink as linked;
+use crate::linked::uplink as linked;
+use crate::measure::{best, pass, Bench, INPUTS};
 use desk_compare::make::uplink::{command_of, text, Lists};
 use desk_compare::random::Random;
 use desk_compare::second::join::{join, Fault};
@@ -13,7 +13,16 @@ fn second_join(first: &[u8], second: &[u8], out: &mut [u8]) -> Result<usize, Fau
     join(first, second, out)
 }
 
-pub fn rows() {
+/// Joins of pairs of texts.
+pub fn joins<T: AsRef<[u8]>>(pairs: &[[T; 2]]) -> [f64; 2] {
+    let (mut out, mut other) = ([0; MOST], [0; MOST]);
+    best(
+        || pass(pairs, |[first, second]| linked::join(first.as_ref(), second.as_ref(), black_box(&mut out))),
+        || pass(pairs, |[first, second]| second_join(first.as_ref(), second.as_ref(), black_box(&mut other))),
+    )
+}
+
+pub fn rows(bench: &Bench) {
     let mut random = Random::new(1, "bench-join");
     for (name, bits, lists) in [
         ("join, two short commands (22 bytes)", 0, Lists::Empty),
@@ -23,11 +32,6 @@ pub fn rows() {
         let mut one = || text(&command_of(&mut random, bits, lists));
         let pairs: Vec<[Vec<u8>; 2]> = (0..INPUTS).map(|_| [one(), one()]).collect();
         let bytes = pairs.iter().flatten().map(Vec::len).sum::<usize>() / INPUTS;
-        let (mut out, mut other) = ([0; MOST], [0; MOST]);
-        let windows = best(
-            || pass(&pairs, |[first, second]| linked::join(first, second, black_box(&mut out))),
-            || pass(&pairs, |[first, second]| second_join(first, second, black_box(&mut other))),
-        );
-        row(name, INPUTS, Some(bytes), windows);
+        bench.row(name, INPUTS, Some(bytes), || joins(&pairs));
     }
 }

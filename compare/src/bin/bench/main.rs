@@ -1,39 +1,45 @@
-//! The benchmark: ns per call of the proved calls and of the second program, and their ratio, from one run. The rows of a
-//! group of calls are there where Cargo.toml lists it as a feature: the archive then has its calls.
+//! The benchmark: ns per call of the proved calls and of the second program, and their ratio, from one run. It needs an
+//! archive for this machine (build.rs), which `make bench` makes first.
+//!
+//! bench [WORD]    every row, or those whose name has the word
+//! bench growth    how the cost grows with the length of a text and with the used slots of a board
 
-#[cfg(all(target_arch = "x86_64", feature = "board"))]
+#[cfg(linked)]
 mod boards;
-#[cfg(all(target_arch = "x86_64", feature = "command"))]
+#[cfg(linked)]
 mod commands;
-#[cfg(all(target_arch = "x86_64", feature = "config"))]
+#[cfg(linked)]
 mod configs;
-#[cfg(all(target_arch = "x86_64", feature = "decide"))]
+#[cfg(linked)]
 mod decisions;
-#[cfg(all(target_arch = "x86_64", feature = "join"))]
+#[cfg(linked)]
+mod growth;
+#[cfg(linked)]
 mod joins;
-#[cfg(target_arch = "x86_64")]
+#[cfg(linked)]
+mod linked;
+#[cfg(linked)]
 mod measure;
-#[cfg(target_arch = "x86_64")]
+#[cfg(linked)]
 mod reports;
 
-#[cfg(target_arch = "x86_64")]
+#[cfg(linked)]
 fn main() {
-    measure::head();
-    reports::rows();
-    #[cfg(feature = "command")]
-    commands::rows();
-    #[cfg(feature = "config")]
-    configs::rows();
-    #[cfg(feature = "decide")]
-    decisions::rows();
-    #[cfg(feature = "join")]
-    joins::rows();
-    #[cfg(feature = "board")]
-    boards::rows();
+    let word = std::env::args().nth(1).unwrap_or_default();
+    if word == "growth" {
+        return growth::table();
+    }
+    let bench = measure::Bench::start(word);
+    reports::rows(&bench);
+    commands::rows(&bench);
+    configs::rows(&bench);
+    decisions::rows(&bench);
+    joins::rows(&bench);
+    boards::rows(&bench);
 }
 
-#[cfg(not(target_arch = "x86_64"))]
+#[cfg(not(linked))]
 fn main() {
-    println!("bench: the proved archive is for x86-64, and a time under an emulator says nothing: run this on x86-64");
+    eprintln!("bench: built without an archive for this machine: 'make bench' makes one first");
     std::process::exit(2);
 }

@@ -15,12 +15,32 @@ the best window of 3000, or of as many as fit into 3 seconds, divided by its cal
 left them, not cleared. Answers go through black_box. ratio = ours / second: below 1.00 ours is the quicker.
 ";
 
-pub fn head() {
-    println!("{METHOD}");
-    println!(
-        "{:<44} {:>9} {:>9} {:>7} {:>10} {:>10}",
-        "row", "ours ns", "second ns", "ratio", "ours MB/s", "second MB/s"
-    );
+/// A run: the rows whose name has a word.
+pub struct Bench {
+    word: String,
+}
+
+impl Bench {
+    /// Prints what stands above the rows.
+    pub fn start(word: String) -> Bench {
+        println!("{METHOD}\nprocessor: {}\n", std::env::consts::ARCH);
+        println!(
+            "{:<44} {:>9} {:>9} {:>7} {:>10} {:>10}",
+            "row", "ours ns", "second ns", "ratio", "ours MB/s", "second MB/s"
+        );
+        Bench { word }
+    }
+
+    /// Measures and prints a row that is wanted; a window has so many calls. `bytes` is the text of one call where its
+    /// rate means something.
+    pub fn row(&self, name: &str, calls: usize, bytes: Option<usize>, windows: impl FnOnce() -> [f64; 2]) {
+        if !name.contains(&self.word) {
+            return;
+        }
+        let [ours, second] = windows().map(|window| window / calls as f64);
+        let rate = |ns: f64| bytes.map_or(String::new(), |bytes| format!("{:.0}", bytes as f64 / ns * 1000.0));
+        println!("{name:<44} {ours:>9.2} {second:>9.2} {:>7.2} {:>10} {:>10}", ours / second, rate(ours), rate(second));
+    }
 }
 
 /// Nanoseconds of the best window of each program.
@@ -48,11 +68,4 @@ pub fn pass<I, A>(inputs: &[I], mut call: impl FnMut(&I) -> A) {
     for input in inputs {
         black_box(&call(black_box(input)));
     }
-}
-
-/// Prints a row; `bytes` is the text of one call where its rate means something.
-pub fn row(name: &str, calls: usize, bytes: Option<usize>, windows: [f64; 2]) {
-    let [ours, second] = windows.map(|window| window / calls as f64);
-    let rate = |ns: f64| bytes.map_or(String::new(), |bytes| format!("{:.0}", bytes as f64 / ns * 1000.0));
-    println!("{name:<44} {ours:>9.2} {second:>9.2} {:>7.2} {:>10} {:>10}", ours / second, rate(ours), rate(second));
 }

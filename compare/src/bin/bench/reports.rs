@@ -1,15 +1,16 @@
 //! Rows of packed figures and reports.
 
-use crate::measure::{best, pass, row, INPUTS};
+use crate::linked;
+use crate::measure::{best, pass, Bench, INPUTS};
 use desk_compare::random::Random;
 use desk_compare::second::record::{Observation, Report, BYTES};
 use desk_compare::second::{packed, report, write, Refusal};
-use desk_compare::{linked, make, meet, ours};
+use desk_compare::{make, meet, ours};
 use std::hint::black_box;
 
-pub fn rows() {
-    packed_rows();
-    report_rows();
+pub fn rows(bench: &Bench) {
+    packed_rows(bench);
+    report_rows(bench);
 }
 
 // The second program's calls, kept apart from the loops that time them as the archive's are.
@@ -51,21 +52,23 @@ fn packed_fields(random: &mut Random) -> Vec<(Option<i32>, Vec<u8>)> {
     (0..INPUTS).map(field).collect()
 }
 
-fn packed_rows() {
+fn packed_rows(bench: &Bench) {
     let fields = packed_fields(&mut Random::new(1, "bench-packed"));
-    let windows = best(
-        || pass(&fields, |(_, field)| linked::packed_read(field)),
-        || pass(&fields, |(_, field)| second_packed_read(field)),
-    );
-    row("packed read (256 valid fields)", INPUTS, None, windows);
+    bench.row("packed read (256 valid fields)", INPUTS, None, || {
+        best(
+            || pass(&fields, |(_, field)| linked::packed_read(field)),
+            || pass(&fields, |(_, field)| second_packed_read(field)),
+        )
+    });
     let figures: Vec<_> = fields.iter().map(|(figure, field)| (*figure, field.len())).collect();
     let raw: Vec<_> = figures.iter().map(|(figure, width)| (meet::figure(*figure), *width)).collect();
     let (mut one, mut other) = ([0; 8], [0; 8]);
-    let windows = best(
-        || pass(&raw, |(figure, width)| linked::packed_write(*figure, *width, black_box(&mut one))),
-        || pass(&figures, |(figure, width)| second_packed_write(*figure, *width, black_box(&mut other))),
-    );
-    row("packed write (256 figures)", INPUTS, None, windows);
+    bench.row("packed write (256 figures)", INPUTS, None, || {
+        best(
+            || pass(&raw, |(figure, width)| linked::packed_write(*figure, *width, black_box(&mut one))),
+            || pass(&figures, |(figure, width)| second_packed_write(*figure, *width, black_box(&mut other))),
+        )
+    });
 }
 
 /// An observation as aircraft send them; `lost` figures in a hundred are missing.
@@ -97,25 +100,26 @@ fn typical(random: &mut Random) -> Report {
     Report { departure: *b"YMML", arrival: *b"YPAD", designator: *b"AU0137", first, later: std::array::from_fn(later) }
 }
 
-fn report_rows() {
+fn report_rows(bench: &Bench) {
     let mut random = Random::new(1, "bench-report");
     let records: Vec<Report> = (0..INPUTS).map(|_| typical(&mut random)).collect();
     let texts: Vec<[u8; BYTES]> = records.iter().map(make::text).collect();
     let full = [make::text(&make::record_of(&mut random, 7, 0)); 64];
-    check_row("report check (256 typical reports)", &texts);
-    check_row("report check (one report, all figures given)", &full);
-    let windows = best(|| pass(&texts, |text| linked::report_read(text)), || pass(&texts, |text| second_read(text)));
-    row("report read (256 typical reports)", INPUTS, Some(BYTES), windows);
+    bench.row("report check (256 typical reports)", INPUTS, Some(BYTES), || checks(&texts));
+    bench.row("report check (one report, all figures given)", full.len(), Some(BYTES), || checks(&full));
+    bench.row("report read (256 typical reports)", INPUTS, Some(BYTES), || {
+        best(|| pass(&texts, |text| linked::report_read(text)), || pass(&texts, |text| second_read(text)))
+    });
     let raw: Vec<ours::Report> = records.iter().map(meet::record).collect();
     let (mut one, mut other) = ([0; 256], [0; 256]);
-    let windows = best(
-        || pass(&raw, |record| linked::report_write(*record, black_box(&mut one))),
-        || pass(&records, |record| second_write(record, black_box(&mut other))),
-    );
-    row("report write (256 typical records)", INPUTS, Some(BYTES), windows);
+    bench.row("report write (256 typical records)", INPUTS, Some(BYTES), || {
+        best(
+            || pass(&raw, |record| linked::report_write(*record, black_box(&mut one))),
+            || pass(&records, |record| second_write(record, black_box(&mut other))),
+        )
+    });
 }
 
-fn check_row(name: &str, texts: &[[u8; BYTES]]) {
-    let windows = best(|| pass(texts, |text| linked::report_check(text)), || pass(texts, |text| second_check(text)));
-    row(name, texts.len(), Some(BYTES), windows);
+fn checks(texts: &[[u8; BYTES]]) -> [f64; 2] {
+    best(|| pass(texts, |text| linked::report_check(text)), || pass(texts, |text| second_check(text)))
 }

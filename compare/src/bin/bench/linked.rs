@@ -1,8 +1,8 @@
-//! The proved calls, linked into this program: for the benchmark, on x86-64 alone, which the archive is for.
+//! The proved calls, linked into this program.
 
 pub mod uplink;
 
-use crate::ours::{Answer, Figure, Packed, Report, ReportGot};
+use desk_compare::ours::{Answer, Figure, Packed, Report, ReportGot};
 
 extern "C" {
     fn esk_packed_read(field: *const u8, length: usize) -> Packed;

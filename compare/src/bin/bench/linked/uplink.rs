@@ -1,12 +1,13 @@
-//! The calls of what goes up. A call that the archive lacks does not matter as long as nothing uses it.
+//! The calls of what goes up.
 
-use crate::ours::uplink::{Applied, Command, CommandGot, Decided, Settings, Slot};
-use crate::ours::Answer;
+use desk_compare::ours::uplink::{Applied, Command, CommandGot, Decided, Settings, Slot};
+use desk_compare::ours::Answer;
 
 extern "C" {
     fn esk_command_check(text: *const u8, length: usize) -> Answer;
     fn esk_command_read(text: *const u8, length: usize) -> CommandGot;
     fn esk_command_write(command: Command, out: *mut u8, room: usize) -> Answer;
+    fn esk_reset() -> Settings;
     fn esk_settings_valid(settings: Settings) -> u8;
     fn esk_apply(settings: *mut Settings, text: *const u8, length: usize) -> Applied;
     fn esk_decide(
@@ -26,6 +27,7 @@ extern "C" {
         out: *mut u8,
         room: usize,
     ) -> Answer;
+    fn esk_board_check(slots: *const Slot, n: usize, area: *const u8, area_length: usize) -> Answer;
     fn esk_board_add(
         slots: *mut Slot,
         n: usize,
@@ -64,6 +66,11 @@ pub fn command_write(command: Command, out: &mut [u8]) -> Answer {
 }
 
 #[inline(always)]
+pub fn reset() -> Settings {
+    unsafe { esk_reset() }
+}
+
+#[inline(always)]
 pub fn settings_valid(settings: Settings) -> u8 {
     unsafe { esk_settings_valid(settings) }
 }
@@ -82,6 +89,11 @@ pub fn decide(settings: Settings, [phase, hour]: [u8; 2], [north, east]: [i32; 2
 #[inline(always)]
 pub fn join(first: &[u8], second: &[u8], out: &mut [u8]) -> Answer {
     unsafe { esk_join(first.as_ptr(), first.len(), second.as_ptr(), second.len(), out.as_mut_ptr(), out.len()) }
+}
+
+#[inline(always)]
+pub fn board_check(slots: &[Slot], area: &[u8]) -> Answer {
+    unsafe { esk_board_check(slots.as_ptr(), slots.len(), area.as_ptr(), area.len()) }
 }
 
 #[inline(always)]

@@ -1,0 +1,135 @@
+//! The calls of what goes up: commands, the configuration, the decision, the join and the board.
+
+use super::{lent, lent_mut};
+use desk_compare::meet::{self, uplink as meet_up};
+use desk_compare::ours::uplink::{Applied, Command, CommandGot, Decided, Settings, Slot};
+use desk_compare::ours::Answer;
+use desk_compare::second::decide::Question;
+use desk_compare::second::{board, command, config, decide, join, spell};
+
+/// # Safety
+/// As `lent` and `lent_mut` of each byte string; so it is for every call below.
+#[no_mangle]
+pub unsafe extern "C" fn second_command_check(text: *const u8, length: usize) -> Answer {
+    meet::answer(command::check(lent(text, length)).map(|()| 0))
+}
+
+/// # Safety
+/// As above.
+#[no_mangle]
+pub unsafe extern "C" fn second_command_read(text: *const u8, length: usize) -> CommandGot {
+    meet_up::got(&command::read(lent(text, length)))
+}
+
+/// # Safety
+/// As above.
+#[no_mangle]
+pub unsafe extern "C" fn second_command_write(command: Command, out: *mut u8, room: usize) -> Answer {
+    meet::answer(spell::write(&meet_up::meant_command(&command), lent_mut(out, room)))
+}
+
+#[no_mangle]
+pub extern "C" fn second_reset() -> Settings {
+    meet_up::configuration(&config::reset())
+}
+
+#[no_mangle]
+pub extern "C" fn second_settings_valid(settings: Settings) -> u8 {
+    config::valid(&meet_up::meant_settings(&settings)).into()
+}
+
+/// # Safety
+/// As above; `settings` is one record.
+#[no_mangle]
+pub unsafe extern "C" fn second_apply(settings: *mut Settings, text: *const u8, length: usize) -> Applied {
+    let mut held = meet_up::meant_settings(&*settings);
+    let answer = meet_up::applied(config::apply(&mut held, lent(text, length)));
+    *settings = meet_up::configuration(&held);
+    answer
+}
+
+/// # Safety
+/// As above.
+#[no_mangle]
+pub unsafe extern "C" fn second_decide(
+    settings: Settings,
+    phase: u8,
+    latitude: i32,
+    longitude: i32,
+    hour: u8,
+    airfield: *const u8,
+    length: usize,
+) -> Decided {
+    let question = Question { phase, latitude, longitude, hour, airfield: lent(airfield, length) };
+    meet_up::decided(decide::decide(&meet_up::meant_settings(&settings), &question))
+}
+
+/// # Safety
+/// As above.
+#[no_mangle]
+pub unsafe extern "C" fn second_join(
+    first: *const u8,
+    first_length: usize,
+    second: *const u8,
+    second_length: usize,
+    out: *mut u8,
+    room: usize,
+) -> Answer {
+    meet_up::joined(join::join(lent(first, first_length), lent(second, second_length), lent_mut(out, room)))
+}
+
+/// The second program's slots, and the caller's as a call left them.
+///
+/// # Safety
+/// As above.
+unsafe fn with_slots<T>(slots: *mut Slot, n: usize, call: impl FnOnce(&mut [board::Slot]) -> T) -> T {
+    let slots = lent_mut(slots, n);
+    let mut held: Vec<board::Slot> = slots.iter().map(meet_up::meant_slot).collect();
+    let answer = call(&mut held);
+    for (slot, held) in slots.iter_mut().zip(&held) {
+        *slot = meet_up::slot(held);
+    }
+    answer
+}
+
+/// # Safety
+/// As above.
+#[no_mangle]
+pub unsafe extern "C" fn second_board_check(slots: *const Slot, n: usize, area: *const u8, bytes: usize) -> Answer {
+    let slots: Vec<board::Slot> = lent(slots, n).iter().map(meet_up::meant_slot).collect();
+    meet::answer(board::check(&slots, lent(area, bytes)).map(|()| 0))
+}
+
+/// # Safety
+/// As above.
+#[no_mangle]
+pub unsafe extern "C" fn second_board_add(
+    slots: *mut Slot,
+    n: usize,
+    area: *mut u8,
+    area_length: usize,
+    designator: *const u8,
+    designator_length: usize,
+    text: *const u8,
+    length: usize,
+) -> Answer {
+    let (area, designator) = (lent_mut(area, area_length), lent(designator, designator_length));
+    meet::answer(with_slots(slots, n, |slots| board::add(slots, area, designator, lent(text, length))))
+}
+
+/// # Safety
+/// As above.
+#[no_mangle]
+pub unsafe extern "C" fn second_board_take(
+    slots: *mut Slot,
+    n: usize,
+    area: *const u8,
+    area_length: usize,
+    designator: *const u8,
+    designator_length: usize,
+    out: *mut u8,
+    room: usize,
+) -> Answer {
+    let (area, designator) = (lent(area, area_length), lent(designator, designator_length));
+    meet::answer(with_slots(slots, n, |slots| board::take(slots, area, designator, lent_mut(out, room))))
+}

@@ -1,0 +1,94 @@
+/* Targets of the waiting board. */
+#include "harness.h"
+
+#define MOST_SLOTS 66 /* more than a board may have */
+
+typedef struct board {
+    lent slots, area;
+    size_t n;
+} board;
+
+static esk_slot *slots_of(uint8_t *bytes)
+{
+    return (esk_slot *)(void *)bytes;
+}
+
+/*
+ * The number of slots, up to 66; what the area has more or less than 835 bytes for each (1: one more, 2: one less, else
+ * nothing); then each slot, followed by its text where its length is up to 835. All else in the area is a pattern.
+ */
+static board take_board(input *from)
+{
+    static uint8_t area[MOST_SLOTS * ESK_COMMAND_BYTES + 1];
+    esk_slot slots[MOST_SLOTS];
+    size_t n = take_byte(from) % (MOST_SLOTS + 1), odd = take_byte(from), bytes = n * ESK_COMMAND_BYTES;
+    fill(area, bytes + 1);
+    for (size_t i = 0; i < n; i++) {
+        take_into(from, &slots[i], sizeof slots[i]);
+        if (slots[i].length <= ESK_COMMAND_BYTES)
+            take_into(from, area + i * ESK_COMMAND_BYTES, slots[i].length);
+    }
+    if (odd == 1)
+        bytes++;
+    else if (odd == 2 && bytes > 0)
+        bytes--;
+    board taken = {lend(slots, n * sizeof slots[0]), lend(area, bytes), n};
+    return taken;
+}
+
+static void give_board_back(board what)
+{
+    give_back("slots", what.slots);
+    give_back("area", what.area);
+}
+
+/* Board. */
+static void board_check(input from)
+{
+    board on = take_board(&from);
+    esk_answer ours = esk_board_check(slots_of(on.slots.ours), on.n, on.area.ours, on.area.length);
+    esk_answer second = second_board_check(slots_of(on.slots.second), on.n, on.area.second, on.area.length);
+    hold("answer", &ours, &second, sizeof ours);
+    give_board_back(on);
+}
+
+/* Length of the designator, designator, board, text. */
+static void board_add(input from)
+{
+    size_t length = take_byte(&from) % 9;
+    lent of = lend_next(&from, length);
+    board on = take_board(&from);
+    lent text = lend_rest(&from);
+    esk_answer ours = esk_board_add(slots_of(on.slots.ours), on.n, on.area.ours, on.area.length, of.ours, of.length,
+                                    text.ours, text.length);
+    esk_answer second = second_board_add(slots_of(on.slots.second), on.n, on.area.second, on.area.length, of.second,
+                                         of.length, text.second, text.length);
+    hold("answer", &ours, &second, sizeof ours);
+    give_back("designator", of);
+    give_board_back(on);
+    give_back("text", text);
+}
+
+/* Length of the designator, designator, room, board. */
+static void board_take(input from)
+{
+    size_t length = take_byte(&from) % 9;
+    lent of = lend_next(&from, length);
+    lent out = lend_room(take_short(&from) % 1024);
+    board on = take_board(&from);
+    esk_answer ours = esk_board_take(slots_of(on.slots.ours), on.n, on.area.ours, on.area.length, of.ours, of.length,
+                                     out.ours, out.length);
+    esk_answer second = second_board_take(slots_of(on.slots.second), on.n, on.area.second, on.area.length, of.second,
+                                          of.length, out.second, out.length);
+    hold("answer", &ours, &second, sizeof ours);
+    give_back("designator", of);
+    give_board_back(on);
+    give_back("out", out);
+}
+
+const target board_targets[] = {
+    {"esk_board_check", "answer slots area", board_check},
+    {"esk_board_add", "answer designator slots area text", board_add},
+    {"esk_board_take", "answer designator slots area out", board_take},
+    {NULL, NULL, NULL},
+};

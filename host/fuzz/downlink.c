@@ -1,0 +1,68 @@
+/* Targets of what comes down: packed figures and reports. */
+#include "harness.h"
+
+/* The input is the field. */
+static void packed_read(input from)
+{
+    lent field = lend_rest(&from);
+    esk_packed ours = esk_packed_read(field.ours, field.length);
+    esk_packed second = second_packed_read(field.second, field.length);
+    hold("answer", &ours, &second, sizeof ours);
+    give_back("field", field);
+}
+
+/* Number, given, width, room. */
+static void packed_write(input from)
+{
+    esk_figure figure;
+    figure.number = (int32_t)take_word(&from);
+    figure.given = take_word(&from);
+    size_t width = take_byte(&from);
+    lent out = lend_room(take_byte(&from));
+    esk_answer ours = esk_packed_write(figure, width, out.ours, out.length);
+    esk_answer second = second_packed_write(figure, width, out.second, out.length);
+    hold("answer", &ours, &second, sizeof ours);
+    give_back("out", out);
+}
+
+/* The input is the text. */
+static void report_check(input from)
+{
+    lent text = lend_rest(&from);
+    esk_answer ours = esk_report_check(text.ours, text.length);
+    esk_answer second = second_report_check(text.second, text.length);
+    hold("answer", &ours, &second, sizeof ours);
+    give_back("text", text);
+}
+
+/* The input is the text. */
+static void report_read(input from)
+{
+    lent text = lend_rest(&from);
+    esk_report_got ours = esk_report_read(text.ours, text.length);
+    esk_report_got second = second_report_read(text.second, text.length);
+    hold("answer", &ours.answer, &second.answer, sizeof ours.answer);
+    hold("report", &ours.report, &second.report, sizeof ours.report);
+    give_back("text", text);
+}
+
+/* Room, record. */
+static void report_write(input from)
+{
+    lent out = lend_room(take_byte(&from));
+    esk_report report;
+    take_into(&from, &report, sizeof report);
+    esk_answer ours = esk_report_write(report, out.ours, out.length);
+    esk_answer second = second_report_write(report, out.second, out.length);
+    hold("answer", &ours, &second, sizeof ours);
+    give_back("out", out);
+}
+
+const target downlink_targets[] = {
+    {"esk_packed_read", "answer field", packed_read},
+    {"esk_packed_write", "answer out", packed_write},
+    {"esk_report_check", "answer text", report_check},
+    {"esk_report_read", "answer report text", report_read},
+    {"esk_report_write", "answer out", report_write},
+    {NULL, NULL, NULL},
+};

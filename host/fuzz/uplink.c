@@ -1,0 +1,114 @@
+/* Targets of what goes up: commands, the configuration, the decision and the join. */
+#include "harness.h"
+
+/* A room for a command: up to 1023 bytes, past the longest one. */
+static lent command_room(input *from)
+{
+    return lend_room(take_short(from) % 1024);
+}
+
+/* The input is the text. */
+static void command_check(input from)
+{
+    lent text = lend_rest(&from);
+    esk_answer ours = esk_command_check(text.ours, text.length);
+    esk_answer second = second_command_check(text.second, text.length);
+    hold("answer", &ours, &second, sizeof ours);
+    give_back("text", text);
+}
+
+/* The input is the text. The record's last byte is padding, and nobody's. */
+static void command_read(input from)
+{
+    lent text = lend_rest(&from);
+    esk_command_got ours = esk_command_read(text.ours, text.length);
+    esk_command_got second = second_command_read(text.second, text.length);
+    hold("answer", &ours.answer, &second.answer, sizeof ours.answer);
+    hold("command", &ours.command, &second.command, offsetof(esk_command, named) + sizeof ours.command.named);
+    give_back("text", text);
+}
+
+/* Room, record. */
+static void command_write(input from)
+{
+    lent out = command_room(&from);
+    esk_command command;
+    take_into(&from, &command, sizeof command);
+    esk_answer ours = esk_command_write(command, out.ours, out.length);
+    esk_answer second = second_command_write(command, out.second, out.length);
+    hold("answer", &ours, &second, sizeof ours);
+    give_back("out", out);
+}
+
+/* There is nothing to hand over. */
+static void reset(input from)
+{
+    esk_settings ours = esk_reset();
+    esk_settings second = second_reset();
+    (void)from;
+    hold("settings", &ours, &second, sizeof ours);
+}
+
+/* Configuration. */
+static void settings_valid(input from)
+{
+    esk_settings settings;
+    take_into(&from, &settings, sizeof settings);
+    uint8_t ours = esk_settings_valid(settings);
+    uint8_t second = second_settings_valid(settings);
+    hold("answer", &ours, &second, sizeof ours);
+}
+
+/* Configuration, text. */
+static void apply(input from)
+{
+    esk_settings held;
+    take_into(&from, &held, sizeof held);
+    lent settings = lend(&held, sizeof held);
+    lent text = lend_rest(&from);
+    esk_applied ours = esk_apply((esk_settings *)settings.ours, text.ours, text.length);
+    esk_applied second = second_apply((esk_settings *)settings.second, text.second, text.length);
+    hold("answer", &ours, &second, sizeof ours);
+    give_back("settings", settings);
+    give_back("text", text);
+}
+
+/* Configuration, phase, hour, latitude, longitude, airfield. */
+static void decide(input from)
+{
+    esk_settings settings;
+    take_into(&from, &settings, sizeof settings);
+    uint8_t phase = take_byte(&from), hour = take_byte(&from);
+    int32_t latitude = (int32_t)take_word(&from), longitude = (int32_t)take_word(&from);
+    lent airfield = lend_rest(&from);
+    esk_decided ours = esk_decide(settings, phase, latitude, longitude, hour, airfield.ours, airfield.length);
+    esk_decided second = second_decide(settings, phase, latitude, longitude, hour, airfield.second, airfield.length);
+    hold("answer", &ours, &second, sizeof ours);
+    give_back("airfield", airfield);
+}
+
+/* Room, length of the first text, both texts. */
+static void join(input from)
+{
+    lent out = command_room(&from);
+    size_t length = take_short(&from);
+    lent first = lend_next(&from, length), then = lend_rest(&from);
+    esk_answer ours = esk_join(first.ours, first.length, then.ours, then.length, out.ours, out.length);
+    esk_answer second = second_join(first.second, first.length, then.second, then.length, out.second, out.length);
+    hold("answer", &ours, &second, sizeof ours);
+    give_back("first", first);
+    give_back("second", then);
+    give_back("out", out);
+}
+
+const target uplink_targets[] = {
+    {"esk_command_check", "answer text", command_check},
+    {"esk_command_read", "answer command text", command_read},
+    {"esk_command_write", "answer out", command_write},
+    {"esk_reset", "settings", reset},
+    {"esk_settings_valid", "answer", settings_valid},
+    {"esk_apply", "answer settings text", apply},
+    {"esk_decide", "answer airfield", decide},
+    {"esk_join", "answer first second out", join},
+    {NULL, NULL, NULL},
+};
