@@ -200,7 +200,7 @@ fn no_ascent() -> Ascent
     }
 }
 
-fn no_regions() -> Regions
+pub fn no_regions() -> Regions
     ensures { λ r. ⌜ r ≡ regionsFrom [] ⌝ }
 {
     Regions {
@@ -209,7 +209,7 @@ fn no_regions() -> Regions
     }
 }
 
-fn no_airports() -> Airports
+pub fn no_airports() -> Airports
     ensures { λ r. ⌜ r ≡ airportsFrom [] ⌝ }
 {
     Airports {

@@ -5,6 +5,8 @@ use crate::flags::new_flags;
 use command::check::check;
 use command::read::downlink_of;
 use command::read::flags_of;
+use command::read::no_airports;
+use command::read::no_regions;
 use command::read::no_settings;
 use command::read::settings_over;
 use section::Ascent;
@@ -45,13 +47,10 @@ fn reset_ascent() -> Ascent
 pub fn after_reset() -> Settings
     ensures { λ r. ⌜ r ≡ reset ⌝ }
 {
-    let none = no_settings();
-    let regions = none.regions;
-    let airports = none.airports;
     Settings {
         flags: [1u8, 0, 0, 0, 1, 1, 1],
-        regions,
-        airports,
+        regions: no_regions(),
+        airports: no_airports(),
         enroute: Enroute {
             interval: 7,
             wind: 1,
