@@ -16,6 +16,8 @@
 #include <stddef.h>
 #include <stdint.h>
 
+#define ESK_VERSION "1.0.0"
+
 #ifdef __cplusplus
 extern "C" {
 #endif
