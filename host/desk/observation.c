@@ -1,6 +1,7 @@
 #include "observation.h"
 
 #include "json.h"
+#include "minutes.h"
 
 #include <stdio.h>
 
@@ -57,11 +58,11 @@ static void show(const char *name, esk_figure figure, double per, int decimals, 
         printf("  %-15s %10s\n", name, "-");
 }
 
-/* Minutes as degrees and a letter, the first where they are not below zero. */
 static void show_degrees(int width, esk_figure minutes, const char *letters)
 {
-    int below = minutes.number < 0;
-    printf("%*.4f %c", width, (below ? -minutes.number : minutes.number) / 60.0, letters[below]);
+    char degrees[24];
+    name_degrees(minutes.number, letters, width, degrees, sizeof degrees);
+    fputs(degrees, stdout);
 }
 
 static void show_time(esk_figure seconds)

@@ -11,10 +11,10 @@ const char *flag_in_words(int flag, uint8_t value)
         {"off: never reports", "on"},
         {"off: reports at every hour", "on: silent in the hours of section 9"},
         {"off: reports everywhere", "on: the boxes of section 2 hold"},
-        {"off: section 6 and 8 say whether routine reports replace the schemes", "on: the lists of section 3 hold"},
-        {"off", "on: the ascent scheme of section 5"},
+        {"off: every airfield alike", "on: the lists of section 3 hold"},
+        {"off: no scheme in ascent; section 6, or 3, says whether routine", "on: the scheme of section 5"},
         {"off: silent in level flight", "on: routine reports in level flight, by section 4"},
-        {"off", "on: the descent scheme"},
+        {"off: no scheme in descent; section 8, or 3, says whether routine", "on: the descent scheme"},
     };
     return value > 1 ? "no change" : words[flag][value];
 }
@@ -33,17 +33,18 @@ const char *section_title(int k)
         "airfields for the schemes of ascent and descent",
         "level flight",
         "the ascent scheme",
-        "routine reports in ascent, where there is no scheme",
+        "routine reports in ascent, where flags ascent and airports are 0",
         "",
-        "routine reports in descent, where there is no scheme",
+        "routine reports in descent, where flags descent and airports are 0",
         "the hours of silence",
     };
     return titles[k - 2];
 }
 
-static void say_boxes(const char *what, const esk_boxes *boxes, const char *indent)
+/* `none` says what an empty list means. */
+static void say_boxes(const char *what, const esk_boxes *boxes, const char *none, const char *indent)
 {
-    printf("%s%s: %s\n", indent, what, boxes->count == 0 ? "none" : "");
+    printf("%s%s:%s\n", indent, what, boxes->count == 0 ? none : "");
     for (int i = 0; i < boxes->count; i++) {
         const esk_region *r = &boxes->regions[i];
         printf("%s  %2d. from %d%c down to %d%c, from %d%c east to %d%c\n", indent, i + 1, r->north.degrees,
@@ -52,20 +53,20 @@ static void say_boxes(const char *what, const esk_boxes *boxes, const char *inde
     }
 }
 
-static void say_airfields(const char *what, const esk_airfields *list, const char *indent)
+static void say_airfields(const char *what, const esk_airfields *list, const char *none, const char *indent)
 {
     printf("%s%s:", indent, what);
     for (int i = 0; i < list->count; i++)
         printf(" %.4s", (const char *)list->names + 4 * i);
-    puts(list->count == 0 ? " none" : "");
+    puts(list->count == 0 ? none : "");
 }
 
 static void say_airports(const esk_airports *a, const char *indent)
 {
-    say_airfields("ascent scheme at", &a->selected.ascent, indent);
-    say_airfields("descent scheme at", &a->selected.descent, indent);
-    say_airfields("no ascent scheme at", &a->inhibited.ascent, indent);
-    say_airfields("no descent scheme at", &a->inhibited.descent, indent);
+    say_airfields("selected for ascent", &a->selected.ascent, " none, so every airfield", indent);
+    say_airfields("selected for descent", &a->selected.descent, " none, so every airfield", indent);
+    say_airfields("inhibited for ascent", &a->inhibited.ascent, " none", indent);
+    say_airfields("inhibited for descent", &a->inhibited.descent, " none", indent);
     printf("%sroutine reports instead of a scheme: %s\n", indent, a->routine ? "yes" : "no");
 }
 
@@ -91,8 +92,8 @@ void say_section(const esk_settings *s, int k, const char *indent)
 {
     switch (k) {
     case 2:
-        say_boxes("report in", &s->regions.reporting, indent);
-        say_boxes("silent in", &s->regions.inhibiting, indent);
+        say_boxes("reporting boxes", &s->regions.reporting, " none, so everywhere", indent);
+        say_boxes("inhibiting boxes", &s->regions.inhibiting, " none", indent);
         break;
     case 3: say_airports(&s->airports, indent); break;
     case 4:

@@ -25,6 +25,7 @@ void tell_begin(const char *subcommand)
 
 int tell_end(int status)
 {
+    static int told;
     if (document) {
         json_close();
         json_number("status", status);
@@ -35,7 +36,9 @@ int tell_end(int status)
     errno = 0;
     if (fflush(stdout) == 0 && !ferror(stdout))
         return status;
-    fprintf(stderr, "eskelvor: standard output: cannot write: %s\n", errno ? strerror(errno) : "an earlier write failed");
+    if (!told)
+        fprintf(stderr, "eskelvor: standard output: cannot write: %s\n", errno ? strerror(errno) : "a write failed");
+    told = 1;
     return TROUBLE;
 }
 
@@ -114,7 +117,7 @@ void name_origin(const origin *from, char *to, size_t room)
     const char *file = from->file == NULL ? "" : strcmp(from->file, "-") == 0 ? "standard input" : from->file;
     const char *comma = *file ? ", " : "";
     if (from->number == 0)
-        snprintf(to, room, "%s", file);
+        snprintf(to, room, "%s", from->file ? file : from->unit);
     else if (strcmp(from->unit, "report") == 0)
         snprintf(to, room, "%s%sreport %lu from byte %llu on", file, comma, from->number, from->offset);
     else

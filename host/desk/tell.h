@@ -11,7 +11,7 @@
 extern int as_json;
 
 /* What a text is, for the words about a code and a place. */
-typedef enum subject { A_REPORT, A_COMMAND, A_FIELD, A_BOARD, A_SETTING } subject;
+typedef enum subject { A_REPORT, A_COMMAND, A_FIELD, A_DESIGNATOR, A_BOARD, A_SETTINGS } subject;
 
 /* Where a text came from. */
 typedef struct origin {

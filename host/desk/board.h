@@ -1,0 +1,21 @@
+/* board.h: what is done with a board that is kept in a file; for the subcommand and for the busy night. */
+#ifndef DESK_BOARD_H
+#define DESK_BOARD_H
+
+#include "board_file.h"
+#include "intake.h"
+
+/* All of these give a status, and have told what is wrong. */
+
+int board_create(const char *file, long slots, long wait);
+
+/* Holds the file and reads the board; whatever it gives, keep_release is then due. */
+int board_hold(kept *k, board *b, const char *file, long wait);
+
+/* Adds a command to the board that was read; `length` becomes that of the text that then waits. */
+int board_add(board *b, const char *designator, const command_text *text, size_t *length);
+
+/* Takes what waits from the board that was read. */
+int board_take(board *b, const char *designator, uint8_t *out, size_t *length);
+
+#endif
