@@ -1,32 +1,19 @@
 /* eskelvor apply: commands applied to a configuration, and what that changes. */
-#include "applying.h"
 #include "config_file.h"
+#include "joining.h"
 #include "json.h"
 #include "options.h"
 #include "settings.h"
 
 #include <stdio.h>
 
-static int apply(esk_settings *settings, const command_text *t, uint8_t *downlink)
+/* A text_taker: joins the text, and tells what it asks to be sent down. */
+static int join_and_tell(void *with, const command_text *t)
 {
-    esk_applied done = esk_apply(settings, t->bytes, t->length);
-    esk_answer a = {done.place, 0, done.code, 0, {0, 0}};
-    *downlink = done.downlink;
-    return a.code == ESK_ACCEPTED ? FINE : refuse(&t->from, A_COMMAND, a, t->bytes, t->length, t->whole);
-}
-
-int apply_text(void *with, const command_text *t)
-{
-    uint8_t downlink;
-    return apply(with, t, &downlink);
-}
-
-int apply_and_tell(void *with, const command_text *t)
-{
-    uint8_t downlink;
     char name[1200];
-    if (apply(with, t, &downlink) != FINE)
+    if (join_text(with, t) != FINE)
         return REFUSED;
+    uint8_t downlink = esk_command_read(t->bytes, t->length).command.downlink;
     if (as_json) {
         json_object(NULL);
         json_bool("accepted", 1);
@@ -128,23 +115,22 @@ static void tell_all(const esk_settings *s)
         }
 }
 
-/* What is written is on disk before it is told that anything changed. */
-static int apply_all(intake *in, const char *from, kept *out, int count, char **words)
+/* Reads, applies, and writes where a file is held for it; what changed is told once it is on disk. */
+static int apply_all(const joined *all, const char *from, kept *out)
 {
     esk_settings old, now;
     int status = config_read(from, &old);
     if (status != FINE)
         return status;
     now = old;
-    in->with = &now;
-    status = each_text(in, count, words);
-    if (status == FINE && out != NULL)
+    status = apply_gathered(all, &now, from);
+    if (out != NULL && status == FINE)
         status = config_write(out, &now);
-    if (status == FINE && out != NULL)
+    if (out != NULL && status == FINE)
         status = keep_replace(out);
     if (status != FINE)
         return status;
-    if (count == 0 && !as_json)
+    if (all->texts == 0 && !as_json)
         tell_all(&now);
     else
         tell_changes(&old, &now);
@@ -153,8 +139,9 @@ static int apply_all(intake *in, const char *from, kept *out, int count, char **
 
 static int run(int count, char **words)
 {
+    static joined all;
     const char *from = NULL, *to = NULL, *wait = "10";
-    intake in = {0, 0, 1, apply_and_tell, NULL};
+    intake in = {0, 0, 0, join_and_tell, NULL};
     const option known[] = {{"--config", "-c", &from, NULL},
                             {"--out", "-o", &to, NULL},
                             {"--wait", NULL, &wait, NULL},
@@ -165,11 +152,14 @@ static int run(int count, char **words)
         return TROUBLE;
     if (whole_number(wait, 0, 86400) < 0)
         return trouble("--wait", "give whole seconds");
+    int status = gather(&in, count, words, &all);
+    if (status != FINE)
+        return status;
     if (to == NULL)
-        return apply_all(&in, from, NULL, count, words);
-    int status = keep_hold(&k, to, whole_number(wait, 0, 86400));
+        return apply_all(&all, from, NULL);
+    status = keep_hold(&k, to, whole_number(wait, 0, 86400));
     if (status == FINE)
-        status = apply_all(&in, from, &k, count, words);
+        status = apply_all(&all, from, &k);
     keep_release(&k);
     return status;
 }

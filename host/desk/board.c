@@ -40,16 +40,14 @@ static int designator_status(board *b, const char *designator)
     return a.code == ESK_BYTE ? refuse(&from, A_DESIGNATOR, a, bytes(designator), length, length) : FINE;
 }
 
-int board_add(board *b, const char *designator, const command_text *t, size_t *length)
+int board_add(board *b, const char *designator, const uint8_t *text, size_t length, size_t *waiting)
 {
     if (designator_status(b, designator) != FINE)
         return REFUSED;
     esk_answer a = esk_board_add(b->slots, b->n, b->area, b->n * ESK_COMMAND_BYTES, bytes(designator),
-                                 strlen(designator), t->bytes, t->length);
-    *length = a.length;
-    if (a.code == ESK_NO_SLOT || a.code == ESK_BOARD)
-        return refuse_plain(designator, A_BOARD, a.code, NULL);
-    return a.code == ESK_ACCEPTED ? FINE : refuse(&t->from, A_COMMAND, a, t->bytes, t->length, t->whole);
+                                 strlen(designator), text, length);
+    *waiting = a.length;
+    return a.code == ESK_ACCEPTED ? FINE : refuse_plain(designator, A_BOARD, a.code, NULL);
 }
 
 int board_take(board *b, const char *designator, uint8_t *out, size_t *length)

@@ -1,6 +1,7 @@
 /* eskelvor board: a board kept in a file. */
 #define _POSIX_C_SOURCE 200809L
 #include "board.h"
+#include "joining.h"
 #include "json.h"
 #include "options.h"
 
@@ -34,34 +35,18 @@ static int create(const call *c, int count, char **words)
     return FINE;
 }
 
-/* An add under way: the board as it will be, and how many commands it has taken. */
-typedef struct adding {
-    board b;
-    const char *designator;
-    size_t length;
-    unsigned long commands;
-} adding;
-
-static int add_one(void *with, const command_text *text)
-{
-    adding *a = with;
-    int status = board_add(&a->b, a->designator, text, &a->length);
-    a->commands += status == FINE;
-    return status;
-}
-
-static int tell_added(const adding *a)
+static int tell_added(const char *designator, unsigned long commands, size_t length)
 {
     if (!as_json) {
-        printf("accepted: %lu bytes wait for %s\n", (unsigned long)a->length, a->designator);
+        printf("accepted: %lu bytes wait for %s\n", (unsigned long)length, designator);
         return FINE;
     }
     json_object(NULL);
     json_bool("accepted", 1);
     json_number("code", ESK_ACCEPTED);
-    json_word("designator", a->designator);
-    json_number("commands", (long long)a->commands);
-    json_number("length", (long long)a->length);
+    json_word("designator", designator);
+    json_number("commands", (long long)commands);
+    json_number("length", (long long)length);
     json_close();
     return FINE;
 }
@@ -69,22 +54,24 @@ static int tell_added(const adding *a)
 /* All the commands or none: what is accepted is told once it is on disk. */
 static int add(call *c, int count, char **words)
 {
-    static adding a;
+    static board b;
+    static joined all;
+    size_t length = 0;
     kept k;
     if (count < 2)
         return trouble("add", "give the aircraft's designator and a command");
-    a.designator = words[0];
-    c->in.each = add_one;
-    c->in.with = &a;
-    int status = board_hold(&k, &a.b, c->file, c->wait);
+    int status = gather(&c->in, count - 1, words + 1, &all);
+    if (status != FINE)
+        return status;
+    status = board_hold(&k, &b, c->file, c->wait);
     if (status == FINE)
-        status = each_text(&c->in, count - 1, words + 1);
+        status = board_add(&b, words[0], all.text, all.length, &length);
     if (status == FINE)
-        status = board_write(&k, &a.b);
+        status = board_write(&k, &b);
     if (status == FINE)
         status = keep_replace(&k);
     keep_release(&k);
-    return status == FINE ? tell_added(&a) : status;
+    return status == FINE ? tell_added(words[0], all.texts, length) : status;
 }
 
 static void tell_taken(const char *designator, const uint8_t *text, size_t length)
@@ -197,7 +184,7 @@ static int look(const call *c, int lists)
 static int run(int count, char **words)
 {
     const char *wait = "10";
-    call c = {NULL, 0, {0, 0, 1, NULL, NULL}};
+    call c = {NULL, 0, {0, 0, 0, NULL, NULL}};
     const option known[] = {{"--wait", NULL, &wait, NULL},
                             {"--text", NULL, NULL, &c.in.typed},
                             {"--exact", NULL, NULL, &c.in.exact}};

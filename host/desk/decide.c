@@ -1,6 +1,6 @@
 /* eskelvor decide: whether an aircraft reports. */
-#include "applying.h"
 #include "config_file.h"
+#include "joining.h"
 #include "json.h"
 #include "minutes.h"
 #include "options.h"
@@ -94,10 +94,11 @@ static int decide(const asked *q, const esk_settings *settings)
 
 static int run(int count, char **words)
 {
+    static joined all;
     asked q = {0};
     const char *file = NULL;
     esk_settings settings;
-    intake in = {0, 0, 1, apply_text, &settings};
+    intake in = {0, 0, 0, NULL, NULL};
     const option known[] = {{"--config", "-c", &file, NULL},       {"--phase", NULL, &q.phase, NULL},
                             {"--lat", NULL, &q.latitude, NULL},    {"--lon", NULL, &q.longitude, NULL},
                             {"--hour", NULL, &q.hour, NULL},       {"--airfield", NULL, &q.airfield, NULL},
@@ -106,9 +107,11 @@ static int run(int count, char **words)
     if (status == FINE)
         status = understand(&q);
     if (status == FINE)
+        status = gather(&in, count, words, &all);
+    if (status == FINE)
         status = config_read(file, &settings);
     if (status == FINE)
-        status = each_text(&in, count, words);
+        status = apply_gathered(&all, &settings, file);
     return status == FINE ? decide(&q, &settings) : status;
 }
 

@@ -1,34 +1,9 @@
 /* eskelvor join: commands into one. */
-#include "intake.h"
+#include "joining.h"
 #include "json.h"
 #include "options.h"
 
 #include <stdio.h>
-#include <string.h>
-
-/* What the texts so far join to. */
-typedef struct joined {
-    uint8_t text[ESK_COMMAND_BYTES];
-    size_t length;
-    unsigned long texts;
-} joined;
-
-static int join_one(void *with, const command_text *t)
-{
-    joined *all = with;
-    uint8_t out[ESK_COMMAND_BYTES];
-    esk_answer a;
-    if (all->texts == 0)
-        a = esk_command_check(t->bytes, t->length);
-    else
-        a = esk_join(all->text, all->length, t->bytes, t->length, out, sizeof out);
-    if (a.code != ESK_ACCEPTED)
-        return refuse(&t->from, A_COMMAND, a, t->bytes, t->length, t->whole);
-    all->length = all->texts == 0 ? t->length : a.length;
-    memcpy(all->text, all->texts == 0 ? t->bytes : out, all->length);
-    all->texts++;
-    return FINE;
-}
 
 static void tell_joined(const joined *all)
 {
@@ -48,13 +23,13 @@ static void tell_joined(const joined *all)
 static int run(int count, char **words)
 {
     static joined all;
-    intake in = {0, 0, 1, join_one, &all};
+    intake in = {0, 0, 0, NULL, NULL};
     const option known[] = {{"--text", NULL, NULL, &in.typed}, {"--exact", NULL, NULL, &in.exact}};
     int status = take_options(&count, words, known, 2);
     if (status == FINE && count == 0)
         status = trouble(NULL, "no command; --help tells what to give");
     if (status == FINE)
-        status = each_text(&in, count, words);
+        status = gather(&in, count, words, &all);
     if (status == FINE)
         tell_joined(&all);
     return status;

@@ -4,10 +4,11 @@
  * Every verdict on a text, a board or a configuration is a proved call's. What is here reads words and files, shows
  * answers, and keeps boards and configurations in files.
  */
+#define _XOPEN_SOURCE 700
 #include "desk.h"
-#include "json.h"
 #include "tell.h"
 
+#include <signal.h>
 #include <stdio.h>
 #include <string.h>
 
@@ -83,6 +84,7 @@ int main(int count, char **words)
 {
     count--;
     words++;
+    signal(SIGXFSZ, SIG_IGN); /* a file that may not grow is told as a write that failed */
     int wants_help = take_word("--help", &count, words) | take_word("-h", &count, words);
     as_json = take_word("--json", &count, words);
     if (!wants_help && (count != 1 || strcmp(words[0], "--version") != 0))

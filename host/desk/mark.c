@@ -1,44 +1,47 @@
 #include "mark.h"
 
-enum { BEFORE = 56, BEHIND = 56 }; /* the most bytes shown on each side of the marked one */
+enum { BEFORE = 56, BEHIND = 56 }; /* the most columns shown on each side of the marked byte */
 
-static size_t show_byte(FILE *to, uint8_t byte)
+static size_t columns_of(uint8_t byte)
 {
-    if (byte == '\\') {
+    return byte == '\\' ? 2 : byte < 0x20 || byte > 0x7e ? 4 : 1;
+}
+
+static void show_byte(FILE *to, uint8_t byte)
+{
+    if (byte == '\\')
         fputs("\\\\", to);
-        return 2;
-    }
-    if (byte < 0x20 || byte > 0x7e) {
+    else if (byte < 0x20 || byte > 0x7e)
         fprintf(to, "\\x%02x", byte);
-        return 4;
-    }
-    fputc(byte, to);
-    return 1;
+    else
+        fputc(byte, to);
 }
 
 size_t show_bytes(FILE *to, const uint8_t *bytes, size_t length)
 {
     size_t columns = 0;
-    for (size_t i = 0; i < length; i++)
-        columns += show_byte(to, bytes[i]);
+    for (size_t i = 0; i < length; i++) {
+        show_byte(to, bytes[i]);
+        columns += columns_of(bytes[i]);
+    }
     return columns;
 }
 
 /* Where the shown part begins: at the line's first byte, where that is near. */
 static size_t first_shown(const uint8_t *text, size_t place)
 {
-    size_t from = place;
-    while (from > 0 && place - from < BEFORE && text[from - 1] != '\n')
-        from--;
+    size_t from = place, columns = 0;
+    while (from > 0 && columns < BEFORE && text[from - 1] != '\n')
+        columns += columns_of(text[--from]);
     return from;
 }
 
 /* Where it ends: behind the line's LF, where that is near. */
 static size_t last_shown(const uint8_t *text, size_t length, size_t place)
 {
-    size_t to = place;
-    while (to < length && to - place < BEHIND && (to == place || text[to - 1] != '\n'))
-        to++;
+    size_t to = place, columns = 0;
+    while (to < length && columns < BEHIND && (to == place || text[to - 1] != '\n'))
+        columns += columns_of(text[to++]);
     return to;
 }
 

@@ -4,7 +4,8 @@
 
 enum {
     REACH = 2 * ESK_REPORT_BYTES, /* how far a damaged report may run */
-    LOOK = REACH + 32             /* the bytes that must be there to see where the next one begins */
+    LOOK = REACH + 32,            /* the bytes that must be there to see where the next one begins */
+    LOST = 20                     /* pieces in a row after which the file seems to hold something else */
 };
 
 void pieces_begin(pieces *p, FILE *from)
@@ -65,6 +66,20 @@ static size_t damaged_length(const uint8_t *bytes, size_t length)
     return to < REACH ? to : ESK_REPORT_BYTES;
 }
 
+/* Passes over all up to the next beginning, or the file's end. */
+static void pass_over(pieces *p, piece *got)
+{
+    size_t held = p->end - p->at;
+    memcpy(p->passed, p->held + p->at, held < sizeof p->passed ? held : sizeof p->passed);
+    do {
+        pass(p, 1);
+        fill(p);
+    } while (p->at < p->end && !seems_to_begin(p->held + p->at, p->end - p->at));
+    got->bytes = p->passed;
+    got->whole = p->offset - got->offset;
+    got->length = got->whole < sizeof p->passed ? (size_t)got->whole : sizeof p->passed;
+}
+
 int next_piece(pieces *p, piece *got)
 {
     pass_line_ends(p);
@@ -75,10 +90,18 @@ int next_piece(pieces *p, piece *got)
     got->bytes = bytes;
     got->offset = p->offset;
     got->number = ++p->number;
+    got->length = ESK_REPORT_BYTES;
     if (length >= ESK_REPORT_BYTES && esk_report_check(bytes, ESK_REPORT_BYTES).code == ESK_ACCEPTED)
-        got->length = ESK_REPORT_BYTES;
-    else
+        p->lost = 0;
+    else if (p->lost >= LOST) {
+        pass_over(p, got);
+        p->lost = 0;
+        return 1;
+    } else {
         got->length = damaged_length(bytes, length);
+        p->lost++;
+    }
+    got->whole = got->length;
     pass(p, got->length);
     return 1;
 }

@@ -64,7 +64,7 @@ static int refuse_length(const origin *from, const piece *p, esk_answer a)
     size_t length = p->length < sizeof padded ? p->length : sizeof padded;
     memcpy(padded, p->bytes, length);
     esk_answer first = esk_report_check(padded, sizeof padded);
-    int status = refuse(from, A_REPORT, a, p->bytes, p->length, p->length);
+    int status = refuse(from, A_REPORT, a, p->bytes, p->length, p->whole);
     if (as_json)
         return status;
     if (lacks_cr(p))
@@ -84,7 +84,7 @@ static int one_report(const piece *p, const char *file)
     }
     if (got.answer.code != ESK_ACCEPTED) {
         refused++;
-        return refuse(&from, A_REPORT, got.answer, p->bytes, p->length, p->length);
+        return refuse(&from, A_REPORT, got.answer, p->bytes, p->length, p->whole);
     }
     shown++;
     if (as_json)

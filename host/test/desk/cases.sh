@@ -20,10 +20,7 @@ input=/dev/null
 eskelvor() { "$root/host/tool" run eskelvor "$@"; }
 
 fail() {
-    printf 'FAILED: %s\n  %s\n' "$why" "$1"
-    printf '  words:'
-    printf ' [%s]' "$@" | sed 's/^ \[[^]]*\]//'
-    printf '\n  --- standard output\n'
+    printf 'FAILED: %s: %s\n  words: %s\n  --- standard output\n' "$why" "$1" "$words"
     cat "$scratch/out"
     printf '  --- standard error\n'
     cat "$scratch/err"
@@ -34,10 +31,11 @@ answers() {
     wanted=$1
     why=$2
     shift 2
+    words=$*
     got=0
     eskelvor "$@" <"$input" >"$scratch/out" 2>"$scratch/err" || got=$?
     cases=$((cases + 1))
-    [ "$got" = "$wanted" ] || fail "status $got, not $wanted" "$@"
+    [ "$got" = "$wanted" ] || fail "status $got, not $wanted"
 }
 
 is() {

@@ -209,6 +209,27 @@ static void stops_anywhere(void)
     }
 }
 
+/* While one writer holds the board, another is turned away and a reader is not. */
+static void second_writer(void)
+{
+    kept k;
+    fresh_board(FIRST);
+    HOLD(keep_hold(&k, file, 0) == FINE, "the first writer");
+    char *words[] = {file, "add", "XY0001", SECOND, "--wait=0"};
+    fflush(NULL);
+    pid_t child = fork();
+    if (child == 0) {
+        int turned = freopen("/dev/null", "wb", stderr) != NULL && board_subcommand.run(5, words) == TROUBLE;
+        char *look[] = {file, "check"};
+        _exit(freopen("/dev/null", "wb", stdout) != NULL && turned && board_subcommand.run(2, look) == FINE ? 0 : 1);
+    }
+    int status;
+    HOLD(child > 0 && waitpid(child, &status, 0) == child && WIFEXITED(status), "a process of its own");
+    HOLD(WEXITSTATUS(status) == 0, "the second writer is turned away, the reader is not");
+    keep_release(&k);
+    HOLD(strcmp(waiting(), FIRST) == 0, "and nothing was added");
+}
+
 /* ---- damaged files ---------------------------------------------------------------------------------------------- */
 
 static uint8_t packed[BOARD_MOST + 1];
@@ -290,6 +311,7 @@ int main(void)
     snprintf(file, sizeof file, "%s/board", folder);
     snprintf(output, sizeof output, "%s/output", folder);
     stops_anywhere();
+    second_writer();
     flipped_board();
     cut_board();
     wrong_board();
