@@ -2,7 +2,7 @@
 # Files that are not there, empty, folders, unreadable or huge; disks that are full. A clear message, a status other than
 # 0, nothing lost.
 . "$(dirname "$0")/cases.sh"
-trap 'umount "$scratch/disk" 2>/dev/null; rm -rf "$scratch"' EXIT
+trap 'umount "$scratch/disk" 2>/dev/null || true; rm -rf "$scratch"' EXIT
 cd "$scratch"
 none=AWR049999999000000000/
 : >empty

@@ -3,16 +3,22 @@
 # accepted is never lost, and what no longer waits was handed out whole.
 . "$(dirname "$0")/cases.sh"
 cd "$scratch"
-rounds=${ROUNDS:-120}
+rounds=${ROUNDS:-90}
 killed=0 finished=0 twice=0
 why='kill -9 at a random moment' words='board b add'
 
 eskelvor board b create 4 >out
-eskelvor board b add XY0002 AWR049999999000400000/601/ >out
-expected='' # the interval that must wait for XY0001, or two of which one must; nothing where none need wait
+began=$(date +%s%N)
+for _ in 1 2 3 4 5; do
+    eskelvor board b add XY0002 AWR049999999000400000/601/ >out
+done
+call_takes=$((($(date +%s%N) - began) / 5000)) # microseconds
 
-# A pause of 0 to 59 ms: what a call takes here, and some more.
-pause() { sleep "0.0$(od -An -N2 -tu2 /dev/urandom | awk '{ printf "%02d", $1 % 60 }')"; }
+# A pause of some part of what a call takes, up to all of it.
+pause() {
+    part=$(od -An -N2 -tu2 /dev/urandom)
+    sleep "$(printf '%d.%06d' $((call_takes * part / 65536 / 1000000)) $((call_takes * part / 65536 % 1000000)))"
+}
 
 # Starts a call, and kills it after a pause.
 interrupted() {
@@ -52,5 +58,5 @@ for round in $(seq "$rounds"); do
     fi
     cases=$((cases + 1))
 done
-[ $killed -gt $((rounds / 5)) ] || fail "only $killed of $rounds calls were killed"
+[ $killed -gt $((rounds / 20)) ] || fail "only $killed of $rounds calls were killed"
 done_with "killed $killed calls, $finished were done before; $twice handed out and still waiting"
