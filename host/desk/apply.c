@@ -168,12 +168,14 @@ const subcommand apply_subcommand = {
     "apply",
     "[-c FILE] [-o FILE] [COMMAND | FILE | - ]..",
     "Applies commands to a configuration and shows what changes",
-    "  -c, --config FILE   the configuration to begin with; without it, the one after reset\n"
-    "  -o, --out FILE      where the new configuration is kept; it may be the same file\n"
+    "  -c, --config FILE   the configuration to begin with; without it, the one\n"
+    "                      after reset\n"
+    "  -o, --out FILE      where the new configuration is kept; may be the same file\n"
     "  --wait S            waits S seconds for another writer of that file (10)\n"
     "  --text, --exact     commands as for eskelvor check\n"
     "\n"
-    "All the commands are applied, in order, or none. Without a command the configuration is shown whole. The new file is\n"
-    "flushed to disk and put in place whole. A damaged file is refused with code 12, and never mended.\n",
+    "All the commands are applied, in order, or none. Without a command the\n"
+    "configuration is shown whole. The new file is flushed to disk and put in place\n"
+    "whole. A damaged file is refused with code 12, and never mended.\n",
     run,
 };

@@ -36,7 +36,8 @@ static int designator_status(board *b, const char *designator)
 {
     size_t length = strlen(designator);
     origin from = {NULL, "designator", 0, 0};
-    esk_answer a = esk_board_take(b->slots, b->n, b->area, b->n * ESK_COMMAND_BYTES, bytes(designator), length, NULL, 0);
+    esk_answer a = esk_board_take(b->slots, b->n, b->area, b->n * ESK_COMMAND_BYTES, bytes(designator), length, NULL,
+                                  0);
     return a.code == ESK_BYTE ? refuse(&from, A_DESIGNATOR, a, bytes(designator), length, length) : FINE;
 }
 

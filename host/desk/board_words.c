@@ -211,19 +211,23 @@ static int run(int count, char **words)
 
 const subcommand board_subcommand = {
     "board",
-    "FILE create N | add DESIGNATOR COMMAND.. | take DESIGNATOR | list | check",
+    "FILE create N | add DESIGNATOR COMMAND.. | take DESIGNATOR\n"
+    "           | list | check",
     "Keeps the board of waiting commands in a file",
-    "  create N     makes a board of N slots, at most 64; a file that is there is left as it is\n"
-    "  add          adds commands for an aircraft, all of them or none; words and files as for eskelvor check\n"
-    "  take         hands what waits for an aircraft to standard output and frees its slot\n"
+    "  create N     makes a board of N slots, at most 64; a file that is there stays\n"
+    "  add          adds commands for an aircraft, all of them or none; words and\n"
+    "               files as for eskelvor check\n"
+    "  take         hands what waits for an aircraft to standard output, and frees\n"
+    "               its slot\n"
     "  list         shows what waits\n"
     "  check        says whether the file and its board are sound\n"
     "  --wait S     waits S seconds for another writer of the board (10)\n"
-    "  --text       every word behind the designator is a command, whatever it begins with\n"
+    "  --text       every word behind the designator is a command\n"
     "  --exact      all the bytes of a file are one command, line ends too\n"
     "\n"
-    "A kill at any moment leaves the board as it was before, or as it is after. An add that was told accepted is on disk.\n"
-    "A taking is handed out before the board that lacks it is put in place: a kill between the two hands it out twice, and\n"
+    "A kill at any moment leaves the board as it was before, or as it is after. An\n"
+    "add that was told accepted is on disk. A taking is handed out before the board\n"
+    "that lacks it is put in place: a kill between the two hands it out twice, and\n"
     "never loses it. A damaged file is refused with code 10, and never mended.\n",
     run,
 };

@@ -112,13 +112,15 @@ static int run_explain(int count, char **words)
     return run(count, words, explain_one);
 }
 
-#define WORDS                                                                                                \
-    "  COMMAND      a word that begins with AWR\n"                                                           \
-    "  FILE         any other word: a file with a command on each line; - is standard input\n"               \
-    "  --text       every word is a command, whatever it begins with\n"                                      \
-    "  --exact      all the bytes of a file are one command, line ends too\n"                                \
-    "\n"                                                                                                     \
-    "A line's end, LF or CR LF, is no part of the command; empty lines are passed over.\n"
+#define WORDS                                                                 \
+    "  COMMAND      a word that begins with AWR\n"                            \
+    "  FILE         any other word: a file with a command on each line; - is\n" \
+    "               standard input\n"                                         \
+    "  --text       every word is a command, whatever it begins with\n"       \
+    "  --exact      all the bytes of a file are one command, line ends too\n" \
+    "\n"                                                                      \
+    "A line's end, LF or CR LF, is no part of the command; empty lines are passed\n" \
+    "over.\n"
 
 const subcommand check_subcommand = {
     "check", "[--text | --exact] COMMAND | FILE | - ..", "Says whether commands are accepted", WORDS, run_check,

@@ -55,8 +55,8 @@ static void tell_decision(const asked *q, esk_decided d)
         name_degrees(q->north, "NS", 0, north, sizeof north);
         name_degrees(q->east, "EW", 0, east, sizeof east);
         printf("%s: in %s%s, at %s %s, in hour %02d%s%s\n", decisions[d.decision], q->phase,
-               q->phase_number == ESK_LEVEL ? " flight" : "", north, east, q->hour_number, q->airfield ? ", airfield " : "",
-               q->airfield ? q->airfield : "");
+               q->phase_number == ESK_LEVEL ? " flight" : "", north, east, q->hour_number,
+               q->airfield ? ", airfield " : "", q->airfield ? q->airfield : "");
         return;
     }
     json_object(NULL);
@@ -117,16 +117,19 @@ static int run(int count, char **words)
 
 const subcommand decide_subcommand = {
     "decide",
-    "[-c FILE] --phase PHASE --lat LAT --lon LON --hour HOUR [--airfield NAME] [COMMAND | FILE | - ]..",
+    "[-c FILE] --phase PHASE --lat LAT --lon LON --hour HOUR\n"
+    "           [--airfield NAME] [COMMAND | FILE | - ]..",
     "Says whether an aircraft reports: silent, routine or scheme",
-    "  -c, --config FILE   the aircraft's configuration; without it, the one after reset\n"
+    "  -c, --config FILE   the aircraft's configuration; without it, the one after\n"
+    "                      reset\n"
     "  COMMAND..           applied to it first; it is not kept\n"
     "  --phase PHASE       ascent, level or descent\n"
-    "  --lat LAT           degrees, 37.5S or -37.5; degrees and minutes, 37:30S; minutes, 2250mS or -2250m\n"
+    "  --lat LAT           degrees, 37.5S or -37.5; degrees and minutes, 37:30S;\n"
+    "                      minutes, 2250mS or -2250m\n"
     "  --lon LON           the same with E and W\n"
     "  --hour HOUR         0 to 23, UTC\n"
     "  --airfield NAME     four letters or digits; may be left out in level flight\n"
     "\n"
-    "Degrees are taken to the nearest minute. A number below zero is written --lat=-37.5 or --lat -37.5.\n",
+    "Degrees are taken to the nearest minute.\n",
     run,
 };

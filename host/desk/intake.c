@@ -21,7 +21,7 @@ static int hand_on(intake *in, const char *file, line *l, unsigned long long end
     return in->each(in->with, &text);
 }
 
-/* A line is complete: `end` is the offset behind its last byte. Its CR, where an LF came behind it, is no part of it. */
+/* A line is complete: `end` is the offset behind its last byte. A CR before its LF is no part of it. */
 static int end_line(intake *in, const char *file, line *l, unsigned long long end, int with_lf)
 {
     int status = FINE;

@@ -40,11 +40,13 @@ const subcommand join_subcommand = {
     "[--text | --exact] COMMAND | FILE | - ..",
     "Joins commands into one that acts as all of them in order",
     "  COMMAND      a word that begins with AWR\n"
-    "  FILE         any other word: a file with a command on each line; - is standard input\n"
+    "  FILE         any other word: a file with a command on each line; - is\n"
+    "               standard input\n"
     "  --text       every word is a command, whatever it begins with\n"
     "  --exact      all the bytes of a file are one command, line ends too\n"
     "\n"
-    "The joined command goes to standard output, with a line end. Each flag and section comes from the last command that\n"
-    "sets it, and the largest downlink digit is kept. Where one is refused nothing is joined.\n",
+    "The joined command goes to standard output, with a line end. Each flag and\n"
+    "section comes from the last command that sets it, and the largest downlink\n"
+    "digit is kept. Where one is refused nothing is joined.\n",
     run,
 };

@@ -2,8 +2,8 @@
  * keep.h: files that are kept: read whole, and replaced whole, by one writer at a time, so that a kill at any moment
  * leaves the old file or the new one.
  *
- * The new bytes go to a file beside the kept one, .NAME.eskelvor-new, which is flushed to disk and then renamed onto it;
- * then the folder is flushed. A writer holds a lock on .NAME.eskelvor-lock, from before it reads to after it has
+ * The new bytes go to a file beside the kept one, .NAME.eskelvor-new, which is flushed to disk and then renamed onto
+ * it; then the folder is flushed. A writer holds a lock on .NAME.eskelvor-lock, from before it reads to after it has
  * written. What a killed writer left of a new file is removed by the next writer. The lock file stays.
  */
 #ifndef DESK_KEEP_H

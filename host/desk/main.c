@@ -22,14 +22,16 @@ enum { SUBCOMMANDS = sizeof subcommands / sizeof *subcommands };
 static void help(void)
 {
     puts("usage: eskelvor SUBCOMMAND [WORD..]\n\n"
-         "The weather desk: aircraft reports, the commands that tell aircraft when to report, and the board of commands\n"
-         "that wait for aircraft out of coverage.\n");
+         "The weather desk: aircraft reports, the commands that tell aircraft when to\n"
+         "report, and the board of commands that wait for aircraft out of coverage.\n");
     for (int i = 0; i < SUBCOMMANDS; i++)
         printf("  %-8s %s\n", subcommands[i]->name, subcommands[i]->summary);
     puts("\n  eskelvor SUBCOMMAND --help   what it takes and tells\n"
          "  eskelvor --version\n"
-         "  --json                       with any subcommand: one JSON document on standard output, refusals too\n\n"
-         "Exit status: 0 accepted, 1 refused, 2 usage or files. Refusals and troubles go to standard error.");
+         "  --json                       with any subcommand: one JSON document on\n"
+         "                               standard output, refusals too\n\n"
+         "Exit status: 0 accepted, 1 refused, 2 usage or files. Refusals and troubles go\n"
+         "to standard error.");
 }
 
 static void help_on(const subcommand *s)

@@ -6,7 +6,8 @@
 #include <stdint.h>
 #include <stdio.h>
 
-/* Shows the bytes; one that is not printable ASCII as \x and its two hex digits, a backslash as two. Gives the columns. */
+/* Shows the bytes; one that is not printable ASCII as \x and its two hex digits, a backslash as two. Gives how many
+ * columns that takes. */
 size_t show_bytes(FILE *to, const uint8_t *bytes, size_t length);
 
 /* The part of a text round a place, and a ^ under the byte there. A place behind the last byte is marked behind it. */

@@ -199,7 +199,8 @@ const subcommand night_subcommand = {
     "night",
     "",
     "Plays a busy night on a board, and on the queue that it replaces",
-    "The board is kept in a file of its own, in a folder under $TMPDIR or /tmp that is removed afterwards. The status is 0\n"
-    "where every aircraft holds what the desk shows, 1 where one does not.\n",
+    "The board is kept in a file of its own, in a folder under $TMPDIR or /tmp that\n"
+    "is removed afterwards. The status is 0 where every aircraft holds what the desk\n"
+    "shows, 1 where one does not.\n",
     run,
 };

@@ -95,7 +95,8 @@ const subcommand packed_subcommand = {
     "packed",
     "read FIELD.. | write NUMBER WIDTH",
     "Reads packed figures, and writes them",
-    "  read         a field of 1 to 5 bytes, in quotes where it begins with a space; solidi are a missing figure\n"
+    "  read         fields of 1 to 5 bytes, in quotes where they begin with a space;\n"
+    "               solidi are a missing figure\n"
     "  write        a whole number, or the word missing, in WIDTH bytes\n",
     run,
 };

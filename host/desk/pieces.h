@@ -4,7 +4,7 @@
  * Reports of 220 bytes stand one behind the other; CR and LF bytes between them are passed over. Where 220 bytes are
  * not accepted, the piece runs to where the next report seems to begin (eight bytes, a line end, AMDAR3), so that one
  * that has lost or gained some bytes does not spoil those behind it; where none begins within 440 bytes, it is 220.
- * After 20 such pieces in a row the file is taken to hold something else, and all up to the next beginning is one piece.
+ * After 20 such pieces in a row the file is taken to hold something else, and all up to the next beginning is one.
  */
 #ifndef DESK_PIECES_H
 #define DESK_PIECES_H

@@ -12,8 +12,8 @@ static const field report_head[] = {{4, "departure"}, {4, "arrival"},    {2, "li
                                     {6, "AMDAR3"},    {6, "designator"}, {2, "line end"}};
 
 static const field first_fields[] = {{1, "kind"},           {3, "latitude"},   {3, "longitude"}, {5, "time"},
-                                     {3, "altitude"},       {2, "temperature"}, {2, "wind direction"}, {2, "wind speed"},
-                                     {2, "gust"},           {3, "vapour"},     {1, "quality"}};
+                                     {3, "altitude"},       {2, "temperature"}, {2, "wind direction"},
+                                     {2, "wind speed"},     {2, "gust"},       {3, "vapour"},    {1, "quality"}};
 
 static const field later_fields[] = {{1, "kind"},           {2, "latitude change"}, {2, "longitude change"},
                                      {3, "time since"},     {3, "altitude"},        {2, "temperature"},

@@ -142,11 +142,14 @@ const subcommand report_subcommand = {
     "Shows reports, figure by figure",
     "  FILE         a file of reports; - or no word is standard input\n"
     "\n"
-    "A report has 220 bytes, its CR LF line ends among them. Reports stand one behind the other; CR and LF bytes between\n"
-    "them are passed over. One that is refused is told with its number, its offset in the file and a mark under the byte,\n"
-    "and the others are still shown. A report that has lost or gained some bytes ends where the next seems to begin.\n"
+    "A report has 220 bytes, its CR LF line ends among them. Reports stand one\n"
+    "behind the other; CR and LF bytes between them are passed over. One that is\n"
+    "refused is told with its number, its offset in the file and a mark under the\n"
+    "byte, and the others are still shown. A report that has lost or gained some\n"
+    "bytes ends where the next seems to begin.\n"
     "\n"
-    "A missing figure is a dash. In a later observation the report has changes since the one before; where and when that\n"
-    "comes to is shown beside them as long as every change up to it is given.\n",
+    "A missing figure is a dash. A later observation has changes since the one\n"
+    "before; where and when that comes to is shown beside them, as long as every\n"
+    "change up to it is given.\n",
     run,
 };

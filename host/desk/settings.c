@@ -85,7 +85,8 @@ static void say_hours(const esk_hours *h, const char *indent)
     if (h->start == h->end)
         printf("%snone: both are %02d\n", indent, h->start);
     else
-        printf("%sfrom %02d:00 up to %02d:00%s\n", indent, h->start, h->end, h->start > h->end ? ", over midnight" : "");
+        printf("%sfrom %02d:00 up to %02d:00%s\n", indent, h->start, h->end,
+               h->start > h->end ? ", over midnight" : "");
 }
 
 void say_section(const esk_settings *s, int k, const char *indent)

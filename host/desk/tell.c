@@ -89,8 +89,10 @@ const char *meaning(subject kind, unsigned code)
         return "a command has at most 835 bytes";
     if (code == ESK_LENGTH)
         return "a packed field has 1 to 5 bytes";
+    if (code == ESK_FIXED && kind == A_REPORT)
+        return "a fixed byte is wrong (AMDAR3, or a CR LF)";
     if (code == ESK_FIXED)
-        return kind == A_REPORT ? "a fixed byte is wrong (AMDAR3, or a CR LF)" : "a fixed byte is wrong (AWR04, or a /)";
+        return "a fixed byte is wrong (AWR04, or a /)";
     return code < sizeof plain / sizeof *plain ? plain[code] : "an unknown code";
 }
 

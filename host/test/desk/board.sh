@@ -56,8 +56,8 @@ input=/dev/null
 answers 0 'a board of no slots is valid' board none create 0
 answers 1 'and takes nothing' board none add XY0001 $first
 err_has 'code 9'
-for slip in 'b' 'b create' 'c create 65' 'c create -1' 'c create two' 'b add XY0001' 'b take' 'b take A B' 'b burn' 'b list x' \
-    '--wait soon b list'; do
+for slip in 'b' 'b create' 'c create 65' 'c create -1' 'c create two' 'b add XY0001' 'b take' 'b take A B' 'b burn' \
+    'b list x' '--wait soon b list'; do
     # shellcheck disable=SC2086
     answers 2 "a slip: $slip" board $slip
 done

@@ -20,8 +20,9 @@ answers 1 'a byte more' check ${none}x
 err_is 'eskelvor: command 1: refused: code 8 at byte 22, behind the last delimiter: bytes after the last delimiter' \
     "  ${none}x" \
     '                        ^'
-answers 1 'each code at its field' check --json AWR042999999000000000/ AWR049999999000000000. AWR049999999000400000/611/ \
-    AWR049999999020000000/0100S10S010W010E00/ AWR049999999020000000/0110N11N010W010E00/ AWR049999999000000700/
+answers 1 'each code at its field' check --json AWR042999999000000000/ AWR049999999000000000. \
+    AWR049999999000400000/611/ AWR049999999020000000/0100S10S010W010E00/ AWR049999999020000000/0110N11N010W010E00/ \
+    AWR049999999000000700/
 json_has results.0.code=4 results.0.place=5 'results.0.field=flag AMDAR' \
     results.1.code=3 results.1.place=21 results.1.field=delimiter \
     results.2.code=5 results.2.place=22 'results.2.field=section 4' \
@@ -56,7 +57,8 @@ err_is "eskelvor: $scratch/one: refused: code 8 at byte 22, behind the last deli
     '                        ^'
 printf '%s\r\n\r\n\n%s' $none $second >"$scratch/lines"
 answers 0 'CR LF, empty lines, and a last line without its end' check --json "$scratch/lines"
-json_has results.0.line=1 results.0.offset=0 results.0.length=22 results.1.line=4 results.1.offset=27 results.1.length=31 status=0
+json_has results.0.line=1 results.0.offset=0 results.0.length=22 \
+    results.1.line=4 results.1.offset=27 results.1.length=31 status=0
 printf '%s \n' $none >"$scratch/space"
 answers 1 'a space behind the command is a byte like any other' check "$scratch/space"
 err_has 'code 8 at byte 22'
@@ -94,15 +96,18 @@ out_has 'downlink         2  the whole configuration is sent down' 'reporting bo
     '  routine reports instead of a scheme: no'
 answers 0 'the ascent scheme, and routine reports' explain AWR049999999000056080/0032006011120010/1/0/
 out_has 'mode 0: samples by pressure level' 'series 1: every 3 seconds, for 200 seconds' \
-    'series 2: every 60 seconds, until 1110 seconds in all' 'top of the ascent: 20000 feet' 'list of pressure levels: 1' \
-    'timer for level stretches: off' 'section 6: routine reports in ascent' 'section 8: routine reports in descent'
+    'series 2: every 60 seconds, until 1110 seconds in all' 'top of the ascent: 20000 feet' \
+    'list of pressure levels: 1' 'timer for level stretches: off' \
+    'section 6: routine reports in ascent' 'section 8: routine reports in descent'
 answers 0 'a command that says nothing' explain $none
 out_has 'no section is named'
-answers 0 'the same for a machine' explain --json AWR041911999223456089/0110S45S110E155E00/01YMML0001YPAD001/071/1060902005120021/1/0/2301/
+all=AWR041911999223456089/0110S45S110E155E00/01YMML0001YPAD001/071/1060902005120021/1/0/2301/
+answers 0 'the same for a machine' explain --json $all
 json_has results.0.flags.amdar=1 results.0.flags.inhibit_hours=9 results.0.downlink=2 \
     results.0.sections.2.reporting.0.north=10S results.0.sections.2.reporting.0.east=155E \
-    results.0.sections.3.ascent_selected.0=YMML results.0.sections.3.ascent_inhibited.0=YPAD results.0.sections.3.routine=1 \
-    results.0.sections.4.interval_minutes=7 results.0.sections.5.top_feet=20000 results.0.sections.6.routine=1 \
+    results.0.sections.3.ascent_selected.0=YMML results.0.sections.3.ascent_inhibited.0=YPAD \
+    results.0.sections.3.routine=1 results.0.sections.4.interval_minutes=7 results.0.sections.5.top_feet=20000 \
+    results.0.sections.6.routine=1 \
     results.0.sections.8.routine=0 results.0.sections.9.start_hour=23 results.0.sections.9.end_hour=1 status=0
 answers 1 'a refusal is the same as that of check' explain --json AWR04
 json_has results.0.code=8 results.0.place=5 status=1

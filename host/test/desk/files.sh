@@ -1,6 +1,6 @@
 #!/bin/sh
-# Files that are not there, empty, folders, unreadable or huge; disks that are full. A clear message, a status other than
-# 0, nothing lost.
+# Files that are not there, empty, folders, unreadable or huge; disks that are full. A clear message, a status other
+# than 0, nothing lost.
 . "$(dirname "$0")/cases.sh"
 trap 'umount "$scratch/disk" 2>/dev/null || true; rm -rf "$scratch"' EXIT
 cd "$scratch"
@@ -79,8 +79,9 @@ out_has 'then, report 22 from byte 5000000 on: YMML to YPAD'
 
 # Standard output on a full disk
 if [ -c /dev/full ]; then
-    for line in '--help' '--version' "report $examples/one.report" "check $none" "explain $none" "join $none" "apply $none" \
-        'decide --phase level --lat 0 --lon 0 --hour 0' 'packed read KK' 'board b list' 'night' 'board b take XY0001' \
+    for line in '--help' '--version' "report $examples/one.report" "check $none" "explain $none" "join $none" \
+        "apply $none" 'decide --phase level --lat 0 --lon 0 --hour 0' 'packed read KK' 'board b list' \
+        'night' 'board b take XY0001' \
         "check --json $none" 'board b take XY0001 --json'; do
         got=0 words=$line why='a full disk behind standard output'
         # shellcheck disable=SC2086

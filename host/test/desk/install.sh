@@ -6,7 +6,10 @@ why='make install' words=''
 dest=$scratch/dest
 prefix=/opt/eskelvor
 at=$dest$prefix
-make_quietly() { make -C "$root" --no-print-directory "$@" PREFIX=$prefix DESTDIR="$dest" >"$scratch/out" 2>"$scratch/err" || fail 'make failed'; }
+make_quietly() {
+    make -C "$root" --no-print-directory "$@" PREFIX=$prefix DESTDIR="$dest" >"$scratch/out" 2>"$scratch/err" ||
+        fail 'make failed'
+}
 
 make_quietly install
 for file in include/eskelvor.h lib/libeskelvor.a lib/pkgconfig/eskelvor.pc bin/eskelvor share/man/man1/eskelvor.1; do
@@ -40,7 +43,8 @@ fi
 [ "$version" = "$(sed -n 's/^#define ESK_VERSION "\(.*\)"/\1/p' "$root/host/eskelvor.h")" ] || fail "version $version"
 if [ "$(uname -m)" = x86_64 ]; then
     # shellcheck disable=SC2086
-    "${CC:-cc}" -std=c99 -Wall -Wextra -pedantic -Werror -o "$scratch/small" "$scratch/small.c" $flags || fail 'cc failed'
+    "${CC:-cc}" -std=c99 -Wall -Wextra -pedantic -Werror -o "$scratch/small" "$scratch/small.c" $flags ||
+        fail 'cc failed'
     small=$("$scratch/small")
 else
     # Another processor: the installed header and library, by the kit's compiler.

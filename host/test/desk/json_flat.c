@@ -1,12 +1,12 @@
 /*
- * json_flat: reads one JSON document on standard input and writes a line for each value: its path, =, the value. Keys and
- * items are parted by dots, items counted from 0; a string is written as it stands between its quotes.
+ * json_flat: reads one JSON document on standard input and writes a line for each value: its path, =, the value. Keys
+ * and items are parted by dots, items counted from 0; a string is written as it stands between its quotes.
  *
  *   {"results":[{"code":4}],"status":1}     results.0.code=4
  *                                           status=1
  *
- * It takes what RFC 8259 says and nothing else: status 1, and the offset, for any other text. It is built for the machine
- * at hand, and shares no code with the desk program.
+ * It takes what RFC 8259 says (exponents apart) and nothing else: status 1, and the offset, for any other text. It is
+ * built for the machine at hand, and shares no code with the desk program.
  */
 #include <stdio.h>
 #include <stdlib.h>

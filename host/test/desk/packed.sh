@@ -26,7 +26,8 @@ err_is 'eskelvor: field: refused: code 6 at byte 0: a number in a spelling other
 answers 1 'a solidus among others' packed read --json /5
 json_has results.0.code=4 results.0.text=/5 status=1
 answers 1 'no field, and six bytes' packed read --json '' KKKKKK
-json_has results.0.code=1 results.0.length=0 results.1.code=1 results.1.length=6 'results.1.meaning=a packed field has 1 to 5 bytes'
+json_has results.0.code=1 results.0.length=0 \
+    results.1.code=1 results.1.length=6 'results.1.meaning=a packed field has 1 to 5 bytes'
 answers 1 'one refused, one read' packed read K5 KK
 out_is 20
 answers 0 'for a machine: missing is null' packed read --json /// ' U'

@@ -53,16 +53,19 @@ answers 0 'standard input as -' report - --json
 json_has results.0.file=- results.0.departure=YMML
 input=/dev/null
 
-{ printf '\r\n\n'; cat "$examples/one.report"; printf '\n\r\n\n'; cat "$examples/one.report"; printf '\n'; } >"$scratch/gaps"
+one=$examples/one.report
+{ printf '\r\n\n' && cat "$one" && printf '\n\r\n\n' && cat "$one" && printf '\n'; } >"$scratch/gaps"
 answers 0 'line ends between reports, before and behind them, are passed over' report --json "$scratch/gaps"
 json_has results.0.offset=3 results.1.offset=227 results.1.report=2 status=0
 
 answers 1 'a damaged file: the bad ones are told, the others shown' report "$examples/damaged.reports"
 out_has 'report 1 from byte 0 on: YMML' 'report 3 from byte 440 on: ABCD' 'report 5 from byte 873 on: YMML'
-err_is "eskelvor: $examples/damaged.reports, report 2 from byte 220 on: refused: code 5 at byte 25, latitude of observation 1: a number outside its range" \
+damaged="eskelvor: $examples/damaged.reports, report"
+outside='latitude of observation 1: a number outside its range'
+err_is "$damaged 2 from byte 220 on: refused: code 5 at byte 25, $outside" \
     '  RZZZPF: YZ9FLAED5RT U L///9R .IM UKM335UQEKQ M///9\x0d\x0a' \
     '   ^' \
-    "eskelvor: $examples/damaged.reports, report 4 from byte 660 on: refused: code 1 at byte 0: a report has 220 bytes, this one 213" \
+    "$damaged 4 from byte 660 on: refused: code 1 at byte 0: a report has 220 bytes, this one 213" \
     '  ABCDEFGH\x0d\x0a' \
     '  ^' \
     "  its bytes first depart from a report's at byte 99" \
@@ -76,7 +79,7 @@ answers 1 'line ends that have lost their CR: three reports, each told why' repo
 err_has 'report 3 from byte 428 on: refused: code 1 at byte 0: a report has 220 bytes, this one 214' \
     '  its line ends are not CR LF' 'eskelvor: 0 reports shown, 3 refused'
 
-{ head -c 100 "$examples/one.report"; printf 'xyz'; tail -c +101 "$examples/one.report"; cat "$examples/one.report"; } >"$scratch/grown"
+{ head -c 100 "$one" && printf 'xyz' && tail -c +101 "$one" && cat "$one"; } >"$scratch/grown"
 answers 1 'three bytes too many: the next report is still found' report --json "$scratch/grown"
 json_has results.0.code=1 results.0.length=223 results.1.offset=223 results.1.accepted=true status=1
 
@@ -94,14 +97,16 @@ json_has 'results.0.text=ABCDEFGH\u000d\u000aAMDAR3XY\u0000\u001b[2J01\u000d\u00
 
 { head -c 18 "$examples/one.report"; printf '\033'; tail -c +20 "$examples/one.report"; } >"$scratch/mark"
 answers 1 'the mark lines up where a byte before it is not printable' report "$scratch/mark"
-err_is "eskelvor: $scratch/mark, report 1 from byte 0 on: refused: code 4 at byte 16, designator: a byte that is not allowed there" \
+refused='refused: code 4 at byte 16, designator: a byte that is not allowed there'
+err_is "eskelvor: $scratch/mark, report 1 from byte 0 on: $refused" \
     '  AMDAR3AU\x1b137\x0d\x0a' \
     '        ^'
 
-for place in 0:departure 4:arrival 8:'line end' 10:AMDAR3 22:'line end' 24:'kind of observation 1' 50:'quality of observation 1' \
-    51:'kind of observation 2' 73:'quality of observation 2' 74:'line end' 76:'kind of observation 3' 122:'line end'; do
+for place in 0:departure 4:arrival 8:'line end' 10:AMDAR3 22:'line end' 24:'kind of observation 1' \
+    50:'quality of observation 1' 51:'kind of observation 2' 73:'quality of observation 2' 74:'line end' \
+    76:'kind of observation 3' 122:'line end'; do
     at=${place%%:*}
-    { head -c "$at" "$examples/one.report"; printf '\001'; tail -c +$((at + 2)) "$examples/one.report"; } >"$scratch/field"
+    { head -c "$at" "$one" && printf '\001' && tail -c +$((at + 2)) "$one"; } >"$scratch/field"
     answers 1 "a wrong byte $at names its field" report --json "$scratch/field"
     json_has "results.0.place=$at" "results.0.field=${place#*:}"
 done

@@ -22,15 +22,18 @@ answers 0 'a command that changes nothing' apply AWR041000111000400000/071/
 out_is 'command 1: accepted; downlink 0, nothing is sent down' 'nothing changed'
 answers 0 'the same for a machine' apply --json $second
 json_has results.0.downlink=1 'results.1.changes.0.flag=inhibit hours' results.1.changes.0.is=1 \
-    results.1.changes.1.section=4 results.1.changes.1.was.interval_minutes=7 results.1.changes.1.is.interval_minutes=30 \
+    results.1.changes.1.section=4 results.1.changes.1.was.interval_minutes=7 \
+    results.1.changes.1.is.interval_minutes=30 \
     results.1.changes.2.section=9 results.1.changes.2.is.start_hour=23 status=0
 
 answers 0 'kept in a file' apply -o held $second
-[ "$(sed -n 2p held)" = AWR041100111023456089/0000/000000000/300/1060902005120021/1/1/2301/ ] || fail 'another configuration'
+all=AWR041100111023456089/0000/000000000/300/1060902005120021/1/1/2301/
+[ "$(sed -n 2p held)" = $all ] || fail 'another configuration'
 answers 0 'and changed there' apply --config=held --out=held $australia $melbourne
 out_has 'command 2: accepted' 'flag regions: was 0, is 1' 'flag airports: was 0, is 1'
 cp held before
-answers 1 'one command is refused: nothing is kept' apply -c held -o held AWR049999999000400000/071/ AWR049999999000400000/611/
+answers 1 'one command is refused: nothing is kept' apply -c held -o held AWR049999999000400000/071/ \
+    AWR049999999000400000/611/
 err_has 'command 2: refused: code 5 at byte 22, section 4'
 cmp -s held before || fail 'the file is another'
 answers 1 'the same for a machine' apply --json -c held -o held AWR049999999000400000/611/
@@ -39,7 +42,7 @@ cmp -s held before || fail 'the file is another'
 
 sed 's/2301/2302/' held >damaged
 answers 1 'a damaged file is code 12' apply -c damaged
-err_is 'eskelvor: damaged: refused: code 12: the configuration is not valid: the file is cut or damaged: its last line is not the checksum of its bytes'
+err_has 'eskelvor: damaged: refused: code 12: the configuration is not valid: the file is cut or damaged: '
 answers 1 'the same for a machine' apply --json -c damaged
 json_has results.0.code=12 results.0.place=0 results.0.about=damaged status=1
 answers 1 'and is not mended' apply -c damaged -o damaged $second
@@ -51,7 +54,8 @@ answers 1 'a file of another kind' apply -c "$examples/one.report"
 err_has 'not a configuration'
 
 # decide: who reports, in words that a forecaster uses
-answers 0 'after reset: the ascent scheme everywhere' decide --phase ascent --lat 37.67S --lon 144.84E --hour 23 --airfield YMML
+answers 0 'after reset: the ascent scheme everywhere' decide --phase ascent \
+    --lat 37.67S --lon 144.84E --hour 23 --airfield YMML
 out_is 'scheme: in ascent, at 37.6667 S 144.8333 E, in hour 23, airfield YMML'
 answers 0 'level flight needs no airfield' decide --phase level --lat 0 --lon 0 --hour 0
 out_is 'routine: in level flight, at 0.0000 N 0.0000 E, in hour 00'
@@ -62,16 +66,19 @@ out_has 'silent:'
 answers 0 'not hour 1' decide -c held --phase level --lat "2250'S" --lon 8670mE --hour 1
 out_has 'routine:'
 answers 0 'outside every reporting box' decide -c held --phase level --lat 50N --lon 8E --hour 12 --json
-json_has results.0.decision=silent results.0.latitude_minutes=3000 results.0.longitude_minutes=480 results.0.airfield=null
+json_has results.0.decision=silent results.0.latitude_minutes=3000 results.0.longitude_minutes=480 \
+    results.0.airfield=null
 answers 0 'edges belong to a box' decide -c held --phase level --lat 10S --lon 110E --hour 12
 out_has 'routine:'
 answers 0 'one minute north of it' decide -c held --phase level --lat 9:59S --lon 110E --hour 12
 out_has 'silent:'
 answers 0 'Melbourne is selected' decide -c held --phase ascent --lat 37S --lon 144E --hour 12 --airfield YMML
 out_has 'scheme:'
-answers 0 'Adelaide is not, and section 3 has no routine reports' decide -c held --phase ascent --lat 35S --lon 138E --hour 12 --airfield YPAD
+answers 0 'Adelaide is not, and section 3 has no routine reports' decide -c held --phase ascent \
+    --lat 35S --lon 138E --hour 12 --airfield YPAD
 out_has 'silent:'
-answers 0 'a command is applied first, and not kept' decide --phase level --lat 0 --lon 0 --hour 0 AWR040999999000000000/
+answers 0 'a command is applied first, and not kept' decide --phase level \
+    --lat 0 --lon 0 --hour 0 AWR040999999000000000/
 out_has 'silent:'
 answers 1 'that command is refused' decide --phase level --lat 0 --lon 0 --hour 0 AWR042999999000000000/
 err_has 'command 1: refused: code 4 at byte 5'
@@ -87,7 +94,8 @@ answers 1 'the configuration before all else' decide -c damaged --phase level --
 err_has 'code 12'
 answers 2 'ascent without an airfield' decide --phase ascent --lat 0 --lon 0 --hour 0
 err_has '--airfield: needed in ascent and descent'
-for slip in '--lat 37X' '--lat S' '--lat -37S' '--lat 37:60S' '--lat 3..7' '--lat 0x10' '--lat nan' '--lon 12N' '--hour noon' \
+for slip in '--lat 37X' '--lat S' '--lat -37S' '--lat 37:60S' '--lat 3..7' '--lat 0x10' \
+    '--lat nan' '--lon 12N' '--hour noon' \
     '--hour -1' '--phase climb'; do
     # shellcheck disable=SC2086
     answers 2 "a slip: $slip" decide --phase level --lat 0 --lon 0 --hour 0 $slip

@@ -1,6 +1,7 @@
 /*
- * Files that are kept: what is left of a board's file when the program is killed, or a call of the system fails, at each
- * step of an add and of a taking; every byte of a board's file flipped, every length cut; the same for a configuration's.
+ * Files that are kept: what is left of a board's file when the program is killed, or a call of the system fails, at
+ * each step of an add and of a taking; every bit of a board's file flipped, every length cut; the same for a
+ * configuration's.
  *
  * The calls of the system that put a file in place are stood in for here, each by a sibling that does the same, so that
  * the one of a given number can kill the process or fail.
@@ -98,7 +99,7 @@ int unlink(const char *path)
 static char folder[] = "/tmp/eskelvor-keep-XXXXXX";
 static char file[64], output[64];
 
-/* Calls `eskelvor board FILE ..` in a process of its own that stops at a step. Gives its status, -1 where it was killed. */
+/* Calls `eskelvor board FILE ..` in a process of its own that stops at a step. Gives its status; -1: it was killed. */
 static int call(long step, int how, const char *verb, const char *designator, const char *command)
 {
     char *words[] = {file, (char *)(size_t)verb, (char *)(size_t)designator, (char *)(size_t)command};
@@ -204,8 +205,8 @@ static void stops_anywhere(void)
         long add = each_step(stopped_add, how), take = each_step(stopped_take, how);
         long create = each_step(stopped_create, how);
         HOLD(add >= 6 && take >= 7 && create >= 6, "there are steps");
-        printf("test_keep: stopped at each of %ld steps of an add, %ld of a taking, %ld of a creation (%s)\n", add, take,
-               create, how == KILLED ? "killed" : how == NO_SPACE ? "disk full" : "disk broken");
+        printf("test_keep: stopped at each of %ld steps of an add, %ld of a taking, %ld of a creation (%s)\n", add,
+               take, create, how == KILLED ? "killed" : how == NO_SPACE ? "disk full" : "disk broken");
     }
 }
 
