@@ -24,6 +24,7 @@ programs := answer answer_command answer_config answer_decide answer_join answer
 all: $(archive) $(program)
 
 $(archive): crates.txt $(shell find crates -type f)
+	@echo 'The archive is proved and built; the first time this takes some five minutes.'
 	rt staticlib desk
 
 $(program): $(archive) host/tool host/eskelvor.h $(wildcard host/desk/*.[ch])
