@@ -103,11 +103,14 @@ static void tell_changes(const esk_settings *old, const esk_settings *now)
         puts("nothing changed");
 }
 
-/* The whole configuration. */
-static void tell_all(const esk_settings *s)
+static void tell_all_flags(const esk_settings *s)
 {
     for (int i = 0; i < FLAGS; i++)
         printf("flag %s: %d, %s\n", flag_names[i], s->flags[i], flag_in_words(i, s->flags[i]));
+}
+
+static void tell_all_sections(const esk_settings *s)
+{
     for (int k = 2; k <= 9; k++)
         if (k != 7) {
             printf("section %d: %s\n", k, section_title(k));
@@ -130,11 +133,31 @@ static int apply_all(const joined *all, const char *from, kept *out)
         status = keep_replace(out);
     if (status != FINE)
         return status;
-    if (all->texts == 0 && !as_json)
-        tell_all(&now);
-    else
+    if (all->texts > 0 || as_json)
         tell_changes(&old, &now);
+    else {
+        tell_all_flags(&now);
+        tell_all_sections(&now);
+    }
     return FINE;
+}
+
+/* The same under the lock of the file that is written, once what is there has been looked at: what is no configuration
+ * gets no lock file beside it, and is not replaced. */
+static int apply_and_keep(const joined *all, const char *from, const char *to, long wait)
+{
+    esk_settings settings;
+    kept k;
+    int status = config_read(from, &settings);
+    if (status == FINE)
+        status = config_may_replace(to);
+    if (status != FINE)
+        return status;
+    status = keep_hold(&k, to, wait);
+    if (status == FINE)
+        status = apply_all(all, from, &k);
+    keep_release(&k);
+    return status;
 }
 
 static int run(int count, char **words)
@@ -147,7 +170,6 @@ static int run(int count, char **words)
                             {"--wait", NULL, &wait, NULL},
                             {"--text", NULL, NULL, &in.typed},
                             {"--exact", NULL, NULL, &in.exact}};
-    kept k;
     if (take_options(&count, words, known, 5) != FINE)
         return TROUBLE;
     if (whole_number(wait, 0, 86400) < 0)
@@ -157,11 +179,7 @@ static int run(int count, char **words)
         return status;
     if (to == NULL)
         return apply_all(&all, from, NULL);
-    status = keep_hold(&k, to, whole_number(wait, 0, 86400));
-    if (status == FINE)
-        status = apply_all(&all, from, &k);
-    keep_release(&k);
-    return status;
+    return apply_and_keep(&all, from, to, whole_number(wait, 0, 86400));
 }
 
 const subcommand apply_subcommand = {

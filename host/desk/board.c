@@ -19,9 +19,9 @@ int board_create(const char *file, long slots, long wait)
 int board_hold(kept *k, board *b, const char *file, long wait)
 {
     k->locked = -1;
-    if (!keep_exists(file))
-        return failed(file, "open");
-    int status = keep_hold(k, file, wait);
+    int status = board_read(file, b); /* what is no sound board gets no lock file beside it */
+    if (status == FINE)
+        status = keep_hold(k, file, wait);
     return status == FINE ? board_read(file, b) : status;
 }
 

@@ -1,5 +1,6 @@
 #include "config_file.h"
 
+#include <errno.h>
 #include <stdio.h>
 #include <string.h>
 
@@ -82,6 +83,22 @@ int config_read(const char *file, esk_settings *settings)
     if (status == TROUBLE)
         return trouble(file, "%s", why);
     return status == FINE ? FINE : refuse_plain(file, A_SETTINGS, ESK_SETTINGS, why);
+}
+
+int config_may_replace(const char *file)
+{
+    uint8_t bytes[CONFIG_MOST + 1];
+    esk_settings old;
+    const char *why;
+    FILE *from = fopen(file, "rb");
+    if (from == NULL)
+        return errno == ENOENT ? FINE : failed(file, "open");
+    size_t length = fread(bytes, 1, sizeof bytes, from);
+    int readable = !ferror(from);
+    fclose(from);
+    if (readable && config_unpack(&old, bytes, length, &why) == FINE)
+        return FINE;
+    return trouble(file, "there is something else of this name; it is left as it is");
 }
 
 int config_write(kept *k, const esk_settings *settings)

@@ -26,6 +26,9 @@ int config_unpack(esk_settings *settings, const uint8_t *bytes, size_t length, c
 /* Reads a configuration's file, and tells what is wrong with it; for NULL, the configuration after reset. */
 int config_read(const char *file, esk_settings *settings);
 
+/* Whether a configuration may be kept in this file: there is none yet, or it is a sound one. Tells why not. */
+int config_may_replace(const char *file);
+
 /* Writes the configuration's bytes beside the held file, as keep_write does. */
 int config_write(kept *k, const esk_settings *settings);
 

@@ -12,11 +12,6 @@
 
 enum { WAITS_A_SECOND = 50 };
 
-int keep_exists(const char *file)
-{
-    return access(file, F_OK) == 0;
-}
-
 /* The names beside the kept file. Gives whether they fit. */
 static int name_all(kept *k)
 {
@@ -88,7 +83,7 @@ static int keep_mode(const kept *k, int fresh)
 {
     struct statx old;
     if (statx(AT_FDCWD, k->path, 0, STATX_MODE, &old) != 0)
-        return errno == ENOENT;
+        return errno == ENOENT || errno == ENOSYS;
     return fchmod(fresh, old.stx_mode & 0777) == 0;
 }
 

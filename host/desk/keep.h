@@ -20,9 +20,6 @@ typedef struct kept {
     int locked; /* the lock file, open; -1 where it is not */
 } kept;
 
-/* Whether there is such a file; errno tells why not. */
-int keep_exists(const char *file);
-
 /* All of these give FINE or TROUBLE, which they have told. */
 
 /* Takes the lock, waiting so many seconds for another writer. A link is followed. */

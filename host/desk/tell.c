@@ -175,7 +175,7 @@ int refuse_plain(const char *about, subject kind, unsigned code, const char *wha
         return REFUSED;
     }
     fflush(stdout);
-    fprintf(stderr, "eskelvor: %s%srefused: code %u: %s%s%s\n", about ? about : "", about ? ": " : "", code,
+    fprintf(stderr, "eskelvor: %s%srefused: code %u at byte 0: %s%s%s\n", about ? about : "", about ? ": " : "", code,
             meaning(kind, code), what ? ": " : "", what ? what : "");
     return REFUSED;
 }

@@ -19,7 +19,7 @@ out_is 'accepted: 31 bytes wait for XY0001'
 answers 0 'two at once, for a machine' board b add --json XY0002 $first $second
 json_has results.0.accepted=true results.0.designator=XY0002 results.0.commands=2 results.0.length=31 status=0
 answers 1 'nothing waits for it and no slot is free' board b add XY0003 $first
-err_is 'eskelvor: XY0003: refused: code 9: nothing waits for that aircraft and no slot is free'
+err_is 'eskelvor: XY0003: refused: code 9 at byte 0: nothing waits for that aircraft and no slot is free'
 answers 1 'the same for a machine' board b add --json XY0003 $first
 json_has results.0.code=9 results.0.place=0 results.0.about=XY0003 status=1
 cp b before
@@ -40,7 +40,7 @@ cmp -s b before || fail 'looking changed the board'
 answers 0 'handed over, and nothing else on standard output' board b take XY0001
 out_is $both
 answers 1 'once' board b take XY0001
-err_is 'eskelvor: XY0001: refused: code 11: nothing waits for that aircraft'
+err_is 'eskelvor: XY0001: refused: code 11 at byte 0: nothing waits for that aircraft'
 answers 1 'the same for a machine' board b take --json XY0001
 json_has results.0.code=11 status=1
 answers 0 'the slot is free again' board b add XY0003 $first
@@ -98,7 +98,7 @@ for place in 0 3 12 13 16 22 80 1000 6759; do
     for verb in 'list' 'check' "add XY0001 $first" 'take XY0001'; do
         # shellcheck disable=SC2086
         answers 1 "byte $place damaged: $verb" board damaged $verb
-        err_has 'eskelvor: damaged: refused: code 10: the board is not valid: '
+        err_has 'eskelvor: damaged: refused: code 10 at byte 0: the board is not valid: '
         out_is
     done
     cmp -s damaged before || fail 'the damaged file was changed'
@@ -107,7 +107,7 @@ answers 1 'damaged, for a machine' board damaged check --json
 json_has results.0.code=10 results.0.place=0 results.0.about=damaged status=1
 head -c 500 many >damaged
 answers 1 'cut short' board damaged check
-err_is 'eskelvor: damaged: refused: code 10: the board is not valid: the file is cut short: 500 bytes of 6764'
+err_is 'eskelvor: damaged: refused: code 10 at byte 0: the board is not valid: the file is cut short: 500 bytes of 6764'
 { cat many; echo; } >damaged
 answers 1 'a byte more' board damaged check
 err_has 'the file goes on behind its 6764 bytes'

@@ -50,6 +50,7 @@ words='' why=''
 reads 2 nowhere 'a file that is not there' 'No such file or directory'
 [ ! -e .nowhere.eskelvor-lock ] || fail 'a lock for nothing'
 reads 2 folder 'a folder' 'Is a directory'
+[ ! -e .folder.eskelvor-lock ] || fail 'a lock for nothing'
 reads 2 nowhere/at/all 'a folder that is not there' 'No such file or directory'
 reads 12 empty 'an empty file' 'empty\|code'
 head -c 300000 /dev/urandom >noise

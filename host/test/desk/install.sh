@@ -16,6 +16,8 @@ for file in include/eskelvor.h lib/libeskelvor.a lib/pkgconfig/eskelvor.pc bin/e
     [ -s "$at/$file" ] || fail "$file is not there"
     cases=$((cases + 1))
 done
+grep -q "^.TH ESKELVOR 1 .*eskelvor $(sed -n 's/^#define ESK_VERSION "\(.*\)"/\1/p' "$root/host/eskelvor.h")" \
+    "$at/share/man/man1/eskelvor.1" || fail 'the manual page is of another version'
 cmp -s "$at/lib/libeskelvor.a" "$root/target/staticlib/libdesk.a" || fail 'the library is another archive'
 
 cat >"$scratch/small.c" <<'END'

@@ -35,11 +35,11 @@ json_has results.0.number=null results.1.number=10 'results.1.field= U'
 answers 0 'written for a machine' packed write --json -2245 4
 json_has 'results.0.field= INZ' results.0.number=-2245
 answers 1 'a figure that does not fit' packed write 800 2
-err_is 'eskelvor: 800: refused: code 5: a number outside its range'
+err_is 'eskelvor: 800: refused: code 5 at byte 0: a number outside its range'
 answers 1 'one that fits nowhere' packed write 99999999999999999999 5
 err_has 'code 5'
 answers 1 'a width of 6' packed write 0 6
-err_has 'code 1: a packed field has 1 to 5 bytes'
+err_has 'code 1 at byte 0: a packed field has 1 to 5 bytes'
 answers 1 'a width of 0' packed write 0 0
 err_has 'code 1'
 for slip in 'write x 2' 'write 5' 'write 5 x' 'read' 'turn 5' 'write 5 -1' 'write 1.5 2'; do

@@ -42,7 +42,7 @@ cmp -s held before || fail 'the file is another'
 
 sed 's/2301/2302/' held >damaged
 answers 1 'a damaged file is code 12' apply -c damaged
-err_has 'eskelvor: damaged: refused: code 12: the configuration is not valid: the file is cut or damaged: '
+err_has 'eskelvor: damaged: refused: code 12 at byte 0: the configuration is not valid: the file is cut or damaged: '
 answers 1 'the same for a machine' apply --json -c damaged
 json_has results.0.code=12 results.0.place=0 results.0.about=damaged status=1
 answers 1 'and is not mended' apply -c damaged -o damaged $second
@@ -52,6 +52,13 @@ answers 2 'a file of another version' apply -c later
 err_is "eskelvor: later: a configuration's file of another format version; this program reads version 1"
 answers 1 'a file of another kind' apply -c "$examples/one.report"
 err_has 'not a configuration'
+
+answers 0 'a board is no place for a configuration' board board create 1
+cp board before
+answers 2 'another file is left as it is' apply -o board $second
+err_is 'eskelvor: board: there is something else of this name; it is left as it is'
+cmp -s board before || fail 'the file is another'
+answers 2 'a damaged configuration too' apply -o damaged $second
 
 # decide: who reports, in words that a forecaster uses
 answers 0 'after reset: the ascent scheme everywhere' decide --phase ascent \
@@ -83,7 +90,7 @@ out_has 'silent:'
 answers 1 'that command is refused' decide --phase level --lat 0 --lon 0 --hour 0 AWR042999999000000000/
 err_has 'command 1: refused: code 4 at byte 5'
 answers 1 'beyond the pole' decide --phase level --lat 90.1N --lon 0 --hour 0
-err_is 'eskelvor: refused: code 5: a number outside its range: latitudes are 90S to 90N, longitudes 180W to 180E'
+err_is 'eskelvor: refused: code 5 at byte 0: a number outside its range: latitudes are 90S to 90N, longitudes 180W to 180E'
 answers 1 'a number beyond all' decide --phase level --lat 0 --lon 99999999999999999999W --hour 0
 err_has 'code 5'
 answers 1 'hour 24' decide --phase level --lat 0 --lon 0 --hour 24

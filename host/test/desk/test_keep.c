@@ -288,7 +288,7 @@ static void wrong_board(void)
     HOLD(board_status(length + BOARD_TAIL) == TROUBLE, "another format version");
 }
 
-static void damaged_config(void)
+static void flipped_config(void)
 {
     uint8_t bytes[CONFIG_MOST + 1];
     const char *why;
@@ -300,6 +300,14 @@ static void damaged_config(void)
         HOLD(config_unpack(&got, bytes, length, &why) != FINE && why != NULL, "a bit flipped");
         bytes[i / 8] ^= (uint8_t)(1 << i % 8);
     }
+}
+
+static void cut_config(void)
+{
+    uint8_t bytes[CONFIG_MOST + 1];
+    const char *why;
+    esk_settings s = esk_reset(), got;
+    size_t length = config_pack(&s, bytes);
     for (size_t i = 0; i < length; i++)
         HOLD(config_unpack(&got, bytes, i, &why) == REFUSED, "a file cut short");
 }
@@ -316,7 +324,8 @@ int main(void)
     flipped_board();
     cut_board();
     wrong_board();
-    damaged_config();
+    flipped_config();
+    cut_config();
     snprintf(lock, sizeof lock, "%s/.board.eskelvor-lock", folder);
     unlink(lock);
     unlink(file);
