@@ -31,15 +31,17 @@ int main(void)
 }
 END
 
-# The flags are pkg-config's, or those of its file.
+# The flags, read from the .pc file; where pkg-config is there, it must read the same.
+pc=$at/lib/pkgconfig/eskelvor.pc
+grep -qx "prefix=$prefix" "$pc" || fail 'the .pc file has another prefix'
+version=$(sed -n 's/^Version: //p' "$pc")
+flags=$(sed -n -e 's/^Cflags: //p' -e 's/^Libs: //p' "$pc" |
+    sed -e "s|\${includedir}|$at/include|" -e "s|\${libdir}|$at/lib|" | tr '\n' ' ')
 if command -v pkg-config >/dev/null; then
-    flags=$(PKG_CONFIG_PATH="$at/lib/pkgconfig" PKG_CONFIG_SYSROOT_DIR="$dest" pkg-config --cflags --libs eskelvor)
-    version=$(PKG_CONFIG_PATH="$at/lib/pkgconfig" pkg-config --modversion eskelvor)
+    theirs=$(PKG_CONFIG_PATH="$at/lib/pkgconfig" PKG_CONFIG_SYSROOT_DIR="$dest" pkg-config --cflags --libs eskelvor)
+    # shellcheck disable=SC2086
+    [ "$(echo $theirs)" = "$(echo $flags)" ] || fail "pkg-config says $theirs, the file $flags"
 else
-    flags="-I$at/include -L$at/lib -leskelvor"
-    grep -qx 'Libs: -L${libdir} -leskelvor' "$at/lib/pkgconfig/eskelvor.pc" || fail 'the .pc file has no Libs'
-    grep -qx "prefix=$prefix" "$at/lib/pkgconfig/eskelvor.pc" || fail 'the .pc file has another prefix'
-    version=$(sed -n 's/^Version: //p' "$at/lib/pkgconfig/eskelvor.pc")
     echo 'install: pkg-config is not here; its file was read instead'
 fi
 [ "$version" = "$(sed -n 's/^#define ESK_VERSION "\(.*\)"/\1/p' "$root/host/eskelvor.h")" ] || fail "version $version"
