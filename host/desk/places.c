@@ -8,24 +8,27 @@ typedef struct field {
     const char *name;
 } field;
 
-static const field report_head[] = {{4, "departure"}, {4, "arrival"},    {2, "line end"},
-                                    {6, "AMDAR3"},    {6, "designator"}, {2, "line end"}};
+static const field report_head[] = {
+    {4, "departure"}, {4, "arrival"}, {2, "line end"}, {6, "AMDAR3"}, {6, "designator"}, {2, "line end"},
+};
 
-static const field first_fields[] = {{1, "kind"},           {3, "latitude"},   {3, "longitude"}, {5, "time"},
-                                     {3, "altitude"},       {2, "temperature"}, {2, "wind direction"},
-                                     {2, "wind speed"},     {2, "gust"},       {3, "vapour"},    {1, "quality"}};
+static const field first_fields[] = {
+    {1, "kind"},           {3, "latitude"},   {3, "longitude"}, {5, "time"},   {3, "altitude"}, {2, "temperature"},
+    {2, "wind direction"}, {2, "wind speed"}, {2, "gust"},      {3, "vapour"}, {1, "quality"},
+};
 
-static const field later_fields[] = {{1, "kind"},           {2, "latitude change"}, {2, "longitude change"},
-                                     {3, "time since"},     {3, "altitude"},        {2, "temperature"},
-                                     {2, "wind direction"}, {2, "wind speed"},      {2, "gust"},
-                                     {3, "vapour"},         {1, "quality"}};
+static const field later_fields[] = {
+    {1, "kind"},        {2, "latitude change"}, {2, "longitude change"}, {3, "time since"}, {3, "altitude"},
+    {2, "temperature"}, {2, "wind direction"},  {2, "wind speed"},       {2, "gust"},       {3, "vapour"},
+    {1, "quality"},
+};
 
-static const field command_head[] = {{5, "AWR04"},         {1, "flag AMDAR"},    {1, "flag inhibit hours"},
-                                     {1, "flag regions"},  {1, "flag airports"}, {1, "flag ascent"},
-                                     {1, "flag enroute"},  {1, "flag descent"},  {1, "downlink"},
-                                     {1, "indicator E2"},  {1, "indicator E3"},  {1, "indicator E4"},
-                                     {1, "indicator E5"},  {1, "indicator E6"},  {1, "indicator E7"},
-                                     {1, "indicator E8"},  {1, "indicator E9"},  {1, "delimiter"}};
+static const field command_head[] = {
+    {5, "AWR04"},         {1, "flag AMDAR"},   {1, "flag inhibit hours"}, {1, "flag regions"}, {1, "flag airports"},
+    {1, "flag ascent"},   {1, "flag enroute"}, {1, "flag descent"},       {1, "downlink"},     {1, "indicator E2"},
+    {1, "indicator E3"},  {1, "indicator E4"}, {1, "indicator E5"},       {1, "indicator E6"}, {1, "indicator E7"},
+    {1, "indicator E8"},  {1, "indicator E9"}, {1, "delimiter"},
+};
 
 #define COUNT(list) (sizeof(list) / sizeof *(list))
 

@@ -14,10 +14,10 @@ for _ in 1 2 3 4 5; do
 done
 call_takes=$((($(date +%s%N) - began) / 5000)) # microseconds
 
-# A pause of some part of what a call takes, up to all of it.
+# A pause of some part of what a call takes, up to all of it and a quarter.
 pause() {
-    part=$(od -An -N2 -tu2 /dev/urandom)
-    sleep "$(printf '%d.%06d' $((call_takes * part / 65536 / 1000000)) $((call_takes * part / 65536 % 1000000)))"
+    pause=$((call_takes * 5 / 4 * $(od -An -N2 -tu2 /dev/urandom) / 65536))
+    sleep "$(printf '%d.%06d' $((pause / 1000000)) $((pause % 1000000)))"
 }
 
 # Starts a call, and kills it after a pause.

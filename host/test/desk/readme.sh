@@ -1,6 +1,6 @@
 #!/bin/sh
-# Every example of README.md: the lines behind a `$` are run, in order, in one folder, and what they write is what stands
-# there.
+# Every example of README.md: the lines behind a `$` are run, in order, in one folder, and what they write is what
+# stands there.
 . "$(dirname "$0")/cases.sh"
 mkdir "$scratch/bin" "$scratch/folder"
 printf '#!/bin/sh\nexec "%s/host/tool" run eskelvor "$@"\n' "$root" >"$scratch/bin/eskelvor"

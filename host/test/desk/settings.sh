@@ -90,7 +90,8 @@ out_has 'silent:'
 answers 1 'that command is refused' decide --phase level --lat 0 --lon 0 --hour 0 AWR042999999000000000/
 err_has 'command 1: refused: code 4 at byte 5'
 answers 1 'beyond the pole' decide --phase level --lat 90.1N --lon 0 --hour 0
-err_is 'eskelvor: refused: code 5 at byte 0: a number outside its range: latitudes are 90S to 90N, longitudes 180W to 180E'
+ranges='latitudes are 90S to 90N, longitudes 180W to 180E'
+err_is "eskelvor: refused: code 5 at byte 0: a number outside its range: $ranges"
 answers 1 'a number beyond all' decide --phase level --lat 0 --lon 99999999999999999999W --hour 0
 err_has 'code 5'
 answers 1 'hour 24' decide --phase level --lat 0 --lon 0 --hour 24

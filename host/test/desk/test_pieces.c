@@ -1,6 +1,6 @@
 /*
- * Files of reports with random damage: every report that is still whole is found at its offset, every byte belongs to one
- * piece or to the line ends between them, and pieces come in order.
+ * Files of reports with random damage: every report that is still whole is found at its offset, every byte belongs to
+ * one piece or to the line ends between them, and pieces come in order.
  */
 #define _POSIX_C_SOURCE 200809L
 #include "../../desk/pieces.h"
