@@ -30,6 +30,7 @@ static int create(const call *c, int count, char **words)
     }
     json_object(NULL);
     json_bool("accepted", 1);
+    json_number("code", ESK_ACCEPTED);
     json_number("slots", slots);
     json_close();
     return FINE;

@@ -53,7 +53,8 @@ input=commands
 answers 0 'commands from standard input' board b add XY0004 -
 out_is 'accepted: 31 bytes wait for XY0004'
 input=/dev/null
-answers 0 'a board of no slots is valid' board none create 0
+answers 0 'a board of no slots is valid' board none create 0 --json
+json_has results.0.accepted=true results.0.code=0 results.0.slots=0 status=0
 answers 1 'and takes nothing' board none add XY0001 $first
 err_has 'code 9'
 for slip in 'b' 'b create' 'c create 65' 'c create -1' 'c create two' 'b add XY0001' 'b take' 'b take A B' 'b burn' \
