@@ -3,7 +3,7 @@
 # accepted is never lost, and what no longer waits was handed out whole.
 . "$(dirname "$0")/cases.sh"
 cd "$scratch"
-rounds=${ROUNDS:-90}
+rounds=${ROUNDS:-60}
 killed=0 finished=0 twice=0
 why='kill -9 at a random moment' words='board b add'
 
