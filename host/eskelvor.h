@@ -4,17 +4,23 @@
  * Every call takes any bytes at all and answers. It keeps nothing between calls, allocates nothing, and may be
  * called from several threads as long as no two of them lend it the same memory for writing.
  *
- * A byte string is a pointer and a length. NULL with length 0 is the empty string. What is lent for writing must
- * not overlap anything else lent to the same call.
+ * A byte string is a pointer and a length. NULL with length 0 is the empty string; any other pointer is to so many
+ * bytes that may be read, or written where the call writes. What is lent for writing must not overlap anything else
+ * lent to the same call. Nothing is kept of what was lent once the call is back.
  *
  * A refusal leaves all lent memory byte for byte as it was, and carries a code, a place and nothing else. Success
  * writes exactly the text; bytes beyond it stay.
+ *
+ * Of each call is said what is lent, and every code that it answers besides 0, in the order in which they are looked
+ * for, with the place. Checks of a text go on from field to field, left to right; the first that fails is the answer.
  */
 #ifndef ESKELVOR_H
 #define ESKELVOR_H
 
 #include <stddef.h>
 #include <stdint.h>
+
+#define ESK_VERSION "1.0.0"
 
 #ifdef __cplusplus
 extern "C" {
@@ -66,7 +72,8 @@ typedef struct esk_packed {
 } esk_packed;
 
 /*
- * Reads one packed field of 1 to 5 bytes: leading spaces, then base-40 digits, or solidi throughout.
+ * Reads one packed field of 1 to 5 bytes: leading spaces, then base-40 digits, or solidi throughout. The field is lent
+ * for reading. Codes, all at place 0:
  *   1  the field is not 1 to 5 bytes
  *   4  all spaces, a solidus among others, a space after a digit, or a byte that is no digit
  *   6  more digits than the figure needs
@@ -74,8 +81,8 @@ typedef struct esk_packed {
 esk_packed esk_packed_read(const uint8_t *field, size_t length);
 
 /*
- * Writes a figure as a field of `width` bytes at the start of `out`; a missing one as solidi. On success `length`
- * is the width.
+ * Writes a figure as a field of `width` bytes at the start of `out`; a missing one as solidi. `out` is lent for
+ * writing, `room` bytes. On success `length` is the width. Codes, all at place 0:
  *   1  width not 1 to 5
  *   5  the figure does not fit the width (width k holds -20*40^(k-1) to 20*40^(k-1) - 1)
  *   2  room below the width
@@ -122,9 +129,11 @@ typedef struct esk_report_got {
 } esk_report_got;
 
 /*
- * Checks a report's text, field by field from left to right, and builds nothing. length is 0.
- *   1  not 220 bytes
- *   3  AMDAR3 or a CR LF is wrong                       (at the group's first byte)
+ * Checks a report's text, field by field from left to right, and builds nothing. The text is lent for reading. length
+ * is 0.
+ *   1  not 220 bytes; place 0
+ * and then, in each field, at its first byte:
+ *   3  AMDAR3 or a CR LF is wrong
  *   4  an airfield, a designator, a kind, a quality or a packed field has a byte that is not allowed there
  *   6  a packed figure in more digits than it needs
  *   5  a figure outside its range
@@ -133,18 +142,18 @@ typedef struct esk_report_got {
  */
 esk_answer esk_report_check(const uint8_t *text, size_t length);
 
-/* Reads a report. Its answer is that of esk_report_check. */
+/* Reads a report. The text is lent for reading. Its answer, codes and places, is that of esk_report_check. */
 esk_report_got esk_report_read(const uint8_t *text, size_t length);
 
 /*
- * Writes a report at the start of `out`; on success length is 220. The record is checked first, as its text would
- * be, with the place where the field would stand:
+ * Writes a report at the start of `out`, which is lent for writing, `room` bytes; on success length is 220. The record
+ * is checked first, as its text would be, with the place where the field would stand:
  *   4  a byte of an airfield or the designator, a kind, or a quality that is not allowed
  *   5  a figure outside its range
  *   7  one of wind direction and speed without the other (at the speed); a present observation behind an absent
  *      one (at its kind)
  * and then
- *   2  room below 220
+ *   2  room below 220; place 0
  */
 esk_answer esk_report_write(esk_report report, uint8_t *out, size_t room);
 
@@ -244,40 +253,45 @@ typedef struct esk_command_got {
 } esk_command_got;
 
 /*
- * Checks a command's text, field by field from left to right, and builds nothing. length is 0.
- *   1  over 835 bytes
- *   8  the text ends inside a field (at the field), or has bytes after its last delimiter (at the first of them)
- *   3  AWR04 or a delimiter is wrong                    (at the group's first byte)
+ * Checks a command's text, field by field from left to right, and builds nothing. The text is lent for reading. length
+ * is 0.
+ *   1  over 835 bytes; place 0
+ * and then, in each field, at its first byte:
+ *   8  the text ends inside the field, or before it
+ *   3  AWR04 or a delimiter is wrong
  *   4  a flag, the downlink digit, an indicator, a mode, list or timer is another byte; a number has a non-digit; an
  *      edge has a non-digit or another letter; an airfield has a byte that is not allowed
  *   6  zero degrees spelt 00S or 000W
  *   5  a number outside its range
  *   7  north below south (at the south edge), west above east (at the east edge)
+ * and last
+ *   8  bytes after the last delimiter; place: the first of them
  */
 esk_answer esk_command_check(const uint8_t *text, size_t length);
 
-/* Reads a command. Its answer is that of esk_command_check. */
+/* Reads a command. The text is lent for reading. Its answer, codes and places, is that of esk_command_check. */
 esk_command_got esk_command_read(const uint8_t *text, size_t length);
 
 /*
- * Writes a command at the start of `out`; on success length is the text's. The record is checked first, as its text
- * would be, with the place where the field would stand:
+ * Writes a command at the start of `out`, which is lent for writing, `room` bytes; on success length is the text's, at
+ * most 835. The record is checked first, as its text would be, with the place where the field would stand:
  *   4  a flag, the downlink digit, an indicator, a mode, list, timer, letter or airfield byte that is not allowed
  *   6  zero degrees with the letter 'S' or 'W'
  *   5  a count, or a number, outside its range
  *   7  unused entries of a list that are not 0 (at the list's count, after its own check); north below south, west
  *      above east, as above; a section that is not named and not 0 (where it would begin)
  * and then
- *   2  room below the text's length
+ *   2  room below the text's length; place 0
  */
 esk_answer esk_command_write(esk_command command, uint8_t *out, size_t room);
 
 /* ---- the configuration ----------------------------------------------------------------------------------------- */
 
-/* The configuration after reset. */
+/* The configuration after reset. It is valid; nothing is lent. */
 esk_settings esk_reset(void);
 
-/* 1 where the flags are 0 or 1 and every section would pass the checks of esk_command_write, else 0. */
+/* Whether a configuration is valid: 1 where the flags are 0 or 1 and every section would pass the checks of
+ * esk_command_write, else 0. Nothing is lent. */
 uint8_t esk_settings_valid(esk_settings settings);
 
 /* The answer of esk_apply. 16 bytes, no padding. */
@@ -290,9 +304,10 @@ typedef struct esk_applied {
 
 /*
  * Applies a command's text to the caller's own configuration, in place: sets every flag that is not 9 and replaces
- * every named section whole. A refusal leaves the configuration as it was.
- *   12  the configuration is not valid
- * and then the refusals of esk_command_check.
+ * every named section whole. The configuration is lent for writing, and is never NULL; the text is lent for reading. A
+ * refusal leaves the configuration as it was.
+ *   12  the configuration is not valid; place 0
+ * and then the refusals of esk_command_check, with their places.
  */
 esk_applied esk_apply(esk_settings *settings, const uint8_t *text, size_t length);
 
@@ -309,7 +324,7 @@ typedef struct esk_decided {
 
 /*
  * Whether an aircraft with this configuration reports: in a phase (ESK_ASCENT..), at a latitude and longitude in
- * minutes, in an hour, at an airfield.
+ * minutes, in an hour, at an airfield, which is lent for reading. Codes, all at place 0:
  *   12  the configuration is not valid
  *   5   phase above 2, hour above 23, latitude not -5400 to 5400 or longitude not -10800 to 10800
  *   4   the airfield is not four bytes 'A' to 'Z' or '0' to '9', in every phase
@@ -321,10 +336,11 @@ esk_decided esk_decide(esk_settings settings, uint8_t phase, int32_t latitude, i
 
 /*
  * Joins two commands' texts into one at the start of `out`: each flag and section from the second where it sets one,
- * else from the first, and the larger downlink digit. On success length is the joined text's, at most 835.
- *   the refusals of esk_command_check for the first text, with text 1,
- *   those for the second, with text 2, and then
- *   2  room below the joined text's length, with text 0
+ * else from the first, and the larger downlink digit. The two texts are lent for reading, and may be the same; `out` is
+ * lent for writing, `room` bytes. On success length is the joined text's, at most 835.
+ *   the refusals of esk_command_check for the first text, with text 1 and the place in it,
+ *   those for the second, with text 2 and the place in it, and then
+ *   2  room below the joined text's length, with text 0; place 0
  */
 esk_answer esk_join(const uint8_t *first, size_t first_length, const uint8_t *second, size_t second_length,
                     uint8_t *out, size_t room);
@@ -340,28 +356,30 @@ typedef struct esk_slot {
 } esk_slot;
 
 /*
- * Checks a board: n slots, and an area of 835 bytes for each. length is 0.
+ * Checks a board: n slots, and an area of 835 bytes for each, both lent for reading. length is 0. Place 0:
  *   10  more than 64 slots, an area of another length, a used slot whose designator has a byte that is not allowed or
  *       is another used slot's, or whose text is not an accepted command
  */
 esk_answer esk_board_check(const esk_slot *slots, size_t n, const uint8_t *area, size_t area_length);
 
 /*
- * Adds a command for an aircraft: joined onto the text that waits for it, or into the lowest free slot. On success
- * length is that of the text that then waits. Only that slot and the bytes of that text change.
- *   10  the board is not valid
+ * Adds a command for an aircraft: joined onto the text that waits for it, or into the lowest free slot. Slots and area
+ * are lent for writing, designator and text for reading. On success length is that of the text that then waits. Only
+ * that slot and the bytes of that text change. `text` of the answer is always 0.
+ *   10  the board is not valid, as for esk_board_check; place 0
  *   4   the designator is not six bytes 'A' to 'Z' or '0' to '9'; place 0
- *   the refusals of esk_command_check, and then
- *   9   nothing waits for that aircraft and no slot is free
+ *   the refusals of esk_command_check, with their places in the text, and then
+ *   9   nothing waits for that aircraft and no slot is free; place 0
  */
 esk_answer esk_board_add(esk_slot *slots, size_t n, uint8_t *area, size_t area_length, const uint8_t *designator,
                          size_t designator_length, const uint8_t *text, size_t length);
 
 /*
- * Takes what waits for an aircraft: copies it to the start of `out` and frees its slot. On success length is the
- * text's. The slot's length becomes 0; its designator and the area stay.
- *   10  the board is not valid
- *   4   the designator is not six bytes 'A' to 'Z' or '0' to '9'; place 0
+ * Takes what waits for an aircraft: copies it to the start of `out` and frees its slot. Slots and `out`, `room` bytes,
+ * are lent for writing, area and designator for reading. On success length is the text's. The slot's length becomes 0;
+ * its designator and the area stay. Codes, all at place 0:
+ *   10  the board is not valid, as for esk_board_check
+ *   4   the designator is not six bytes 'A' to 'Z' or '0' to '9'
  *   11  nothing waits for that aircraft
  *   2   room below the text's length
  */

@@ -1,0 +1,62 @@
+#include "board.h"
+
+#include <string.h>
+
+int board_create(const char *file, long slots, long wait)
+{
+    static board empty;
+    kept k;
+    empty.n = (size_t)slots;
+    int status = keep_hold(&k, file, wait);
+    if (status == FINE)
+        status = board_write(&k, &empty);
+    if (status == FINE)
+        status = keep_create(&k);
+    keep_release(&k);
+    return status;
+}
+
+int board_hold(kept *k, board *b, const char *file, long wait)
+{
+    k->locked = -1;
+    int status = board_read(file, b); /* what is no sound board gets no lock file beside it */
+    if (status == FINE)
+        status = keep_hold(k, file, wait);
+    return status == FINE ? board_read(file, b) : status;
+}
+
+static const uint8_t *bytes(const char *word)
+{
+    return (const uint8_t *)word;
+}
+
+/* Whether a designator is six bytes that are allowed. A taking without room changes nothing, and answers 4 before it
+ * looks whether anything waits. */
+static int designator_status(board *b, const char *designator)
+{
+    size_t length = strlen(designator);
+    origin from = {NULL, "designator", 0, 0};
+    esk_answer a = esk_board_take(b->slots, b->n, b->area, b->n * ESK_COMMAND_BYTES, bytes(designator), length, NULL,
+                                  0);
+    return a.code == ESK_BYTE ? refuse(&from, A_DESIGNATOR, a, bytes(designator), length, length) : FINE;
+}
+
+int board_add(board *b, const char *designator, const uint8_t *text, size_t length, size_t *waiting)
+{
+    if (designator_status(b, designator) != FINE)
+        return REFUSED;
+    esk_answer a = esk_board_add(b->slots, b->n, b->area, b->n * ESK_COMMAND_BYTES, bytes(designator),
+                                 strlen(designator), text, length);
+    *waiting = a.length;
+    return a.code == ESK_ACCEPTED ? FINE : refuse_plain(designator, A_BOARD, a.code, NULL);
+}
+
+int board_take(board *b, const char *designator, uint8_t *out, size_t *length)
+{
+    if (designator_status(b, designator) != FINE)
+        return REFUSED;
+    esk_answer a = esk_board_take(b->slots, b->n, b->area, b->n * ESK_COMMAND_BYTES, bytes(designator),
+                                  strlen(designator), out, ESK_COMMAND_BYTES);
+    *length = a.length;
+    return a.code == ESK_ACCEPTED ? FINE : refuse_plain(designator, A_BOARD, a.code, NULL);
+}

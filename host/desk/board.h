@@ -1,0 +1,20 @@
+/* board.h: what is done with a board that is kept in a file; for the subcommand and for the busy night. */
+#ifndef DESK_BOARD_H
+#define DESK_BOARD_H
+
+#include "board_file.h"
+
+/* All of these give a status, and have told what is wrong. */
+
+int board_create(const char *file, long slots, long wait);
+
+/* Holds the file and reads the board; whatever it gives, keep_release is then due. */
+int board_hold(kept *k, board *b, const char *file, long wait);
+
+/* Adds an accepted command to the board that was read; `waiting` becomes the length of the text that then waits. */
+int board_add(board *b, const char *designator, const uint8_t *text, size_t length, size_t *waiting);
+
+/* Takes what waits from the board that was read. */
+int board_take(board *b, const char *designator, uint8_t *out, size_t *length);
+
+#endif

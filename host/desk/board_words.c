@@ -1,0 +1,234 @@
+/* eskelvor board: a board kept in a file. */
+#define _POSIX_C_SOURCE 200809L
+#include "board.h"
+#include "joining.h"
+#include "json.h"
+#include "options.h"
+
+#include <errno.h>
+#include <stdio.h>
+#include <string.h>
+#include <unistd.h>
+
+/* The words of one call: the board's file, and what the options say. */
+typedef struct call {
+    const char *file;
+    long wait;
+    intake in;
+} call;
+
+static int create(const call *c, int count, char **words)
+{
+    long slots = count == 1 ? whole_number(words[0], 0, ESK_BOARD_SLOTS) : -1;
+    if (slots < 0)
+        return trouble("create", "give the number of slots, 0 to 64");
+    if (board_create(c->file, slots, c->wait) != FINE)
+        return TROUBLE;
+    if (!as_json) {
+        printf("%s: a board of %ld slots\n", c->file, slots);
+        return FINE;
+    }
+    json_object(NULL);
+    json_bool("accepted", 1);
+    json_number("code", ESK_ACCEPTED);
+    json_number("slots", slots);
+    json_close();
+    return FINE;
+}
+
+static int tell_added(const char *designator, unsigned long commands, size_t length)
+{
+    if (!as_json) {
+        printf("accepted: %lu bytes wait for %s\n", (unsigned long)length, designator);
+        return FINE;
+    }
+    json_object(NULL);
+    json_bool("accepted", 1);
+    json_number("code", ESK_ACCEPTED);
+    json_word("designator", designator);
+    json_number("commands", (long long)commands);
+    json_number("length", (long long)length);
+    json_close();
+    return FINE;
+}
+
+/* All the commands or none: what is accepted is told once it is on disk. */
+static int add(call *c, int count, char **words)
+{
+    static board b;
+    static joined all;
+    size_t length = 0;
+    kept k;
+    if (count < 2)
+        return trouble("add", "give the aircraft's designator and a command");
+    int status = gather(&c->in, count - 1, words + 1, &all);
+    if (status != FINE)
+        return status;
+    status = board_hold(&k, &b, c->file, c->wait);
+    if (status == FINE)
+        status = board_add(&b, words[0], all.text, all.length, &length);
+    if (status == FINE)
+        status = board_write(&k, &b);
+    if (status == FINE)
+        status = keep_replace(&k);
+    keep_release(&k);
+    return status == FINE ? tell_added(words[0], all.texts, length) : status;
+}
+
+static void tell_taken(const char *designator, const uint8_t *text, size_t length)
+{
+    if (!as_json) {
+        fwrite(text, 1, length, stdout);
+        putchar('\n');
+        return;
+    }
+    json_object(NULL);
+    json_bool("accepted", 1);
+    json_number("code", ESK_ACCEPTED);
+    json_word("designator", designator);
+    json_number("length", (long long)length);
+    json_text("text", text, length);
+    json_close();
+}
+
+/* All that was told is out of this program, and on disk where standard output is a file. */
+static int hand_out(void)
+{
+    if (tell_end(FINE) != FINE)
+        return TROUBLE;
+    if (fsync(STDOUT_FILENO) == 0 || errno == EINVAL || errno == EROFS || errno == ENOTSUP)
+        return FINE;
+    return failed("standard output", "flush");
+}
+
+/*
+ * The new board is made ready, the command is handed out, and only then is the new board put in place. A kill between
+ * the two leaves the command on the board: it may be handed out twice, and is never lost.
+ */
+static int take(const call *c, int count, char **words)
+{
+    static board b;
+    uint8_t text[ESK_COMMAND_BYTES];
+    size_t length = 0;
+    kept k;
+    if (count != 1)
+        return trouble("take", "give the aircraft's designator");
+    int status = board_hold(&k, &b, c->file, c->wait);
+    if (status == FINE)
+        status = board_take(&b, words[0], text, &length);
+    if (status == FINE)
+        status = board_write(&k, &b);
+    if (status == FINE) {
+        tell_taken(words[0], text, length);
+        status = hand_out();
+        if (status != FINE) {
+            keep_drop(&k);
+            trouble(words[0], "not handed out; it still waits");
+        } else if (keep_replace(&k) != FINE)
+            status = trouble(words[0], "handed out, and may still wait: take it again");
+    }
+    keep_release(&k);
+    return status;
+}
+
+static void list_slots(const board *b)
+{
+    for (size_t i = 0; i < b->n; i++) {
+        const esk_slot *s = &b->slots[i];
+        if (s->length == 0)
+            continue;
+        printf("  slot %2lu  %.6s  %3d bytes  %.*s\n", (unsigned long)i + 1, (const char *)s->designator, s->length,
+               s->length, (const char *)board_text(b, i));
+    }
+}
+
+static void json_slots(const board *b)
+{
+    json_list("waiting");
+    for (size_t i = 0; i < b->n; i++) {
+        if (b->slots[i].length == 0)
+            continue;
+        json_object(NULL);
+        json_number("slot", (long long)i + 1);
+        json_text("designator", b->slots[i].designator, 6);
+        json_number("length", b->slots[i].length);
+        json_text("text", board_text(b, i), b->slots[i].length);
+        json_close();
+    }
+    json_close();
+}
+
+/* A reader needs no lock: it sees the old file or the new one. */
+static int look(const call *c, int lists)
+{
+    static board b;
+    int status = board_read(c->file, &b);
+    if (status != FINE)
+        return status;
+    if (as_json) {
+        json_object(NULL);
+        json_bool("accepted", 1);
+        json_number("code", ESK_ACCEPTED);
+        json_number("slots", (long long)b.n);
+        json_number("used", (long long)board_used(&b));
+        if (lists)
+            json_slots(&b);
+        json_close();
+        return FINE;
+    }
+    printf("%s: valid, %lu of %lu slots used\n", c->file, (unsigned long)board_used(&b), (unsigned long)b.n);
+    if (lists)
+        list_slots(&b);
+    return FINE;
+}
+
+static int run(int count, char **words)
+{
+    const char *wait = "10";
+    call c = {NULL, 0, {0, 0, 0, NULL, NULL}};
+    const option known[] = {{"--wait", NULL, &wait, NULL},
+                            {"--text", NULL, NULL, &c.in.typed},
+                            {"--exact", NULL, NULL, &c.in.exact}};
+    if (take_options(&count, words, known, 3) != FINE)
+        return TROUBLE;
+    c.wait = whole_number(wait, 0, 86400);
+    if (c.wait < 0)
+        return trouble("--wait", "give whole seconds");
+    if (count < 2)
+        return trouble(NULL, "give the board's file and what to do; --help tells more");
+    c.file = words[0];
+    if (strcmp(words[1], "create") == 0)
+        return create(&c, count - 2, words + 2);
+    if (strcmp(words[1], "add") == 0)
+        return add(&c, count - 2, words + 2);
+    if (strcmp(words[1], "take") == 0)
+        return take(&c, count - 2, words + 2);
+    if (count == 2 && strcmp(words[1], "list") == 0)
+        return look(&c, 1);
+    if (count == 2 && strcmp(words[1], "check") == 0)
+        return look(&c, 0);
+    return trouble(words[1], "no such thing to do with a board; --help tells what there is");
+}
+
+const subcommand board_subcommand = {
+    "board",
+    "FILE create N | add DESIGNATOR COMMAND.. | take DESIGNATOR\n"
+    "           | list | check",
+    "Keeps the board of waiting commands in a file",
+    "  create N     makes a board of N slots, at most 64; a file that is there stays\n"
+    "  add          adds commands for an aircraft, all of them or none; words and\n"
+    "               files as for eskelvor check\n"
+    "  take         hands what waits for an aircraft to standard output, and frees\n"
+    "               its slot\n"
+    "  list         shows what waits\n"
+    "  check        says whether the file and its board are sound\n"
+    "  --wait S     waits S seconds for another writer of the board (10)\n"
+    "  --text       every word behind the designator is a command\n"
+    "  --exact      all the bytes of a file are one command, line ends too\n"
+    "\n"
+    "A kill at any moment leaves the board as it was before, or as it is after. An\n"
+    "add that was told accepted is on disk. A taking is handed out before the board\n"
+    "that lacks it is put in place: a kill between the two hands it out twice, and\n"
+    "never loses it. A damaged file is refused with code 10, and never mended.\n",
+    run,
+};

@@ -1,0 +1,29 @@
+/* desk.h: the desk program's subcommands, and the exit statuses that they give. */
+#ifndef DESK_H
+#define DESK_H
+
+/* Exit statuses. Of several texts or files the highest counts. */
+enum {
+    FINE = 0,    /* accepted */
+    REFUSED = 1, /* looked at, and refused with a code of eskelvor.h */
+    TROUBLE = 2  /* could not be looked at or written: usage, files, a full disk */
+};
+
+/* A subcommand. `run` is handed the words behind its name and gives the exit status. */
+typedef struct subcommand {
+    const char *name;
+    const char *usage;   /* the words that it takes */
+    const char *summary; /* one line */
+    const char *help;    /* the rest of its --help */
+    int (*run)(int count, char **words);
+} subcommand;
+
+extern const subcommand report_subcommand, check_subcommand, explain_subcommand, join_subcommand, apply_subcommand,
+    decide_subcommand, packed_subcommand, board_subcommand, night_subcommand;
+
+static inline int worse(int one, int other)
+{
+    return one > other ? one : other;
+}
+
+#endif

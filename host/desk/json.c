@@ -1,0 +1,113 @@
+#include "json.h"
+
+#include <stdio.h>
+#include <string.h>
+
+enum { DEEPEST = 12 };
+
+static struct {
+    int depth;
+    char closer[DEEPEST]; /* of what is open at each depth */
+    int filled[DEEPEST];  /* whether it holds something already */
+} open;
+
+static void quoted(const void *bytes, size_t length)
+{
+    const uint8_t *at = bytes;
+    putchar('"');
+    for (size_t i = 0; i < length; i++)
+        if (at[i] == '"' || at[i] == '\\')
+            printf("\\%c", at[i]);
+        else if (at[i] < 0x20 || at[i] > 0x7e)
+            printf("\\u%04x", at[i]);
+        else
+            putchar(at[i]);
+    putchar('"');
+}
+
+/* The comma that is due, and the key. Each item of the outermost list has a line of its own. */
+static void begin(const char *key)
+{
+    if (open.depth > 0 && open.filled[open.depth - 1]++)
+        putchar(',');
+    if (open.depth == 2 && key == NULL)
+        putchar('\n');
+    if (key != NULL) {
+        quoted(key, strlen(key));
+        putchar(':');
+    }
+}
+
+static void enter(const char *key, char opener, char closer)
+{
+    begin(key);
+    putchar(opener);
+    open.closer[open.depth] = closer;
+    open.filled[open.depth++] = 0;
+}
+
+void json_object(const char *key)
+{
+    enter(key, '{', '}');
+}
+
+void json_list(const char *key)
+{
+    enter(key, '[', ']');
+}
+
+void json_close(void)
+{
+    putchar(open.closer[--open.depth]);
+}
+
+void json_text(const char *key, const void *bytes, size_t length)
+{
+    begin(key);
+    quoted(bytes, length);
+}
+
+void json_word(const char *key, const char *word)
+{
+    if (word == NULL)
+        json_null(key);
+    else
+        json_text(key, word, strlen(word));
+}
+
+void json_number(const char *key, long long number)
+{
+    begin(key);
+    printf("%lld", number);
+}
+
+void json_bool(const char *key, int yes)
+{
+    begin(key);
+    fputs(yes ? "true" : "false", stdout);
+}
+
+void json_null(const char *key)
+{
+    begin(key);
+    fputs("null", stdout);
+}
+
+void json_decimal(const char *key, long number, int places)
+{
+    long steps = 1, size = number < 0 ? -number : number;
+    for (int i = 0; i < places; i++)
+        steps *= 10;
+    begin(key);
+    printf("%s%ld", number < 0 ? "-" : "", size / steps);
+    if (places > 0)
+        printf(".%0*ld", places, size % steps);
+}
+
+void json_figure(const char *key, esk_figure figure, int places)
+{
+    if (figure.given)
+        json_decimal(key, figure.number, places);
+    else
+        json_null(key);
+}

@@ -1,0 +1,28 @@
+/*
+ * json.h: one JSON document on standard output, written as it comes.
+ *
+ * A key of NULL is for an item of a list. A byte that is not printable ASCII is written as \u00 and its two hex digits,
+ * so that any bytes at all make a valid document and can be had back from it.
+ */
+#ifndef DESK_JSON_H
+#define DESK_JSON_H
+
+#include "eskelvor.h"
+
+void json_object(const char *key);
+void json_list(const char *key);
+void json_close(void); /* the object or list that was opened last */
+
+void json_text(const char *key, const void *bytes, size_t length);
+void json_word(const char *key, const char *word); /* NULL is written as null */
+void json_number(const char *key, long long number);
+void json_bool(const char *key, int yes);
+void json_null(const char *key);
+
+/* A number counted in steps of 1, 1/10, 1/1000..: `places` digits stand behind the point. */
+void json_decimal(const char *key, long number, int places);
+
+/* A figure, null where it is missing. */
+void json_figure(const char *key, esk_figure figure, int places);
+
+#endif

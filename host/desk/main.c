@@ -1,0 +1,102 @@
+/*
+ * eskelvor: the desk program, for a person at a terminal and for scripts, over the proved calls of eskelvor.h.
+ *
+ * Every verdict on a text, a board or a configuration is a proved call's. What is here reads words and files, shows
+ * answers, and keeps boards and configurations in files.
+ */
+#define _XOPEN_SOURCE 700
+#include "desk.h"
+#include "tell.h"
+
+#include <signal.h>
+#include <stdio.h>
+#include <string.h>
+
+static const subcommand *const subcommands[] = {
+    &report_subcommand, &check_subcommand,  &explain_subcommand, &join_subcommand,  &apply_subcommand,
+    &decide_subcommand, &packed_subcommand, &board_subcommand,   &night_subcommand,
+};
+
+enum { SUBCOMMANDS = sizeof subcommands / sizeof *subcommands };
+
+static void help(void)
+{
+    puts("usage: eskelvor SUBCOMMAND [WORD..]\n\n"
+         "The weather desk: aircraft reports, the commands that tell aircraft when to\n"
+         "report, and the board of commands that wait for aircraft out of coverage.\n");
+    for (int i = 0; i < SUBCOMMANDS; i++)
+        printf("  %-8s %s\n", subcommands[i]->name, subcommands[i]->summary);
+    puts("\n  eskelvor SUBCOMMAND --help   what it takes and tells\n"
+         "  eskelvor --version\n"
+         "  --json                       with any subcommand: one JSON document on\n"
+         "                               standard output, refusals too\n\n"
+         "Exit status: 0 accepted, 1 refused, 2 usage or files. Refusals and troubles go\n"
+         "to standard error.");
+}
+
+static void help_on(const subcommand *s)
+{
+    printf("usage: eskelvor %s %s\n\n%s.\n\n%s", s->name, s->usage, s->summary, s->help);
+    puts("\n  --json       one JSON document on standard output, refusals too\n"
+         "  --help       this\n\n"
+         "Exit status: 0 accepted, 1 refused, 2 usage or files.");
+}
+
+static const subcommand *find(const char *name)
+{
+    for (int i = 0; i < SUBCOMMANDS; i++)
+        if (strcmp(subcommands[i]->name, name) == 0)
+            return subcommands[i];
+    return NULL;
+}
+
+/* Takes a word out of the words before a --, wherever it stands; gives whether it was there. */
+static int take_word(const char *word, int *count, char **words)
+{
+    int kept = 0, plain = 0, found = 0;
+    for (int i = 0; i < *count; i++) {
+        plain |= strcmp(words[i], "--") == 0;
+        if (!plain && strcmp(words[i], word) == 0)
+            found = 1;
+        else
+            words[kept++] = words[i];
+    }
+    *count = kept;
+    return found;
+}
+
+static int run(int count, char **words)
+{
+    const subcommand *s = count == 0 ? NULL : find(words[0]);
+    int status;
+    if (s == NULL) {
+        tell_begin(count == 0 ? NULL : words[0]);
+        if (count == 0)
+            status = trouble(NULL, "no subcommand; eskelvor --help tells which there are");
+        else
+            status = trouble(words[0], "no such subcommand; eskelvor --help tells which there are");
+        return tell_end(status);
+    }
+    tell_begin(s->name);
+    status = s->run(count - 1, words + 1);
+    return worse(status, tell_end(status));
+}
+
+int main(int count, char **words)
+{
+    count--;
+    words++;
+    signal(SIGXFSZ, SIG_IGN); /* a file that may not grow is told as a write that failed */
+    int wants_help = take_word("--help", &count, words) | take_word("-h", &count, words);
+    as_json = take_word("--json", &count, words);
+    if (!wants_help && (count != 1 || strcmp(words[0], "--version") != 0))
+        return run(count, words);
+    const subcommand *s = count == 0 ? NULL : find(words[0]);
+    if (!wants_help)
+        puts("eskelvor " ESK_VERSION);
+    else if (s != NULL)
+        help_on(s);
+    else
+        help();
+    return tell_end(FINE);
+}

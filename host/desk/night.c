@@ -1,0 +1,206 @@
+/*
+ * eskelvor night: a busy night. The desk sends more commands than a queue of sixteen holds to aircraft out of coverage,
+ * the one that switches ascent reports on and the one that ends sampling every three seconds among the first. Then each
+ * aircraft comes back, and is handed what waits for it.
+ *
+ * The board is kept in a file, as eskelvor board keeps one. Each aircraft's configuration after its hand-over is held
+ * against the one that the desk shows, which is every command applied as it was accepted. Then the same night is played
+ * on a queue of sixteen that drops the oldest.
+ */
+#include "night.h"
+
+#include "json.h"
+#include "options.h"
+
+#include <stdio.h>
+#include <string.h>
+
+enum { OLD_QUEUE = 16 };
+
+static esk_settings desk[AIRCRAFT], held[AIRCRAFT], old[AIRCRAFT];
+static int queued[COMMANDS_MOST]; /* what the old queue would have taken: every command that is well formed */
+static int queued_count, accepted;
+
+static const uint8_t *bytes(const char *text)
+{
+    return (const uint8_t *)text;
+}
+
+static void begin(void)
+{
+    for (int i = 0; i < AIRCRAFT; i++) {
+        desk[i] = esk_reset();
+        esk_apply(&desk[i], bytes(fleet[i].before), strlen(fleet[i].before));
+        held[i] = old[i] = desk[i];
+    }
+}
+
+static void tell_sent(const sending *s, esk_answer a)
+{
+    if (as_json) {
+        json_object(NULL);
+        json_word("event", "add");
+        json_word("designator", fleet[s->to].designator);
+        json_word("text", s->text);
+        json_number("code", a.code);
+        json_number("place", (long long)a.place);
+        json_number("waiting", a.length);
+        json_close();
+    } else if (a.code == ESK_NO_SLOT)
+        printf("  %s  %-42s refused: code 9, no slot is free (%s)\n", fleet[s->to].designator, s->text, s->why);
+    else if (a.code != ESK_ACCEPTED)
+        printf("  %s  %-42s refused: code %u at byte %lu (%s)\n", fleet[s->to].designator, s->text, (unsigned)a.code,
+               (unsigned long)a.place, s->why);
+    else
+        printf("  %s  %-42s %3lu bytes wait (%s)\n", fleet[s->to].designator, s->text, (unsigned long)a.length, s->why);
+}
+
+/* The desk sends; what is accepted is at once in the configuration that the desk shows. */
+static int send(const char *file, int number)
+{
+    const sending *s = &sendings[number];
+    esk_answer a;
+    int status = night_add(file, fleet[s->to].designator, s->text, &a);
+    if (status != FINE)
+        return status;
+    tell_sent(s, a);
+    if (a.code == ESK_ACCEPTED || a.code == ESK_NO_SLOT)
+        queued[queued_count++] = number;
+    if (a.code == ESK_ACCEPTED) {
+        esk_apply(&desk[s->to], bytes(s->text), strlen(s->text));
+        accepted++;
+    }
+    return FINE;
+}
+
+static void tell_held(const char *event, const char *lead, int aircraft, const esk_settings *now, int same)
+{
+    if (as_json) {
+        json_object(NULL);
+        json_word("event", event);
+        json_word("designator", fleet[aircraft].designator);
+        json_number("ascent", now->flags[4]);
+        json_number("series_1_interval_seconds", now->ascent.interval1);
+        json_bool("as_the_desk_shows", same);
+        json_close();
+    } else
+        printf("  %-6s  ascent reports %s, a sample every %d seconds: %s\n", lead, now->flags[4] ? "on" : "off",
+               now->ascent.interval1, same ? "as the desk shows" : "NOT WHAT THE DESK SHOWS");
+}
+
+/* An aircraft comes back, and applies what it is handed. Counts it where it then holds what the desk shows. */
+static int hand_over(const char *file, int aircraft, int *agree)
+{
+    uint8_t out[ESK_COMMAND_BYTES];
+    esk_answer a;
+    int status = night_take(file, fleet[aircraft].designator, out, &a);
+    if (status != FINE)
+        return status;
+    int applied = a.code == ESK_ACCEPTED && esk_apply(&held[aircraft], out, a.length).code == ESK_ACCEPTED;
+    int same = memcmp(&held[aircraft], &desk[aircraft], sizeof *desk) == 0;
+    if (!as_json)
+        printf("  %s  %.*s\n", fleet[aircraft].designator, (int)a.length, (const char *)out);
+    tell_held("hand-over", "", aircraft, &held[aircraft], applied && same);
+    *agree += applied && same;
+    return FINE;
+}
+
+static void say(const char *line)
+{
+    if (!as_json)
+        printf("\n%s\n\n", line);
+}
+
+static int evening(const char *file)
+{
+    int status = FINE;
+    for (int i = 0; i < sendings_count && status == FINE; i++)
+        status = send(file, i);
+    return status;
+}
+
+/* The fleet comes back. The latecomer's command is sent again once a slot is free. */
+static int morning(const char *file, int *agree)
+{
+    int status = FINE;
+    for (int i = 0; i < AIRCRAFT && status == FINE; i++)
+        if (i == LATECOMER)
+            status = send(file, sendings_count);
+        else
+            status = hand_over(file, i, agree);
+    return status == FINE ? hand_over(file, LATECOMER, agree) : status;
+}
+
+/* The last of the evening's commands, which a queue that drops the oldest would have handed over. */
+static void hand_over_queue(int count)
+{
+    for (int i = count - OLD_QUEUE; i < count; i++) {
+        const sending *s = &sendings[queued[i]];
+        esk_apply(&old[s->to], bytes(s->text), strlen(s->text));
+    }
+}
+
+/* Gives how many aircraft hold what the desk shows, had the queue been there. */
+static int agree_with_queue(void)
+{
+    int agree = 0;
+    for (int i = 0; i < AIRCRAFT; i++) {
+        int same = memcmp(&old[i], &desk[i], sizeof *desk) == 0;
+        tell_held("old queue", fleet[i].designator, i, &old[i], same);
+        agree += same;
+    }
+    return agree;
+}
+
+static int play(const char *file)
+{
+    int agree = 0;
+    char line[160];
+    begin();
+    say("Four aircraft are out of coverage, and a fifth soon is; the board has four slots. The desk goes on sending.");
+    int status = evening(file);
+    if (status != FINE)
+        return status;
+    int in_evening = queued_count;
+    snprintf(line, sizeof line, "%d of %d commands accepted. Each aircraft comes back, and is handed one command:",
+             accepted, sendings_count);
+    say(line);
+    status = morning(file, &agree);
+    if (status != FINE)
+        return status;
+    snprintf(line, sizeof line, "A queue of %d would have taken %d, dropped the first %d, and told nobody:", OLD_QUEUE,
+             in_evening, in_evening - OLD_QUEUE);
+    say(line);
+    hand_over_queue(in_evening);
+    int agree_before = agree_with_queue();
+    if (!as_json)
+        printf("\nWith the board %d of %d aircraft hold what the desk shows; with the queue %d.\n", agree, AIRCRAFT,
+               agree_before);
+    return agree == AIRCRAFT ? FINE : REFUSED;
+}
+
+static int run(int count, char **words)
+{
+    char folder[PATH_ROOM], file[PATH_ROOM + 8];
+    if (take_options(&count, words, NULL, 0) != FINE)
+        return TROUBLE;
+    if (count != 0)
+        return trouble(words[0], "this takes no words");
+    if (night_folder(folder, file) != FINE)
+        return TROUBLE;
+    int status = board_create(file, NIGHT_SLOTS, 0);
+    if (status == FINE)
+        status = play(file);
+    night_clear(folder, file);
+    return status;
+}
+
+const subcommand night_subcommand = {
+    "night",
+    "",
+    "Plays a busy night on a board, and on the queue that it replaces",
+    "The board is kept in a file of its own, in a folder under $TMPDIR or /tmp that\n"
+    "is removed afterwards. The status is 0 where every aircraft holds what the desk\n"
+    "shows, 1 where one does not.\n",
+    run,
+};

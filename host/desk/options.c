@@ -1,0 +1,89 @@
+#include "options.h"
+
+#include "tell.h"
+
+#include <string.h>
+
+static int is_option(const char *word)
+{
+    if (word[0] != '-' || word[1] == 0)
+        return 0;
+    return !((word[1] >= '0' && word[1] <= '9') || word[1] == '.');
+}
+
+/* The length of an option's name in a word, which may go on with = and a value. */
+static size_t name_length(const char *word)
+{
+    return word[1] == '-' ? strcspn(word, "=") : strlen(word);
+}
+
+static const option *find(const char *word, const option *known, size_t options)
+{
+    size_t length = name_length(word);
+    for (size_t i = 0; i < options; i++) {
+        if (strlen(known[i].name) == length && memcmp(known[i].name, word, length) == 0)
+            return &known[i];
+        if (known[i].letter != NULL && strcmp(known[i].letter, word) == 0)
+            return &known[i];
+    }
+    return NULL;
+}
+
+/* Takes one option, whose value may be the next word. Gives how many words it has, or 0 where it is wrong. */
+static int take_one(char **words, int left, const option *known, size_t options)
+{
+    const char *word = words[0];
+    const option *o = find(word, known, options);
+    size_t length = name_length(word);
+    if (o == NULL) {
+        trouble(word, "no such option here; --help tells which there are");
+        return 0;
+    }
+    if (o->set != NULL && word[length] == 0) {
+        *o->set = 1;
+        return 1;
+    }
+    if (o->value != NULL && word[length] == '=') {
+        *o->value = word + length + 1;
+        return 1;
+    }
+    if (o->value != NULL && left > 1) {
+        *o->value = words[1];
+        return 2;
+    }
+    trouble(word, o->set ? "this option takes no value" : "this option needs a value");
+    return 0;
+}
+
+int take_options(int *count, char **words, const option *known, size_t options)
+{
+    int kept = 0, plain = 0;
+    for (int i = 0; i < *count;) {
+        if (!plain && strcmp(words[i], "--") == 0) {
+            plain = 1;
+            i++;
+        } else if (plain || !is_option(words[i])) {
+            words[kept++] = words[i++];
+        } else {
+            int taken = take_one(words + i, *count - i, known, options);
+            if (taken == 0)
+                return TROUBLE;
+            i += taken;
+        }
+    }
+    *count = kept;
+    return FINE;
+}
+
+long whole_number(const char *word, long least, long most)
+{
+    long number = 0;
+    if (*word == 0)
+        return -1;
+    for (; *word; word++) {
+        if (*word < '0' || *word > '9' || number > most)
+            return -1;
+        number = 10 * number + (*word - '0');
+    }
+    return number < least || number > most ? -1 : number;
+}

@@ -1,0 +1,12 @@
+/* places.h: which field a place of a text stands in, in words. */
+#ifndef DESK_PLACES_H
+#define DESK_PLACES_H
+
+#include "tell.h"
+
+#define BEHIND_THE_LAST "behind the last delimiter" /* the name of a place where no field is */
+
+/* Writes the field's name, or nothing where the place is in none. */
+void name_place(subject kind, const uint8_t *text, size_t length, size_t place, char *to, size_t room);
+
+#endif

@@ -1,0 +1,155 @@
+/* eskelvor report: reports shown, figure by figure. */
+#include "json.h"
+#include "observation.h"
+#include "options.h"
+#include "pieces.h"
+#include "progress.h"
+#include "tell.h"
+
+#include <string.h>
+
+enum { LATER = 7 };
+
+static unsigned long shown, refused;
+
+static void show_report(const piece *p, const char *file, const esk_report *r)
+{
+    origin from = {file, "report", p->number, p->offset};
+    char name[1200];
+    track here = track_begin(&r->first);
+    name_origin(&from, name, sizeof name);
+    printf("%s%s: %.4s to %.4s, aircraft %.6s\n", shown == 1 ? "" : "\n", name, (const char *)r->departure,
+           (const char *)r->arrival, (const char *)r->designator);
+    show_observation(1, &r->first, &here);
+    for (int i = 0; i < LATER; i++) {
+        here = track_on(here, &r->later[i]);
+        show_observation(i + 2, &r->later[i], &here);
+    }
+}
+
+static void json_report(const piece *p, const char *file, const esk_report *r)
+{
+    origin from = {file, "report", p->number, p->offset};
+    track here = track_begin(&r->first);
+    json_object(NULL);
+    json_bool("accepted", 1);
+    json_origin(&from);
+    json_number("code", ESK_ACCEPTED);
+    json_text("departure", r->departure, 4);
+    json_text("arrival", r->arrival, 4);
+    json_text("designator", r->designator, 6);
+    json_list("observations");
+    json_observation(1, &r->first, &here);
+    for (int i = 0; i < LATER; i++) {
+        here = track_on(here, &r->later[i]);
+        json_observation(i + 2, &r->later[i], &here);
+    }
+    json_close();
+    json_close();
+}
+
+/* Whether line ends have lost their CR, as they do on the way through a text editor. */
+static int lacks_cr(const piece *p)
+{
+    int lost = 0;
+    for (size_t i = 0; i < p->length; i++)
+        lost |= p->bytes[i] == '\n' && (i == 0 || p->bytes[i - 1] != '\r');
+    return lost;
+}
+
+/* A piece that is refused for its length: where its bytes first depart from a report's. */
+static int refuse_length(const origin *from, const piece *p, esk_answer a)
+{
+    uint8_t padded[ESK_REPORT_BYTES] = {0};
+    size_t length = p->length < sizeof padded ? p->length : sizeof padded;
+    memcpy(padded, p->bytes, length);
+    esk_answer first = esk_report_check(padded, sizeof padded);
+    int status = refuse(from, A_REPORT, a, p->bytes, p->length, p->whole);
+    if (as_json)
+        return status;
+    if (lacks_cr(p))
+        fputs("  its line ends are not CR LF\n", stderr);
+    else if (first.code != ESK_ACCEPTED && first.place < length)
+        fprintf(stderr, "  its bytes first depart from a report's at byte %lu\n", (unsigned long)first.place);
+    return status;
+}
+
+static int one_report(const piece *p, const char *file)
+{
+    esk_report_got got = esk_report_read(p->bytes, p->length);
+    origin from = {file, "report", p->number, p->offset};
+    if (got.answer.code == ESK_LENGTH) {
+        refused++;
+        return refuse_length(&from, p, got.answer);
+    }
+    if (got.answer.code != ESK_ACCEPTED) {
+        refused++;
+        return refuse(&from, A_REPORT, got.answer, p->bytes, p->length, p->whole);
+    }
+    shown++;
+    if (as_json)
+        json_report(p, file, &got.report);
+    else
+        show_report(p, file, &got.report);
+    return FINE;
+}
+
+static int read_reports(const char *word)
+{
+    static pieces cut;
+    piece p;
+    int status = FINE, is_stdin = strcmp(word, "-") == 0;
+    const char *name = is_stdin ? "standard input" : word;
+    FILE *from = is_stdin ? stdin : fopen(word, "rb");
+    if (from == NULL)
+        return failed(name, "open");
+    pieces_begin(&cut, from);
+    while (next_piece(&cut, &p) && !ferror(stdout)) {
+        status = worse(status, one_report(&p, word));
+        progress("reports", p.number, p.offset);
+    }
+    progress_done();
+    if (ferror(from))
+        status = failed(name, "read");
+    else if (cut.number == 0)
+        status = trouble(name, "empty: there is no report in it");
+    if (!is_stdin)
+        fclose(from);
+    return status;
+}
+
+static int run(int count, char **words)
+{
+    static char standard_input[] = "-";
+    char *lone[] = {standard_input};
+    int status = take_options(&count, words, NULL, 0);
+    if (status != FINE)
+        return status;
+    if (count == 0) {
+        count = 1;
+        words = lone;
+    }
+    for (int i = 0; i < count; i++)
+        status = worse(status, read_reports(words[i]));
+    if (refused > 0 && !as_json && shown + refused > 1)
+        fprintf(stderr, "eskelvor: %lu reports shown, %lu refused\n", shown, refused);
+    return status;
+}
+
+const subcommand report_subcommand = {
+    "report",
+    "[FILE | -]..",
+    "Shows reports, figure by figure",
+    "  FILE         a file of reports; - or no word is standard input\n"
+    "\n"
+    "A report has 220 bytes, its CR LF line ends among them. Reports stand one\n"
+    "behind the other; CR and LF bytes between them are passed over. One that is\n"
+    "refused is told with its number, its offset in the file and a mark under the\n"
+    "byte, and the others are still shown. A report that has lost or gained some\n"
+    "bytes ends where the next seems to begin.\n"
+    "\n"
+    "A missing figure is a dash. A later observation has changes since the one\n"
+    "before; where and when that comes to is shown beside them, as long as every\n"
+    "change up to it is given.\n",
+    run,
+};

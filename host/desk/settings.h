@@ -1,0 +1,26 @@
+/* settings.h: the flags and sections of a command or a configuration, in words. */
+#ifndef DESK_SETTINGS_H
+#define DESK_SETTINGS_H
+
+#include "eskelvor.h"
+
+enum { FLAGS = 7 };
+
+extern const char *const flag_names[FLAGS];
+
+/* What a flag of this value means. */
+const char *flag_in_words(int flag, uint8_t value);
+const char *downlink_in_words(uint8_t digit);
+
+/* What section k (2 to 9, not 7) is about, and all it says, each line behind `indent`. */
+const char *section_title(int k);
+void say_section(const esk_settings *s, int k, const char *indent);
+
+/* Whether section k is the same in both. */
+int same_section(const esk_settings *one, const esk_settings *other, int k);
+
+/* The same as JSON: an object with this key. */
+void json_flags(const char *key, const esk_settings *s);
+void json_section(const char *key, const esk_settings *s, int k);
+
+#endif

@@ -1,0 +1,181 @@
+#include "tell.h"
+
+#include "json.h"
+#include "mark.h"
+#include "places.h"
+
+#include <errno.h>
+#include <stdarg.h>
+#include <stdio.h>
+#include <string.h>
+
+int as_json;
+
+static int document; /* the document is begun, and not ended yet */
+
+void tell_begin(const char *subcommand)
+{
+    if (!as_json)
+        return;
+    document = 1;
+    json_object(NULL);
+    json_word("subcommand", subcommand);
+    json_list("results");
+}
+
+int tell_end(int status)
+{
+    static int told;
+    if (document) {
+        json_close();
+        json_number("status", status);
+        json_close();
+        putchar('\n');
+        document = 0;
+    }
+    errno = 0;
+    if (fflush(stdout) == 0 && !ferror(stdout))
+        return status;
+    if (!told)
+        fprintf(stderr, "eskelvor: standard output: cannot write: %s\n", errno ? strerror(errno) : "a write failed");
+    told = 1;
+    return TROUBLE;
+}
+
+int trouble(const char *about, const char *format, ...)
+{
+    char message[1024];
+    va_list values;
+    va_start(values, format);
+    vsnprintf(message, sizeof message, format, values);
+    va_end(values);
+    if (document) {
+        json_object(NULL);
+        json_word("about", about);
+        json_word("error", message);
+        json_close();
+        return TROUBLE;
+    }
+    fflush(stdout);
+    fprintf(stderr, "eskelvor: %s%s%s\n", about ? about : "", about ? ": " : "", message);
+    return TROUBLE;
+}
+
+int failed(const char *about, const char *doing)
+{
+    return trouble(about, "cannot %s: %s", doing, strerror(errno));
+}
+
+const char *meaning(subject kind, unsigned code)
+{
+    static const char *const plain[] = {
+        "accepted",
+        "not the length that it must have",
+        "the room for the text is too short",
+        "a fixed byte is wrong",
+        "a byte that is not allowed there",
+        "a number outside its range",
+        "a number in a spelling other than its one spelling",
+        "fields disagree",
+        "the command ends inside a field, or has bytes after its last delimiter",
+        "nothing waits for that aircraft and no slot is free",
+        "the board is not valid",
+        "nothing waits for that aircraft",
+        "the configuration is not valid",
+    };
+    if (code == ESK_LENGTH && kind == A_REPORT)
+        return "a report has 220 bytes";
+    if (code == ESK_LENGTH && kind == A_COMMAND)
+        return "a command has at most 835 bytes";
+    if (code == ESK_LENGTH)
+        return "a packed field has 1 to 5 bytes";
+    if (code == ESK_FIXED && kind == A_REPORT)
+        return "a fixed byte is wrong (AMDAR3, or a CR LF)";
+    if (code == ESK_FIXED)
+        return "a fixed byte is wrong (AWR04, or a /)";
+    return code < sizeof plain / sizeof *plain ? plain[code] : "an unknown code";
+}
+
+/* Of the two things that code 8 stands for, the one that it is. */
+static const char *meaning_at(subject kind, unsigned code, const char *field)
+{
+    if (code != ESK_END)
+        return meaning(kind, code);
+    return strcmp(field, BEHIND_THE_LAST) == 0 ? "bytes after the last delimiter" : "the command ends inside a field";
+}
+
+void json_origin(const origin *from)
+{
+    json_word("file", from->file);
+    if (from->number == 0)
+        return;
+    json_number(from->unit, (long long)from->number);
+    if (from->file != NULL)
+        json_number("offset", (long long)from->offset);
+}
+
+void name_origin(const origin *from, char *to, size_t room)
+{
+    const char *file = from->file == NULL ? "" : strcmp(from->file, "-") == 0 ? "standard input" : from->file;
+    const char *comma = *file ? ", " : "";
+    if (from->number == 0)
+        snprintf(to, room, "%s", from->file ? file : from->unit);
+    else if (strcmp(from->unit, "report") == 0)
+        snprintf(to, room, "%s%sreport %lu from byte %llu on", file, comma, from->number, from->offset);
+    else
+        snprintf(to, room, "%s%s%s %lu", file, comma, from->unit, from->number);
+}
+
+static void refuse_as_json(const origin *from, subject kind, esk_answer a, const char *field, const uint8_t *text,
+                           size_t length, unsigned long long whole)
+{
+    json_object(NULL);
+    json_bool("accepted", 0);
+    json_origin(from);
+    json_number("code", a.code);
+    json_number("place", (long long)a.place);
+    json_word("meaning", meaning_at(kind, a.code, field));
+    json_word("field", *field ? field : NULL);
+    json_number("length", (long long)whole);
+    json_text("text", text, length);
+    json_close();
+}
+
+int refuse(const origin *from, subject kind, esk_answer a, const uint8_t *text, size_t length, unsigned long long whole)
+{
+    char name[1200], field[80] = "";
+    if (a.code >= ESK_FIXED && a.code <= ESK_END)
+        name_place(kind, text, length, a.place, field, sizeof field);
+    if (as_json) {
+        refuse_as_json(from, kind, a, field, text, length, whole);
+        return REFUSED;
+    }
+    name_origin(from, name, sizeof name);
+    fflush(stdout);
+    fprintf(stderr, "eskelvor: %s%srefused: code %u at byte %lu%s%s: %s", name, *name ? ": " : "", (unsigned)a.code,
+            (unsigned long)a.place, *field ? ", " : "", field, meaning_at(kind, a.code, field));
+    if (a.code == ESK_LENGTH)
+        fprintf(stderr, ", this one %llu", whole);
+    fputc('\n', stderr);
+    mark_byte(stderr, text, length, a.place);
+    return REFUSED;
+}
+
+int refuse_plain(const char *about, subject kind, unsigned code, const char *what)
+{
+    if (as_json) {
+        json_object(NULL);
+        json_bool("accepted", 0);
+        json_word("about", about);
+        json_number("code", code);
+        json_number("place", 0);
+        json_word("meaning", meaning(kind, code));
+        json_word("because", what);
+        json_close();
+        return REFUSED;
+    }
+    fflush(stdout);
+    fprintf(stderr, "eskelvor: %s%srefused: code %u at byte 0: %s%s%s\n", about ? about : "", about ? ": " : "", code,
+            meaning(kind, code), what ? ": " : "", what ? what : "");
+    return REFUSED;
+}

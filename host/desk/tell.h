@@ -1,0 +1,52 @@
+/*
+ * tell.h: how the program speaks. For a person, results go to standard output, refusals and troubles to standard
+ * error. With --json all of it is one document on standard output: {"subcommand": .., "results": [..], "status": ..}.
+ */
+#ifndef DESK_TELL_H
+#define DESK_TELL_H
+
+#include "desk.h"
+#include "eskelvor.h"
+
+extern int as_json;
+
+/* What a text is, for the words about a code and a place. */
+typedef enum subject { A_REPORT, A_COMMAND, A_FIELD, A_DESIGNATOR, A_BOARD, A_SETTINGS } subject;
+
+/* Where a text came from. */
+typedef struct origin {
+    const char *file;          /* NULL: typed on the line; "-": standard input */
+    const char *unit;          /* what is counted: "line", "report", "command" */
+    unsigned long number;      /* from 1; 0 where nothing is counted */
+    unsigned long long offset; /* of its first byte in the file */
+} origin;
+
+/* The document's begin and end; the end is written once, whoever calls first, and then flushed. Neither does anything
+ * but flush without --json. The end gives TROUBLE where standard output could not be written. */
+void tell_begin(const char *subcommand);
+int tell_end(int status);
+
+/* Something other than the text is wrong: `about` is a file or a word, NULL for none. Gives TROUBLE. */
+int trouble(const char *about, const char *format, ...);
+
+/* The same for a call of the system that failed, with errno's words. */
+int failed(const char *about, const char *doing);
+
+/* A text is refused: code, place, what the code means, and the text with a mark. `length` bytes of the text are there,
+ * of `whole` that it has. Gives REFUSED. */
+int refuse(const origin *from, subject kind, esk_answer answer, const uint8_t *text, size_t length,
+           unsigned long long whole);
+
+/* The same where there is no text to show: `what` is a few words on what is at fault, or NULL. */
+int refuse_plain(const char *about, subject kind, unsigned code, const char *what);
+
+/* What a code means, of such a text. */
+const char *meaning(subject kind, unsigned code);
+
+/* The keys of a result that say where its text came from. */
+void json_origin(const origin *from);
+
+/* "night.txt, line 3" */
+void name_origin(const origin *from, char *to, size_t room);
+
+#endif

@@ -1,0 +1,116 @@
+#!/bin/sh
+# The board in a file: create, add, take, list, check; other writers; files that are damaged or of another version.
+. "$(dirname "$0")/cases.sh"
+cd "$scratch"
+first=AWR041999999000400000/151/
+second=AWR049199999100400009/300/2301/
+both=AWR041199999100400009/300/2301/
+
+answers 0 'a new board' board b create 2
+out_is 'b: a board of 2 slots'
+answers 2 'a file that is there is left as it is' board b create 3
+err_is 'eskelvor: b: there is a file of this name already; it is left as it is'
+answers 0 'a board without a command' board b check
+out_is 'b: valid, 0 of 2 slots used'
+answers 0 'into the lowest free slot' board b add XY0001 $first
+out_is 'accepted: 26 bytes wait for XY0001'
+answers 0 'joined onto what waits' board b add XY0001 $second
+out_is 'accepted: 31 bytes wait for XY0001'
+answers 0 'two at once, for a machine' board b add --json XY0002 $first $second
+json_has results.0.accepted=true results.0.designator=XY0002 results.0.commands=2 results.0.length=31 status=0
+answers 1 'nothing waits for it and no slot is free' board b add XY0003 $first
+err_is 'eskelvor: XY0003: refused: code 9 at byte 0: nothing waits for that aircraft and no slot is free'
+answers 1 'the same for a machine' board b add --json XY0003 $first
+json_has results.0.code=9 results.0.place=0 results.0.about=XY0003 status=1
+cp b before
+answers 1 'the second of two is refused: neither is added' board b add XY0001 AWR049999999000400000/601/ AWR04999
+err_has 'command 2: refused: code 8 at byte 8'
+cmp -s b before || fail 'the board is another'
+answers 1 'a designator in small letters' board b add xy0001 $first
+err_is 'eskelvor: designator: refused: code 4 at byte 0: a byte that is not allowed there' '  xy0001' '  ^'
+answers 1 'a designator of five, for a machine' board b take --json XY000
+json_has results.0.code=4 results.0.text=XY000 status=1
+answers 0 'what waits' board b list
+out_is 'b: valid, 2 of 2 slots used' "  slot  1  XY0001   31 bytes  $both" "  slot  2  XY0002   31 bytes  $both"
+answers 0 'what waits, for a machine' board b list --json
+json_has results.0.slots=2 results.0.used=2 results.0.waiting.1.slot=2 results.0.waiting.1.designator=XY0002 \
+    results.0.waiting.0.text=$both status=0
+cmp -s b before || fail 'looking changed the board'
+
+answers 0 'handed over, and nothing else on standard output' board b take XY0001
+out_is $both
+answers 1 'once' board b take XY0001
+err_is 'eskelvor: XY0001: refused: code 11 at byte 0: nothing waits for that aircraft'
+answers 1 'the same for a machine' board b take --json XY0001
+json_has results.0.code=11 status=1
+answers 0 'the slot is free again' board b add XY0003 $first
+answers 0 'handed over for a machine' board b take XY0003 --json
+json_has results.0.text=$first results.0.length=26 status=0
+printf '%s\n%s\n' $first $second >commands
+answers 0 'commands from a file' board b add XY0004 commands
+out_is 'accepted: 31 bytes wait for XY0004'
+input=commands
+answers 0 'commands from standard input' board b add XY0004 -
+out_is 'accepted: 31 bytes wait for XY0004'
+input=/dev/null
+answers 0 'a board of no slots is valid' board none create 0 --json
+json_has results.0.accepted=true results.0.code=0 results.0.slots=0 status=0
+answers 1 'and takes nothing' board none add XY0001 $first
+err_has 'code 9'
+for slip in 'b' 'b create' 'c create 65' 'c create -1' 'c create two' 'b add XY0001' 'b take' 'b take A B' 'b burn' \
+    'b list x' '--wait soon b list'; do
+    # shellcheck disable=SC2086
+    answers 2 "a slip: $slip" board $slip
+done
+
+# links, the file's mode, and other writers
+ln -s b linked
+chmod 640 b
+answers 0 'an add through a link' board linked add XY0002 $first
+[ -L linked ] || fail 'the link was replaced'
+[ "$(ls -l b | cut -c 1-10)" = -rw-r----- ] || fail 'the mode is another'
+answers 0 'eight writers at once' board many create 8
+writers=''
+for i in 1 2 3 4 5 6 7 8; do
+    eskelvor board many add "XY000$i" $first >/dev/null 2>&1 &
+    writers="$writers $!"
+done
+for writer in $writers; do
+    wait "$writer" || fail 'one of eight writers'
+done
+answers 0 'none is lost' board many check
+out_is 'many: valid, 8 of 8 slots used'
+
+# files that are damaged, or of another version
+flip() { # FILE OFFSET: the byte there becomes another
+    { head -c "$2" many; printf '\245'; tail -c +$(($2 + 2)) many; } >"$1"
+}
+flip damaged 8
+answers 2 'another version' board damaged list
+err_has 'format version 165; this program reads version 1'
+answers 2 'another version, for a machine' board damaged list --json
+json_has results.0.about=damaged status=2
+cp damaged before
+answers 2 'is not written either' board damaged add XY0001 $first
+cmp -s damaged before || fail 'the file is another'
+for place in 0 3 12 13 16 22 80 1000 6759; do
+    flip damaged $place
+    cp damaged before
+    for verb in 'list' 'check' "add XY0001 $first" 'take XY0001'; do
+        # shellcheck disable=SC2086
+        answers 1 "byte $place damaged: $verb" board damaged $verb
+        err_has 'eskelvor: damaged: refused: code 10 at byte 0: the board is not valid: '
+        out_is
+    done
+    cmp -s damaged before || fail 'the damaged file was changed'
+done
+answers 1 'damaged, for a machine' board damaged check --json
+json_has results.0.code=10 results.0.place=0 results.0.about=damaged status=1
+head -c 500 many >damaged
+answers 1 'cut short' board damaged check
+err_is 'eskelvor: damaged: refused: code 10 at byte 0: the board is not valid: the file is cut short: 500 bytes of 6764'
+{ cat many; echo; } >damaged
+answers 1 'a byte more' board damaged check
+err_has 'the file goes on behind its 6764 bytes'
+
+done_with 'boards kept in files'

@@ -1,0 +1,139 @@
+#!/bin/sh
+# Commands: check, explain, join.
+. "$(dirname "$0")/cases.sh"
+none=AWR049999999000000000/
+first=AWR041999999000400000/151/
+second=AWR049199999100400009/300/2301/
+both=AWR041199999100400009/300/2301/
+
+answers 0 'the no-change command' check $none
+out_is 'command 1: accepted, 22 bytes'
+answers 0 'two, for a machine' check --json $none $second
+json_has results.0.accepted=true results.0.length=22 results.1.command=2 results.1.text=$second status=0
+
+answers 1 'a number that ends too early' check AWR049999999000400000/15
+err_is 'eskelvor: command 1: refused: code 8 at byte 24, section 4: the command ends inside a field' \
+    '  AWR049999999000400000/15' \
+    '                          ^'
+out_is
+answers 1 'a byte more' check ${none}x
+err_is 'eskelvor: command 1: refused: code 8 at byte 22, behind the last delimiter: bytes after the last delimiter' \
+    "  ${none}x" \
+    '                        ^'
+answers 1 'each code at its field' check --json AWR042999999000000000/ AWR049999999000000000. \
+    AWR049999999000400000/611/ AWR049999999020000000/0100S10S010W010E00/ AWR049999999020000000/0110N11N010W010E00/ \
+    AWR049999999000000700/
+json_has results.0.code=4 results.0.place=5 'results.0.field=flag AMDAR' \
+    results.1.code=3 results.1.place=21 results.1.field=delimiter \
+    results.2.code=5 results.2.place=22 'results.2.field=section 4' \
+    results.3.code=6 results.3.place=24 'results.3.field=section 2' \
+    results.4.code=7 results.4.place=27 'results.4.meaning=fields disagree' \
+    results.5.code=4 results.5.place=18 'results.5.field=indicator E7' status=1
+answers 1 'one refused among accepted ones' check $none AWR04 $none
+out_is 'command 1: accepted, 22 bytes' 'command 3: accepted, 22 bytes'
+err_has 'command 2: refused: code 8 at byte 5'
+
+long=AWR041111111223456089/
+box=90N90S180W180E
+boxes=16$box$box$box$box$box$box$box$box$box$box$box$box$box$box$box$box
+eight=ABCDEFGH
+names=20$eight$eight$eight$eight$eight$eight$eight$eight$eight$eight
+long=$long$boxes$boxes/$names$names$names${names}1/601/1060902005120021/1/0/2301/
+answers 0 'the longest command has 835 bytes' check "$long"
+out_is 'command 1: accepted, 835 bytes'
+answers 1 'one byte more is code 1' check --json "${long}x"
+json_has results.0.code=1 results.0.place=0 results.0.length=836
+answers 1 'far into a long command the part round the mark is shown' check "${long%/*/}/2401/"
+err_is 'eskelvor: command 1: refused: code 5 at byte 830, section 9: a number outside its range' \
+    '  ..DEFGHABCDEFGHABCDEFGHABCDEFGH1/601/1060902005120021/1/0/2401/' \
+    '                                                            ^'
+
+printf '%s\n' $none >"$scratch/one"
+answers 0 'the line end of a file is no part of the command' check "$scratch/one"
+out_is "$scratch/one, line 1: accepted, 22 bytes"
+answers 1 'unless every byte is asked for' check --exact "$scratch/one"
+err_is "eskelvor: $scratch/one: refused: code 8 at byte 22, behind the last delimiter: bytes after the last delimiter" \
+    "  $none\\x0a" \
+    '                        ^'
+printf '%s\r\n\r\n\n%s' $none $second >"$scratch/lines"
+answers 0 'CR LF, empty lines, and a last line without its end' check --json "$scratch/lines"
+json_has results.0.line=1 results.0.offset=0 results.0.length=22 \
+    results.1.line=4 results.1.offset=27 results.1.length=31 status=0
+printf '%s \n' $none >"$scratch/space"
+answers 1 'a space behind the command is a byte like any other' check "$scratch/space"
+err_has 'code 8 at byte 22'
+printf '%s\r\r\n' $none >"$scratch/crcr"
+answers 1 'of two CR one belongs to the line end' check "$scratch/crcr"
+err_has 'code 8 at byte 22'
+printf 'AWR04\0009999999000000000/\n' >"$scratch/nul"
+answers 1 'a byte 0 is seen' check "$scratch/nul"
+err_is "eskelvor: $scratch/nul, line 1: refused: code 4 at byte 5, flag AMDAR: a byte that is not allowed there" \
+    '  AWR04\x009999999000000000/' \
+    '       ^'
+printf 'AWR04\0479\377\\99999000000000/\n' >"$scratch/odd"
+answers 1 'odd bytes for a machine' check --json "$scratch/odd"
+json_has "results.0.text=AWR04'9\\u00ff\\\\99999000000000/"
+input=$scratch/lines
+answers 0 'standard input' check -
+out_is 'standard input, line 1: accepted, 22 bytes' 'standard input, line 4: accepted, 31 bytes'
+input=/dev/null
+answers 2 'a word that does not begin with AWR is a file' check XWR049999999000000000/
+err_has 'XWR049999999000000000/: cannot open' 'a command begins with AWR'
+answers 1 'unless all words are texts' check --text XWR049999999000000000/ ''
+err_has 'command 1: refused: code 3 at byte 0, AWR04: a fixed byte is wrong' 'command 2: refused: code 8 at byte 0'
+
+answers 0 'every flag, digit and section in words' explain $both
+out_is $both flags '  AMDAR          1  on' '  inhibit hours  1  on: silent in the hours of section 9' \
+    '  regions        9  no change' '  airports       9  no change' '  ascent         9  no change' \
+    '  enroute        9  no change' '  descent        9  no change' \
+    'downlink         1  the flags are sent down' \
+    'section 4: level flight' '  a report every 30 minutes' '  reports of the maximum wind: no' \
+    'section 9: the hours of silence' '  from 23:00 up to 01:00, over midnight'
+answers 0 'boxes and airfields' explain AWR049911999223000000/0110S45S110E155E0100N01S000E001E/01YMML0001YPAD000/
+out_has 'downlink         2  the whole configuration is sent down' 'reporting boxes:' \
+    '     1. from 10S down to 45S, from 110E east to 155E' '     1. from 0N down to 1S, from 0E east to 1E' \
+    '  selected for ascent: YMML' '  selected for descent: none, so every airfield' '  inhibited for ascent: YPAD' \
+    '  routine reports instead of a scheme: no'
+answers 0 'the ascent scheme, and routine reports' explain AWR049999999000056080/0032006011120010/1/0/
+out_has 'mode 0: samples by pressure level' 'series 1: every 3 seconds, for 200 seconds' \
+    'series 2: every 60 seconds, until 1110 seconds in all' 'top of the ascent: 20000 feet' \
+    'list of pressure levels: 1' 'timer for level stretches: off' \
+    'section 6: routine reports in ascent' 'section 8: routine reports in descent'
+answers 0 'a command that says nothing' explain $none
+out_has 'no section is named'
+all=AWR041911999223456089/0110S45S110E155E00/01YMML0001YPAD001/071/1060902005120021/1/0/2301/
+answers 0 'the same for a machine' explain --json $all
+json_has results.0.flags.amdar=1 results.0.flags.inhibit_hours=9 results.0.downlink=2 \
+    results.0.sections.2.reporting.0.north=10S results.0.sections.2.reporting.0.east=155E \
+    results.0.sections.3.ascent_selected.0=YMML results.0.sections.3.ascent_inhibited.0=YPAD \
+    results.0.sections.3.routine=1 results.0.sections.4.interval_minutes=7 results.0.sections.5.top_feet=20000 \
+    results.0.sections.6.routine=1 \
+    results.0.sections.8.routine=0 results.0.sections.9.start_hour=23 results.0.sections.9.end_hour=1 status=0
+answers 1 'a refusal is the same as that of check' explain --json AWR04
+json_has results.0.code=8 results.0.place=5 status=1
+
+answers 0 "document 01's join" join $first $second
+out_is $both
+answers 0 'in the other order it is another' join $second $first
+out_is AWR041199999100400009/151/2301/
+answers 0 'no change on either side alters nothing' join $none $both $none
+out_is $both
+answers 0 'one command is itself' join $first
+out_is $first
+printf '%s\n%s\n' $first $second >"$scratch/two"
+answers 0 'all lines of a file, in order, for a machine' join --json "$scratch/two"
+json_has results.0.text=$both results.0.length=31 results.0.commands=2 status=0
+answers 1 'one is refused: nothing is joined' join $first AWR049x $second
+err_has 'command 2: refused: code 4 at byte 6'
+out_is
+answers 1 'which one, for a machine' join --json $first AWR049x $second
+json_has results.0.accepted=false results.0.command=2 results.0.code=4 results.0.place=6 status=1
+
+for command in "$examples"/*.commands; do
+    answers 0 'the examples are accepted' check "$command"
+done
+for file in "$examples"/*.damaged; do
+    answers 1 'the damaged one is refused' check "$file"
+done
+
+done_with 'commands checked, explained, joined'

@@ -1,0 +1,35 @@
+#!/bin/sh
+# The busy night.
+. "$(dirname "$0")/cases.sh"
+mkdir "$scratch/tmp"
+export TMPDIR="$scratch/tmp"
+
+answers 0 'every aircraft holds what the desk shows' night
+out_has '26 of 29 commands accepted' 'A queue of 16 would have taken 27, dropped the first 11, and told nobody:' \
+    'With the board 5 of 5 aircraft hold what the desk shows; with the queue 0.' \
+    '  AU0137  AWR049199199200406009/101/1/0204/' \
+    'AU0137  ascent reports off, a sample every 6 seconds: NOT WHAT THE DESK SHOWS' \
+    'AU0245  ascent reports on, a sample every 3 seconds: NOT WHAT THE DESK SHOWS' \
+    'refused: code 9, no slot is free'
+[ -z "$(ls -A "$TMPDIR")" ] || fail 'something is left in the folder'
+
+# What the board hands over is what eskelvor join makes of the aircraft's accepted commands.
+for aircraft in AU0137 AU0245 NZ7001 NZ7002; do
+    answers 0 'the night again' night
+    sent=$(sed -n "s/^  $aircraft  \(AWR[^ ]*\) .* bytes wait.*/\1/p" "$scratch/out")
+    handed=$(sed -n "s/^  $aircraft  \(AWR[^ ]*\)\$/\1/p" "$scratch/out")
+    # shellcheck disable=SC2086
+    answers 0 "all that was accepted for $aircraft, joined" join $sent
+    out_is "$handed"
+done
+
+answers 0 'for a machine' night --json
+json_has results.0.event=add results.0.designator=AU0137 results.0.code=0 results.0.waiting=22 results.8.code=9 \
+    results.12.code=4 results.12.place=37 results.29.event=hand-over results.29.as_the_desk_shows=true \
+    'results.35.event=old queue' results.35.as_the_desk_shows=false status=0
+answers 2 'it takes no words' night now
+TMPDIR=$scratch/nowhere
+answers 2 'a folder that is not there' night
+err_has 'cannot make a folder in it: No such file or directory'
+
+done_with 'the busy night'

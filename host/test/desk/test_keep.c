@@ -1,0 +1,336 @@
+/*
+ * Files that are kept: what is left of a board's file when the program is killed, or a call of the system fails, at
+ * each step of an add and of a taking; every bit of a board's file flipped, every length cut; the same for a
+ * configuration's.
+ *
+ * The calls of the system that put a file in place are stood in for here, each by a sibling that does the same, so that
+ * the one of a given number can kill the process or fail.
+ */
+#undef _FORTIFY_SOURCE
+#define _GNU_SOURCE
+#include "../../desk/board.h"
+#include "../../desk/config_file.h"
+
+#include <errno.h>
+#include <fcntl.h>
+#include <signal.h>
+#include <stdarg.h>
+#include <stdio.h>
+#include <stdlib.h>
+#include <string.h>
+#include <sys/uio.h>
+#include <sys/wait.h>
+#include <unistd.h>
+
+static unsigned long checks;
+
+#define HOLD(what, why)                                                                          \
+    do {                                                                                         \
+        checks++;                                                                                \
+        if (!(what)) {                                                                           \
+            fprintf(stderr, "FAILED after %lu checks: %s: %s\n", checks, #what, why);            \
+            exit(1);                                                                             \
+        }                                                                                        \
+    } while (0)
+
+/* ---- calls of the system that stop at a step ------------------------------------------------------------------- */
+
+enum { KILLED, NO_SPACE, BROKEN };
+
+static long steps_left = -1; /* to the call that stops; below 0: none does */
+static int way;              /* how it stops */
+
+static int stops(void)
+{
+    if (steps_left < 0 || steps_left-- > 0)
+        return 0;
+    if (way == KILLED)
+        kill(getpid(), SIGKILL);
+    errno = way == NO_SPACE ? ENOSPC : EIO;
+    return 1;
+}
+
+int open(const char *path, int flags, ...)
+{
+    va_list values;
+    va_start(values, flags);
+    mode_t mode = flags & O_CREAT ? va_arg(values, mode_t) : 0;
+    va_end(values);
+    return stops() ? -1 : openat(AT_FDCWD, path, flags, mode);
+}
+
+/* At most 500 bytes at a time, as the system may. */
+ssize_t write(int to, const void *bytes, size_t length)
+{
+    union {
+        const void *in;
+        void *out;
+    } same = {bytes};
+    struct iovec one = {same.out, length < 500 ? length : 500};
+    return stops() ? -1 : writev(to, &one, 1);
+}
+
+int fsync(int file)
+{
+    return stops() ? -1 : fdatasync(file);
+}
+
+int rename(const char *from, const char *to)
+{
+    return stops() ? -1 : renameat(AT_FDCWD, from, AT_FDCWD, to);
+}
+
+int link(const char *from, const char *to)
+{
+    return stops() ? -1 : linkat(AT_FDCWD, from, AT_FDCWD, to, 0);
+}
+
+int unlink(const char *path)
+{
+    return stops() ? -1 : unlinkat(AT_FDCWD, path, 0);
+}
+
+/* ---- a board's file, stopped ------------------------------------------------------------------------------------ */
+
+#define FIRST "AWR041999999000400000/151/"
+#define SECOND "AWR049199999100400009/300/2301/"
+#define BOTH "AWR041199999100400009/300/2301/"
+
+static char folder[] = "/tmp/eskelvor-keep-XXXXXX";
+static char file[64], output[64];
+
+/* Calls `eskelvor board FILE ..` in a process of its own that stops at a step. Gives its status; -1: it was killed. */
+static int call(long step, int how, const char *verb, const char *designator, const char *command)
+{
+    char *words[] = {file, (char *)(size_t)verb, (char *)(size_t)designator, (char *)(size_t)command};
+    int status;
+    fflush(NULL);
+    pid_t child = fork();
+    if (child == 0) {
+        if (freopen(output, "wb", stdout) == NULL || freopen("/dev/null", "wb", stderr) == NULL)
+            _exit(9);
+        steps_left = step;
+        way = how;
+        status = board_subcommand.run(command ? 4 : designator ? 3 : 2, words);
+        status = worse(status, tell_end(status));
+        _exit(status);
+    }
+    HOLD(child > 0 && waitpid(child, &status, 0) == child, "a process of its own");
+    return WIFEXITED(status) ? WEXITSTATUS(status) : -1;
+}
+
+/* The text that waits for the aircraft, "" for none; the file must be sound. */
+static const char *waiting(void)
+{
+    static board b;
+    static char text[ESK_COMMAND_BYTES + 1];
+    HOLD(board_read(file, &b) == FINE, "the file is sound, whatever happened");
+    text[0] = 0;
+    if (b.slots[0].length != 0)
+        snprintf(text, sizeof text, "%.*s", b.slots[0].length, (const char *)board_text(&b, 0));
+    return text;
+}
+
+/* What the call wrote to standard output. */
+static const char *said(void)
+{
+    static uint8_t bytes[2000];
+    size_t length = 0;
+    HOLD(keep_read(output, bytes, sizeof bytes - 1, &length) == FINE, "its output is there");
+    bytes[length] = 0;
+    return (const char *)bytes;
+}
+
+static void fresh_board(const char *command)
+{
+    unlink(file);
+    HOLD(call(-1, KILLED, "create", "2", NULL) == FINE, "a new board");
+    if (command)
+        HOLD(call(-1, KILLED, "add", "XY0001", command) == FINE, "a command waits");
+}
+
+/* An add that stops at a step: the old text waits or the joined one, and the joined one where it was told accepted. */
+static int stopped_add(long step, int how)
+{
+    fresh_board(FIRST);
+    int status = call(step, how, "add", "XY0001", SECOND);
+    const char *text = waiting();
+    int told = strncmp(said(), "accepted", 8) == 0;
+    HOLD(strcmp(text, FIRST) == 0 || strcmp(text, BOTH) == 0, "the old text, or the new one");
+    HOLD(!told || strcmp(text, BOTH) == 0, "accepted is told once it is on disk");
+    HOLD(status != FINE || told, "status 0 where it was told");
+    HOLD(call(-1, KILLED, "add", "XY0001", SECOND) == FINE, "the next writer finds all in order");
+    HOLD(strcmp(waiting(), BOTH) == 0, "added again, it is the same text");
+    return status;
+}
+
+/* A taking that stops at a step: the text waits, or it was handed out whole. */
+static int stopped_take(long step, int how)
+{
+    fresh_board(BOTH);
+    int status = call(step, how, "take", "XY0001", NULL);
+    int waits = strcmp(waiting(), BOTH) == 0, handed = strcmp(said(), BOTH "\n") == 0;
+    HOLD(waits || *waiting() == 0, "all of the text, or none");
+    HOLD(waits || handed, "what no longer waits was handed out");
+    HOLD(status != FINE || (handed && !waits), "status 0 where it was handed out and is gone");
+    HOLD(call(-1, KILLED, "add", "XY0001", BOTH) == FINE, "the next writer finds all in order");
+    return status;
+}
+
+static int stopped_create(long step, int how)
+{
+    unlink(file);
+    int status = call(step, how, "create", "2", NULL), there = access(file, F_OK) == 0;
+    HOLD(!there || *waiting() == 0, "a whole board, or none");
+    HOLD(status != FINE || there, "status 0 where it is there");
+    return status;
+}
+
+/* Every step in turn, until one lies behind the last: then nothing stops. */
+static long each_step(int (*stopped)(long, int), int how)
+{
+    long step = 0, twice = 0;
+    while (twice < 2) {
+        int status = stopped(step++, how);
+        HOLD(how != KILLED || status <= FINE, "killed, or done");
+        HOLD(step < 60, "some step is the last");
+        twice = status == FINE ? twice + 1 : 0;
+    }
+    return step - 2;
+}
+
+static void stops_anywhere(void)
+{
+    for (int how = KILLED; how <= BROKEN; how++) {
+        long add = each_step(stopped_add, how), take = each_step(stopped_take, how);
+        long create = each_step(stopped_create, how);
+        HOLD(add >= 6 && take >= 7 && create >= 6, "there are steps");
+        printf("test_keep: stopped at each of %ld steps of an add, %ld of a taking, %ld of a creation (%s)\n", add,
+               take, create, how == KILLED ? "killed" : how == NO_SPACE ? "disk full" : "disk broken");
+    }
+}
+
+/* While one writer holds the board, another is turned away and a reader is not. */
+static void second_writer(void)
+{
+    kept k;
+    fresh_board(FIRST);
+    HOLD(keep_hold(&k, file, 0) == FINE, "the first writer");
+    char *words[] = {file, "add", "XY0001", SECOND, "--wait=0"};
+    fflush(NULL);
+    pid_t child = fork();
+    if (child == 0) {
+        int turned = freopen("/dev/null", "wb", stderr) != NULL && board_subcommand.run(5, words) == TROUBLE;
+        char *look[] = {file, "check"};
+        _exit(freopen("/dev/null", "wb", stdout) != NULL && turned && board_subcommand.run(2, look) == FINE ? 0 : 1);
+    }
+    int status;
+    HOLD(child > 0 && waitpid(child, &status, 0) == child && WIFEXITED(status), "a process of its own");
+    HOLD(WEXITSTATUS(status) == 0, "the second writer is turned away, the reader is not");
+    keep_release(&k);
+    HOLD(strcmp(waiting(), FIRST) == 0, "and nothing was added");
+}
+
+/* ---- damaged files ---------------------------------------------------------------------------------------------- */
+
+static uint8_t packed[BOARD_MOST + 1];
+
+/* A small board: one slot used, one free. */
+static size_t small_board(void)
+{
+    static board b;
+    memset(&b, 0, sizeof b);
+    b.n = 2;
+    esk_answer a = esk_board_add(b.slots, 2, b.area, 2 * ESK_COMMAND_BYTES, (const uint8_t *)"XY0001", 6,
+                                 (const uint8_t *)BOTH, sizeof BOTH - 1);
+    HOLD(a.code == ESK_ACCEPTED, "a small board");
+    return board_pack(&b, packed);
+}
+
+static int board_status(size_t length)
+{
+    static board b;
+    char why[200] = "";
+    int status = board_unpack(&b, packed, length, why, sizeof why);
+    HOLD(status == FINE || why[0] != 0, "a refusal says why");
+    return status;
+}
+
+static void flipped_board(void)
+{
+    size_t length = small_board();
+    HOLD(length == BOARD_HEAD + 2 * BOARD_A_SLOT + BOARD_TAIL && board_status(length) == FINE, "sound as it is");
+    for (size_t i = 0; i < 8 * length; i++) {
+        packed[i / 8] ^= (uint8_t)(1 << i % 8);
+        HOLD(board_status(length) != FINE, "a bit flipped");
+        packed[i / 8] ^= (uint8_t)(1 << i % 8);
+    }
+    HOLD(board_status(length) == FINE, "and back");
+}
+
+static void cut_board(void)
+{
+    size_t length = small_board();
+    for (size_t i = 0; i < length; i++)
+        HOLD(board_status(i) == REFUSED, "a file cut short");
+    HOLD(board_status(length + 1) == REFUSED, "a byte more");
+}
+
+/* A board whose checksum is right and which is not valid all the same. */
+static void wrong_board(void)
+{
+    size_t length = small_board() - BOARD_TAIL;
+    packed[BOARD_HEAD] = 'x'; /* the designator */
+    for (int i = 0; i < 4; i++)
+        packed[length + (size_t)i] = (uint8_t)(checksum(packed, length) >> 8 * i);
+    HOLD(board_status(length + BOARD_TAIL) == REFUSED, "the proved check has the last word");
+    packed[8] = 2;
+    HOLD(board_status(length + BOARD_TAIL) == TROUBLE, "another format version");
+}
+
+static void flipped_config(void)
+{
+    uint8_t bytes[CONFIG_MOST + 1];
+    const char *why;
+    esk_settings s = esk_reset(), got;
+    size_t length = config_pack(&s, bytes);
+    HOLD(config_unpack(&got, bytes, length, &why) == FINE && memcmp(&got, &s, sizeof s) == 0, "there and back");
+    for (size_t i = 0; i < 8 * length; i++) {
+        bytes[i / 8] ^= (uint8_t)(1 << i % 8);
+        HOLD(config_unpack(&got, bytes, length, &why) != FINE && why != NULL, "a bit flipped");
+        bytes[i / 8] ^= (uint8_t)(1 << i % 8);
+    }
+}
+
+static void cut_config(void)
+{
+    uint8_t bytes[CONFIG_MOST + 1];
+    const char *why;
+    esk_settings s = esk_reset(), got;
+    size_t length = config_pack(&s, bytes);
+    for (size_t i = 0; i < length; i++)
+        HOLD(config_unpack(&got, bytes, i, &why) == REFUSED, "a file cut short");
+}
+
+int main(void)
+{
+    char lock[80];
+    HOLD(checksum((const uint8_t *)"123456789", 9) == 0xcbf43926u, "CRC-32's own check value");
+    HOLD(mkdtemp(folder) != NULL, "a folder");
+    snprintf(file, sizeof file, "%s/board", folder);
+    snprintf(output, sizeof output, "%s/output", folder);
+    stops_anywhere();
+    second_writer();
+    flipped_board();
+    cut_board();
+    wrong_board();
+    flipped_config();
+    cut_config();
+    snprintf(lock, sizeof lock, "%s/.board.eskelvor-lock", folder);
+    unlink(lock);
+    unlink(file);
+    unlink(output);
+    HOLD(rmdir(folder) == 0, "nothing else is left in the folder");
+    printf("test_keep: %lu checks hold\n", checks);
+    return 0;
+}
