@@ -7,7 +7,7 @@ use crate::hand::fits_at;
 use crate::hand::refused;
 use command::check::check;
 use join::Told;
-use join::join_texts;
+use join::join_accepted_second;
 use section::record::middle;
 use text::Seen;
 use text::copy;
@@ -16,6 +16,8 @@ ghost use Prim.Native.Nat.{_*_, _+_, _≤_, _<_};
 ghost use lib.ListN.{length};
 ghost use Rattle.text.specs.Parts.{part};
 ghost use Rattle.text.specs.Over.{over};
+ghost use Rattle.text.specs.declared.Seen.the-variants.{Fine};
+ghost use Rattle.command.specs.Text.{checkCommand};
 ghost use Rattle.board.specs.Lent.{onArea};
 ghost use Rattle.board.specs.Survey.{doneOf, ownMove, freeMove, addMove};
 
@@ -47,6 +49,7 @@ fn put_at(i: usize, t: &[u8], area: &mut [u8])
 
 // Joins the command onto the text that waits.
 fn join_onto(v: Survey, w: Wanted, area: &mut [u8], t: &[u8]) -> Done
+    requires { ⌜ checkCommand (now t) ≡ Fine ⌝ }
     ensures { λ r. ⌜
         (r ≡ doneOf (v .count) w (ownMove v w (now (area .entry)) (now (t .entry))))
         × (now (area .exit) ≡ onArea (ownMove v w (now (area .entry)) (now (t .entry))) (now (area .entry)))
@@ -60,7 +63,7 @@ fn join_onto(v: Survey, w: Wanted, area: &mut [u8], t: &[u8]) -> Done
     let at = 835 * i;
     let end = at + n;
     let mut joined = [0u8; 835];
-    match join_texts(&area[at..end], t, &mut joined) {
+    match join_accepted_second(&area[at..end], t, &mut joined) {
         Told::Refused(_, _, _) => refused(v, w, 10, 0),
         Told::Text(m) => {
             put_at(i, &joined[..m], area);

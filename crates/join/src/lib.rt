@@ -54,6 +54,18 @@ fn join_accepted(a: &[u8], b: &[u8], out: &mut [u8]) -> Told
     Told::Text(n)
 }
 
+// Where the second text is known to be accepted: the first text's refusals, then room.
+pub fn join_accepted_second(a: &[u8], b: &[u8], out: &mut [u8]) -> Told
+    requires { ⌜ checkCommand (now b) ≡ Fine ⌝ }
+    ensures { λ r. ⌜ (r ≡ told (join (now (a .entry)) (now (b .entry)) (length (now (out .entry)))))
+        × (now (out .exit) ≡ joinedOver (join (now (a .entry)) (now (b .entry)) (length (now (out .entry)))) (now (out .entry))) ⌝ }
+{
+    match check(a) {
+        Seen::Bad(code, place) => Told::Refused(code, place, 1),
+        Seen::Fine => join_accepted(a, b, out),
+    }
+}
+
 // The first text's refusals, the second's, then room.
 pub fn join_texts(a: &[u8], b: &[u8], out: &mut [u8]) -> Told
     ensures { λ r. ⌜ (r ≡ told (join (now (a .entry)) (now (b .entry)) (length (now (out .entry)))))
