@@ -256,20 +256,20 @@ fn regions_in(s: &[u8], at: usize) -> Regions
     requires { ⌜ Stands (now s) 2 at ⌝ }
     ensures { λ r. ⌜ r ≡ regionsFrom (heldIn (now (s .entry)) 2) ⌝ }
 {
-    if is_named(s, 2) {
-        return regions_at(s, at);
+    if !is_named(s, 2) {
+        return no_regions();
     }
-    no_regions()
+    regions_at(s, at)
 }
 
 fn airports_in(s: &[u8], at: usize) -> Airports
     requires { ⌜ Stands (now s) 3 at ⌝ }
     ensures { λ r. ⌜ r ≡ airportsFrom (heldIn (now (s .entry)) 3) ⌝ }
 {
-    if is_named(s, 3) {
-        return airports_at(s, at);
+    if !is_named(s, 3) {
+        return no_airports();
     }
-    no_airports()
+    airports_at(s, at)
 }
 
 // Flags and sections of an accepted text: those that aren't named are zero.
