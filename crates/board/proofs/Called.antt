@@ -29,7 +29,7 @@ use Rattle.board.proofs.Steps.{is-fine}
 use Rattle.board.specs.History.{Add, Take}
 use Rattle.board.proofs.Calls.{call-move, call-ten}
 use Rattle.board.proofs.Lent.{Shape, shape, length-board, slot-at, text-at, fit-at}
-use Rattle.board.proofs.Scanned.{cond-true, cond-false, stays-bad, scan-valid, scan-count, Owns, scan-own, scan-free}
+use Rattle.board.proofs.Scanned.{cond-true, cond-false, stays-bad, valid-all, scan-count, Owns, scan-own, scan-free}
 
 -- some place passes exactly where the lowest is one of the board
 lowest-any : (test : Place → Bool) (b : List Place) → ltb (lowest test b) (length b) ≡ any test b
@@ -90,16 +90,16 @@ module _ (area : List ℕ) (w : Wanted) (xs : List Slot) where
       (λ (t : sized ≡ true).
       let few = leb-true (length xs) 64 (both-left (leb (length xs) 64) (eqb (length area) (835 * length xs)) t) in
       let bytes = eqb-true (length area) (835 * length xs) (both-right (leb (length xs) 64) (eqb (length area) (835 * length xs)) t) in
-      scan-valid area w (startOf (length xs) (length area)) 0 xs (rw zero-add few) (rw zero-add bytes)
+      valid-all area w xs (startOf (length xs) (length area)) (rw zero-add few) (rw zero-add bytes)
       ∙ shape-true (leb (length xs) 64) (eqb (length area) (835 * length xs)) (lengthsFit xs) (isValid b) t)
       (λ (t : sized ≡ false).
-      ap (λ (z : Survey). z .valid) (stays-bad area w (startOf (length xs) (length area)) 0 xs t)
+      ap (λ (z : Survey). z .valid) (stays-bad area w xs (startOf (length xs) (length area)) 0 xs t)
       ∙ t
       ∙ sym (shape-false (leb (length xs) 64) (eqb (length area) (835 * length xs)) (lengthsFit xs) (isValid b) t)))
 
   pub count-is : v .count ≡ length xs
   unfolding startOf
-  count-is = scan-count area w (startOf (length xs) (length area)) 0 xs
+  count-is = scan-count area w xs (startOf (length xs) (length area)) 0 xs
 
   -- on a valid board
   module _ (h : isValidLent xs area ≡ true) where
@@ -120,9 +120,9 @@ module _ (area : List ℕ) (w : Wanted) (xs : List Slot) where
     bytes : length area ≡ 835 * length xs
     bytes = holds .bytes ∙ rw longest-is refl
 
-    owns : Owns area w v 0 xs
+    owns : Owns area w xs v 0 xs
     unfolding startOf
-    owns = scan-own area w (startOf (length xs) (length area)) 0 xs (rw zero-add bytes) valid (sym (zero-add (length xs)))
+    owns = scan-own area w xs (startOf (length xs) (length area)) 0 xs (rw zero-add bytes) valid (sym (zero-add (length xs)))
 
     -- the aircraft's own slot is the lowest that is for it
     own-is : v .own ≡ lowest (isFor (w .designator)) b
@@ -131,7 +131,7 @@ module _ (area : List ℕ) (w : Wanted) (xs : List Slot) where
     free-is : v .free ≡ lowest isFree b
     unfolding startOf
     free-is =
-        scan-free area w (startOf (length xs) (length area)) 0 xs (rw zero-add bytes) valid (sym (zero-add (length xs)))
+        scan-free area w xs (startOf (length xs) (length area)) 0 xs (rw zero-add bytes) valid (sym (zero-add (length xs)))
         ∙ zero-add (lowest isFree b)
 
     -- whether there is one

@@ -7,13 +7,13 @@ use native.Mathlib.Numerals.{add-one}
 use native.Mathlib.Omega.{arith}
 use lib.Dec.{leb, ltb, eqb}
 use lib.ListN.{length, getD, take, drop, drop-of-length-le}
-use lib.Seq.{take-all, drop-cons, drop-length}
+use lib.Seq.{take-all, take-length, length-take-le, getD-take, drop-cons, drop-length}
 use borrow.Author.Tests.{le-leb, lt-leb, lt-ltb, le-ltb, ltb-true}
 use Rattle.text.specs.Equal.{sameBytes}
 use Rattle.text.proofs.Cases.{by-le, by-lt, by-test, both-right}
 use Rattle.text.proofs.Parts.{part-bytes}
 use Rattle.board.specs.Lent.{noSlot}
-use Rattle.board.specs.Survey.{isUsed, usedFor, noneFor, aloneIn, beginAt, stepOf, scanFrom, scanned}
+use Rattle.board.specs.Survey.{isUsed, usedFor, noneFor, aloneIn, untilAt, stepOf, scanFrom, scanned}
 use Rattle.board.specs.declared.Wanted.{Wanted}
 use Rattle.board.specs.declared.Slot.{Slot}
 use Rattle.board.specs.declared.Survey.{Survey}
@@ -58,53 +58,59 @@ pub offset-fits : (i n : ℕ) → i < n → n * 8 < 2 ^ 63 → i * 8 < 2 ^ 64
 offset-fits i n l r = omega arith
 
 module _ (a : Survey) (x : Slot) (i : ℕ) where
-  -- the look begins at a slot, or behind the last
-  pub begin-le : (n r : ℕ) → r ≡ beginAt a x i n → r ≤ n
-  unfolding beginAt
-  begin-le n r e =
+  -- the look ends at a slot, or behind the last
+  pub until-le : (n r : ℕ) → r ≡ untilAt a x i n → r ≤ n
+  unfolding untilAt
+  until-le n r e =
       rw e
-      (by-test (a .valid && isUsed x && ltb i n)
-      (λ (t : (a .valid && isUsed x && ltb i n) ≡ true).
-      let l : i < n = ltb-true i n (both-right (a .valid && isUsed x) (ltb i n) t) in rw t (omega arith))
-      (λ (t : (a .valid && isUsed x && ltb i n) ≡ false). rw t (omega arith)))
+      (by-test (a .valid && isUsed x)
+      (λ (t : (a .valid && isUsed x) ≡ true).
+      rw t (by-lt i n (λ (l : i < n). rw (lt-ltb i n l) (omega arith)) (λ (l : n ≤ i). rw (le-ltb i n l) (omega arith))))
+      (λ (t : (a .valid && isUsed x) ≡ false). rw t (omega arith)))
 
   -- and sees all that is asked for
-  pub begin-from : (ys : List Slot) (r : ℕ) → r ≡ beginAt a x i (length ys)
-      → aloneIn a x (drop (i + 1) ys) ≡ (true && noneFor (x .designator) (drop r ys))
-  unfolding beginAt aloneIn noneFor
-  begin-from ys r e =
+  pub until-from : (ys : List Slot) (r : ℕ) → r ≡ untilAt a x i (length ys)
+      → aloneIn a x (take i ys) ≡ (true && noneFor (x .designator) (drop 0 (take r ys)))
+  unfolding untilAt aloneIn noneFor
+  until-from ys r e =
       by-test (a .valid && isUsed x)
       (λ (t : (a .valid && isUsed x) ≡ true).
       by-lt i (length ys)
-      (λ (l : i < length ys). let f : r ≡ i + 1 = e ∙ rw (t, lt-ltb i (length ys) l) in rw (t, f))
+      (λ (l : i < length ys). let f : r ≡ i = e ∙ rw (t, lt-ltb i (length ys) l) in rw (t, f))
       (λ (l : length ys ≤ i).
       let f : r ≡ length ys = e ∙ rw (t, le-ltb i (length ys) l) in
-      rw (t, f, drop-length ys, drop-of-length-le ys {i = i + 1} (omega arith))))
-      (λ (t : (a .valid && isUsed x) ≡ false). let f : r ≡ length ys = e ∙ rw t in rw (t, f, drop-length ys))
+      rw (t, f, take-all i ys l, take-length ys)))
+      (λ (t : (a .valid && isUsed x) ≡ false). let f : r ≡ 0 = e ∙ rw t in rw (t, f))
 
--- one slot more
-pub apart-next : (d : List ℕ) (ys : List Slot) (j : ℕ) (c r w : Bool) → j < length ys → w ≡ (c && noneFor d (drop j ys))
-    → r ≡ (c && not (usedFor d (getD ys j noSlot))) → w ≡ (r && noneFor d (drop (j + 1) ys))
+-- one slot more, of those before slot m
+pub apart-next : (d : List ℕ) (ys : List Slot) (m j : ℕ) (c r w : Bool) → m ≤ length ys → j < m → w ≡ (c && noneFor d (drop j (take m ys)))
+    → r ≡ (c && not (usedFor d (getD ys j noSlot))) → w ≡ (r && noneFor d (drop (j + 1) (take m ys)))
 unfolding noneFor
-apart-next d ys j c r w l h e =
-    h ∙ rw (e, add-one, drop-cons ys j noSlot l) (sym (and-assoc c (not (usedFor d (getD ys j noSlot))) (noneFor d (drop (suc j) ys))))
+apart-next d ys m j c r w k l h e =
+    let long : length (take m ys) ≡ m = length-take-le m ys k in
+    let here : getD (take m ys) j noSlot ≡ getD ys j noSlot = getD-take m ys j noSlot l in
+    let in-it : j < length (take m ys) = rw long l in
+    h ∙ rw (e, add-one, drop-cons (take m ys) j noSlot in-it, here)
+    (sym (and-assoc c (not (usedFor d (getD ys j noSlot))) (noneFor d (drop (suc j) (take m ys)))))
 
 -- and none left
-pub apart-end : (d : List ℕ) (ys : List Slot) (j : ℕ) (c w : Bool) → j ≡ length ys → w ≡ (c && noneFor d (drop j ys)) → c ≡ w
+pub apart-end : (d : List ℕ) (ys : List Slot) (m j : ℕ) (c w : Bool) → m ≤ length ys → j ≡ m → w ≡ (c && noneFor d (drop j (take m ys))) → c ≡ w
 unfolding noneFor
-apart-end d ys j c w e h = sym (h ∙ rw (e, drop-length ys) (and-true c))
+apart-end d ys m j c w k e h =
+    let past : length (take m ys) ≤ j = rw (length-take-le m ys k, e) (omega arith) in
+    sym (h ∙ rw (drop-of-length-le (take m ys) {i = j} past) (and-true c))
 
 -- ---- The look over the slots, from a slot on, with what was found before it
 
 module _ (area : List ℕ) (w : Wanted) (ys : List Slot) (i : ℕ) (a : Survey) where
   -- one slot more
-  pub look-next : (r : Survey) (c : Bool) → i < length ys → scanned area w ys ≡ scanFrom area w a i (drop i ys)
-      → c ≡ aloneIn a (getD ys i noSlot) (drop (i + 1) ys) → r ≡ stepOf area w a (getD ys i noSlot) c i
-      → scanned area w ys ≡ scanFrom area w r (i + 1) (drop (i + 1) ys)
+  pub look-next : (r : Survey) (c : Bool) → i < length ys → scanned area w ys ≡ scanFrom area w ys a i (drop i ys)
+      → c ≡ aloneIn a (getD ys i noSlot) (take i ys) → r ≡ stepOf area w a (getD ys i noSlot) c i
+      → scanned area w ys ≡ scanFrom area w ys r (i + 1) (drop (i + 1) ys)
   unfolding scanFrom
   look-next r c l h e f = h ∙ rw (f, e, add-one, drop-cons ys i noSlot l)
 
   -- and none left
-  pub look-end : i ≡ length ys → scanned area w ys ≡ scanFrom area w a i (drop i ys) → a ≡ scanned area w ys
+  pub look-end : i ≡ length ys → scanned area w ys ≡ scanFrom area w ys a i (drop i ys) → a ≡ scanned area w ys
   unfolding scanFrom
-  look-end e h = sym (h ∙ ap (λ (l : List Slot). scanFrom area w a i l) (ap (λ (j : ℕ). drop j ys) e ∙ drop-length ys))
+  look-end e h = sym (h ∙ ap (λ (l : List Slot). scanFrom area w ys a i l) (ap (λ (j : ℕ). drop j ys) e ∙ drop-length ys))

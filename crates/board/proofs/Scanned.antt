@@ -1,17 +1,18 @@
 -- One look over the lent slots finds what document 01 asks of the board: whether it is valid, the aircraft's own slot, the lowest free one.
 use mathlib.Core.Path.{_≡_, refl, sym, ap, _∙_, subst}
-use mathlib.Core.Bool.{Bool, true, false, cond, not, _&&_, _||_, and-true}
-use mathlib.Core.List.{List, [], _∷_}
+use mathlib.Core.Bool.{Bool, true, false, cond, not, _&&_, _||_, and-assoc, and-true}
+use mathlib.Core.List.{List, [], _∷_, _++_}
 use Prim.Native.Nat.{ℕ, zero, suc, _+_, _*_, _≤_, _<_}
 use native.Mathlib.Omega.{arith}
 use native.Mathlib.Nat.{mul-zero}
 use lib.Dec.{leb, ltb, eqb}
-use lib.ListN.{length, getD, take, drop, length-drop}
-use lib.Seq.{take-take, drop-drop, length-take-le}
+use lib.ListN.{length, getD, take, drop, length-drop, drop-of-length-le}
+use lib.Seq.{take-take, take-suc, drop-cons, drop-drop, length-take-le}
 use borrow.Author.Tests.{eq-eqb, ne-eqb, le-leb, lt-leb, lt-ltb, le-ltb, eqb-true, leb-true, not-true, not-false}
 use Rattle.text.specs.Parts.{part}
 use Rattle.text.specs.Equal.{sameBytes}
-use Rattle.text.proofs.Cases.{by-test, by-le, by-eq, both-left, both-right}
+use Rattle.text.proofs.Equal.{same-equal, equal-same}
+use Rattle.text.proofs.Cases.{by-test, by-lt, by-le, by-eq, both-left, both-right}
 use Rattle.command.specs.Text.{longest, checkCommand}
 use Rattle.command.proofs.Accepted.{longest-is}
 use Rattle.config.specs.Config.{isFine}
@@ -143,13 +144,85 @@ alone-is : (a : Survey) (x : Slot) (xs : List Slot) → a .valid ≡ true → is
 unfolding aloneIn
 alone-is a x xs e u = cond-true (a .valid && isUsed x) (noneFor (x .designator) xs) true (rw (e, u))
 
-module _ (area : List ℕ) (w : Wanted) where
+-- ---- Apart from the slots before, and apart from the slots behind
+
+same-turned : (a b : List ℕ) → sameBytes a b ≡ sameBytes b a
+same-turned a b =
+    by-test (sameBytes a b)
+    (λ (e : sameBytes a b ≡ true). e ∙ sym (equal-same b a (sym (same-equal a b e))))
+    (λ (e : sameBytes a b ≡ false).
+    by-test (sameBytes b a)
+    (λ (f : sameBytes b a ≡ true). never (equal-same a b (sym (same-equal b a f))) e)
+    (λ (f : sameBytes b a ≡ false). e ∙ sym f))
+
+-- every used slot of xs is apart from those before
+abbrev clearOf : List Slot → List Slot → Bool
+clearOf before [] = true
+clearOf before (x ∷ xs) = (not (isUsed x) || noneFor (x .designator) before) && clearOf before xs
+
+or-true : (t : Bool) → (t || true) ≡ true
+or-true true = refl
+or-true false = refl
+
+clear-none : (xs : List Slot) → clearOf [] xs ≡ true
+unfolding noneFor
+clear-none [] = refl
+clear-none (x ∷ xs) = rw (or-true (not (isUsed x))) (clear-none xs)
+
+none-append : (d : List ℕ) (xs ys : List Slot) → noneFor d (xs ++ ys) ≡ (noneFor d xs && noneFor d ys)
+unfolding noneFor
+none-append d [] ys = refl
+none-append d (x ∷ xs) ys = rw (none-append d xs ys) (sym (and-assoc (not (usedFor d x)) (noneFor d xs) (noneFor d ys)))
+
+spread : (u n m c e : Bool) → ((not u || (n && m)) && (c && e)) ≡ (((not u || n) && c) && ((not u || m) && e))
+spread true true true true e = refl
+spread true true true false e = refl
+spread true true false true e = refl
+spread true true false false e = refl
+spread true false m c e = refl
+spread false n m true e = refl
+spread false n m false e = refl
+
+-- one slot more before
+clear-more : (before : List Slot) (x : Slot) (xs : List Slot) → clearOf (before ++ x ∷ []) xs ≡ (clearOf before xs && clearOf (x ∷ []) xs)
+clear-more before x [] = refl
+clear-more before x (y ∷ xs) =
+    rw (clear-more before x xs, none-append (y .designator) before (x ∷ []))
+    (spread (isUsed y) (noneFor (y .designator) before) (noneFor (y .designator) (x ∷ [])) (clearOf before xs) (clearOf (x ∷ []) xs))
+
+turned : (u s : Bool) → (not u || (not s && true)) ≡ not (u && s)
+turned true true = refl
+turned true false = refl
+turned false s = refl
+
+-- those behind a used slot are apart from it when it is apart from them
+clear-used : (x : Slot) (xs : List Slot) → isUsed x ≡ true → clearOf (x ∷ []) xs ≡ noneFor (x .designator) xs
+unfolding noneFor usedFor
+clear-used x [] u = refl
+clear-used x (y ∷ xs) u =
+    rw (u, clear-used x xs u, same-turned (y .designator) (x .designator))
+    (ap (λ (t : Bool). t && noneFor (x .designator) xs) (turned (isUsed y) (sameBytes (x .designator) (y .designator))))
+
+clear-free : (x : Slot) (xs : List Slot) → isUsed x ≡ false → clearOf (x ∷ []) xs ≡ true
+unfolding noneFor usedFor
+clear-free x [] u = refl
+clear-free x (y ∷ xs) u = rw (u, or-true (not (isUsed y)), clear-free x xs u)
+
+regroup : (n s c b v : Bool) → ((n && s) && ((c && b) && v)) ≡ ((n && c) && ((b && s) && v))
+regroup true true true b v = rw (and-true b)
+regroup true true false b v = refl
+regroup true false true true v = refl
+regroup true false true false v = refl
+regroup true false false b v = refl
+regroup false s c b v = refl
+
+module _ (area : List ℕ) (w : Wanted) (ys : List Slot) where
   -- where the board is not valid already, it stays so
-  pub stays-bad : (a : Survey) (i : ℕ) (xs : List Slot) → a .valid ≡ false → scanFrom area w a i xs ≡ a
+  pub stays-bad : (a : Survey) (i : ℕ) (xs : List Slot) → a .valid ≡ false → scanFrom area w ys a i xs ≡ a
   unfolding scanFrom
   stays-bad a i [] e = refl
   stays-bad a i (x ∷ xs) e =
-      ap (λ (z : Survey). scanFrom area w z (suc i) xs) (step-bad area w a x (aloneIn a x xs) i e) ∙ stays-bad a (suc i) xs e
+      ap (λ (z : Survey). scanFrom area w ys z (suc i) xs) (step-bad area w a x (aloneIn a x (take i ys)) i e) ∙ stays-bad a (suc i) xs e
 
   -- designator and text of a used slot, against the place's own soundness
   module _ (x : Slot) (xs : List Slot) (i : ℕ) (e : length area ≡ 835 * (i + suc (length xs))) (few : i + suc (length xs) ≤ 64) (u : isUsed x ≡ true) (fit : x .length ≤ 835) where
@@ -200,35 +273,62 @@ module _ (area : List ℕ) (w : Wanted) where
         let n : x .length ≡ 0 = eqb-true (x .length) 0 z in
         rw (place-free x (drop (835 * i) area) (here-long area i (length xs) e), z, le-leb (x .length) longest (rw (n, longest-is) (omega arith)))
 
-  pub scan-valid : (a : Survey) (i : ℕ) (xs : List Slot) → i + length xs ≤ 64 → length area ≡ 835 * (i + length xs)
-      → scanFrom area w a i xs .valid ≡ (a .valid && (lengthsFit xs && isValid (boardFrom area i xs)))
+  -- the slots before the next one
+  module _ (i : ℕ) (x : Slot) (xs : List Slot) (left : drop i ys ≡ x ∷ xs) where
+    inside : i < length ys
+    inside = by-lt i (length ys) (λ (l : i < length ys). l) (λ (l : length ys ≤ i). let z : x ∷ xs ≡ [] = sym left ∙ drop-of-length-le ys {i = i} l in let n : suc (length xs) ≡ 0 = ap length z in absurd (omega arith))
+
+    parted : getD ys i noSlot ∷ drop (suc i) ys ≡ x ∷ xs
+    parted = sym (drop-cons ys i noSlot inside) ∙ left
+
+    before-next : take (suc i) ys ≡ take i ys ++ x ∷ []
+    before-next = take-suc ys i noSlot inside ∙ ap (λ (l : List Slot). take i ys ++ take 1 l) parted
+
+    left-next : drop (suc i) ys ≡ xs
+    left-next = ap (λ (l : List Slot). drop 1 l) parted
+
+  scan-valid : (a : Survey) (i : ℕ) (xs : List Slot) → drop i ys ≡ xs → i + length xs ≤ 64 → length area ≡ 835 * (i + length xs)
+      → scanFrom area w ys a i xs .valid ≡ (a .valid && (clearOf (take i ys) xs && (lengthsFit xs && isValid (boardFrom area i xs))))
   unfolding scanFrom lengthsFit isValid boardOf
-  scan-valid a i [] few e = sym (and-true (a .valid))
-  scan-valid a i (x ∷ xs) few e =
+  scan-valid a i [] left few e = sym (and-true (a .valid))
+  scan-valid a i (x ∷ xs) left few e =
       let few′ : suc i + length xs ≤ 64 = omega arith in
       let e′ = next-bytes area i (length xs) e in
+      let c = aloneIn a x (take i ys) in
+      let more = ap (λ (l : List Slot). clearOf l xs) (before-next i x xs left) ∙ clear-more (take i ys) x xs in
+      let later = left-next i x xs left in
       rw (next-area area i (length xs) e)
       (by-test (a .valid)
       (λ (t : a .valid ≡ true).
       by-test (isUsed x)
       (λ (u : isUsed x ≡ true).
-      let z : Survey = withUsed a x (aloneIn a x xs && soundAt x area i) i (w .designator) in
-      ap (λ (y : Survey). scanFrom area w y (suc i) xs .valid) (step-used area w a x (aloneIn a x xs) i t u)
-      ∙ scan-valid z (suc i) xs few′ e′
-      ∙ ap (λ (b : Bool). b && (lengthsFit xs && isValid (boardFrom area (suc i) xs)))
-      (with-valid a x (aloneIn a x xs && soundAt x area i) i (w .designator) ∙ ap (λ (b : Bool). b && soundAt x area i) (alone-is a x xs t u))
-      ∙ valid-used a i x xs few e u
-      ∙ sym (ap (λ (b : Bool). b && asked a i x xs few e) t))
+      let z : Survey = withUsed a x (c && soundAt x area i) i (w .designator) in
+      ap (λ (y : Survey). scanFrom area w ys y (suc i) xs .valid) (step-used area w a x c i t u)
+      ∙ scan-valid z (suc i) xs later few′ e′
+      ∙ rw (
+        with-valid a x (c && soundAt x area i) i (w .designator),
+        alone-is a x (take i ys) t u,
+        more,
+        clear-used x xs u,
+        ← valid-used a i x xs few e u,
+        t,
+        u,
+      )
+      (regroup (noneFor (x .designator) (take i ys)) (soundAt x area i) (clearOf (take i ys) xs) (noneFor (x .designator) xs) (lengthsFit xs && isValid (boardFrom area (suc i) xs))))
       (λ (u : isUsed x ≡ false).
-      ap (λ (y : Survey). scanFrom area w y (suc i) xs .valid) (step-free area w a x (aloneIn a x xs) i t u)
-      ∙ scan-valid (withFree a i) (suc i) xs few′ e′
-      ∙ valid-free a i x xs few e u
-      ∙ sym (ap (λ (b : Bool). b && asked a i x xs few e) t)))
+      ap (λ (y : Survey). scanFrom area w ys y (suc i) xs .valid) (step-free area w a x c i t u)
+      ∙ scan-valid (withFree a i) (suc i) xs later few′ e′
+      ∙ rw (more, clear-free x xs u, and-true (clearOf (take i ys) xs), ← valid-free a i x xs few e u, t, u)))
       (λ (t : a .valid ≡ false).
-      ap (λ (y : Survey). scanFrom area w y (suc i) xs .valid) (step-bad area w a x (aloneIn a x xs) i t)
+      ap (λ (y : Survey). scanFrom area w ys y (suc i) xs .valid) (step-bad area w a x c i t)
       ∙ ap (λ (y : Survey). y .valid) (stays-bad a (suc i) xs t)
       ∙ t
-      ∙ sym (ap (λ (b : Bool). b && asked a i x xs few e) t)))
+      ∙ rw t))
+
+-- of all slots
+pub valid-all : (area : List ℕ) (w : Wanted) (xs : List Slot) (a : Survey) → 0 + length xs ≤ 64 → length area ≡ 835 * (0 + length xs)
+    → scanFrom area w xs a 0 xs .valid ≡ (a .valid && (lengthsFit xs && isValid (boardFrom area 0 xs)))
+valid-all area w xs a few e = scan-valid area w xs a 0 xs refl few e ∙ rw (clear-none xs)
 
 -- ---- The number of slots, the aircraft's own slot, the lowest free one
 
@@ -265,7 +365,7 @@ module _ (a : Survey) (x : Slot) (fine : Bool) (i : ℕ) (d : List ℕ) where
       (λ (s : sameBytes d (x .designator) ≡ true). ap f (used-mine t s) ∙ e)
       (λ (s : sameBytes d (x .designator) ≡ false). ap f (used-other s)))
 
-module _ (area : List ℕ) (w : Wanted) where
+module _ (area : List ℕ) (w : Wanted) (ys : List Slot) where
   -- one slot, in its three ways
   by-step {ℓ} : (a : Survey) (x : Slot) (c : Bool) (i : ℕ) (P : Survey → Type ℓ)
       → P a → P (withFree a i) → P (withUsed a x (c && soundAt x area i) i (w .designator)) → P (stepOf area w a x c i)
@@ -278,47 +378,47 @@ module _ (area : List ℕ) (w : Wanted) where
       (λ (t : a .valid ≡ false). subst P (sym (step-bad area w a x c i t)) bad)
 
   -- the number of slots is kept
-  pub scan-count : (a : Survey) (i : ℕ) (xs : List Slot) → scanFrom area w a i xs .count ≡ a .count
+  pub scan-count : (a : Survey) (i : ℕ) (xs : List Slot) → scanFrom area w ys a i xs .count ≡ a .count
   unfolding scanFrom
   scan-count a i [] = refl
   scan-count a i (x ∷ xs) =
-      let c = aloneIn a x xs in
+      let c = aloneIn a x (take i ys) in
       scan-count (stepOf area w a x c i) (suc i) xs
       ∙ by-step a x c i (λ z. z .count ≡ a .count) refl refl
       (used-keeps a x (c && soundAt x area i) i (w .designator) (λ z. z .count) refl)
 
   -- a slot found stays the one
   own-found : (a : Survey) (i : ℕ) (xs : List Slot) → a .own < i
-      → (scanFrom area w a i xs .own ≡ a .own) × (scanFrom area w a i xs .length ≡ a .length)
+      → (scanFrom area w ys a i xs .own ≡ a .own) × (scanFrom area w ys a i xs .length ≡ a .length)
   unfolding scanFrom
   own-found a i [] l = (refl, refl)
   own-found a i (x ∷ xs) l =
-      let c = aloneIn a x xs in
+      let c = aloneIn a x (take i ys) in
       let f = c && soundAt x area i in
-      by-step a x c i (λ z. (scanFrom area w z (suc i) xs .own ≡ a .own) × (scanFrom area w z (suc i) xs .length ≡ a .length))
+      by-step a x c i (λ z. (scanFrom area w ys z (suc i) xs .own ≡ a .own) × (scanFrom area w ys z (suc i) xs .length ≡ a .length))
       (own-found a (suc i) xs (omega arith))
       (own-found (withFree a i) (suc i) xs (omega arith))
-      (subst (λ z. (scanFrom area w z (suc i) xs .own ≡ a .own) × (scanFrom area w z (suc i) xs .length ≡ a .length))
+      (subst (λ z. (scanFrom area w ys z (suc i) xs .own ≡ a .own) × (scanFrom area w ys z (suc i) xs .length ≡ a .length))
       (sym (used-found a x f i (w .designator) (lt-ltb (a .own) i l))) (own-found (asOther a f) (suc i) xs (omega arith)))
 
-  free-found : (a : Survey) (i : ℕ) (xs : List Slot) → a .free < i → scanFrom area w a i xs .free ≡ a .free
+  free-found : (a : Survey) (i : ℕ) (xs : List Slot) → a .free < i → scanFrom area w ys a i xs .free ≡ a .free
   unfolding scanFrom
   free-found a i [] l = refl
   free-found a i (x ∷ xs) l =
-      let c = aloneIn a x xs in
+      let c = aloneIn a x (take i ys) in
       let f = c && soundAt x area i in
       let z : firstOf (a .free) i ≡ a .free = cond-true (ltb (a .free) i) (a .free) i (lt-ltb (a .free) i l) in
-      by-step a x c i (λ y. scanFrom area w y (suc i) xs .free ≡ a .free)
+      by-step a x c i (λ y. scanFrom area w ys y (suc i) xs .free ≡ a .free)
       (free-found a (suc i) xs (omega arith))
       (free-found (withFree a i) (suc i) xs (rw z (omega arith)) ∙ z)
       (free-found (withUsed a x f i (w .designator)) (suc i) xs (rw (used-keeps a x f i (w .designator) (λ y. y .free) refl) (omega arith))
       ∙ used-keeps a x f i (w .designator) (λ y. y .free) refl)
 
   -- what ends valid was so
-  valid-back : (a : Survey) (i : ℕ) (xs : List Slot) → scanFrom area w a i xs .valid ≡ true → a .valid ≡ true
+  valid-back : (a : Survey) (i : ℕ) (xs : List Slot) → scanFrom area w ys a i xs .valid ≡ true → a .valid ≡ true
   valid-back a i xs e =
       by-test (a .valid) (λ (t : a .valid ≡ true). t)
-      (λ (t : a .valid ≡ false). never (sym (ap (λ z. z .valid) (stays-bad area w a i xs t)) ∙ e) t)
+      (λ (t : a .valid ≡ false). never (sym (ap (λ z. z .valid) (stays-bad area w ys a i xs t)) ∙ e) t)
 
   -- none found before slot i: the look finds the lowest from there on
   module _ (i : ℕ) (x : Slot) (xs : List Slot) (e : length area ≡ 835 * (i + suc (length xs))) where
@@ -394,12 +494,12 @@ module _ (area : List ℕ) (w : Wanted) where
         length = λ z. o .length (sym (any-later i x xs e (isFor (w .designator)) h) ∙ z) ∙ sym (ap (λ (k : ℕ). getD (x ∷ xs) k noSlot .length) l);
       }
 
-  pub scan-own : (a : Survey) (i : ℕ) (xs : List Slot) → length area ≡ 835 * (i + length xs) → scanFrom area w a i xs .valid ≡ true
-      → a .own ≡ i + length xs → Owns (scanFrom area w a i xs) i xs
+  pub scan-own : (a : Survey) (i : ℕ) (xs : List Slot) → length area ≡ 835 * (i + length xs) → scanFrom area w ys a i xs .valid ≡ true
+      → a .own ≡ i + length xs → Owns (scanFrom area w ys a i xs) i xs
   unfolding scanFrom
   scan-own a i [] e v o = own-none a i v o
   scan-own a i (x ∷ xs) e v o =
-      let c = aloneIn a x xs in
+      let c = aloneIn a x (take i ys) in
       let f = c && soundAt x area i in
       let d = w .designator in
       let t = valid-back a i (x ∷ xs) v in
@@ -412,26 +512,26 @@ module _ (area : List ℕ) (w : Wanted) where
       (λ (s : sameBytes d (x .designator) ≡ true).
       let z : stepOf area w a x c i ≡ asMine a x f i = s₀ ∙ used-mine a x f i d past s in
       let k = own-found (asMine a x f i) (suc i) xs (omega arith) in
-      subst (λ (y : Survey). Owns (scanFrom area w y (suc i) xs) i (x ∷ xs)) (sym z)
-      (own-here (scanFrom area w (asMine a x f i) (suc i) xs) i x xs e (mine-for i x xs e u s) (k .0) (k .1)))
+      subst (λ (y : Survey). Owns (scanFrom area w ys y (suc i) xs) i (x ∷ xs)) (sym z)
+      (own-here (scanFrom area w ys (asMine a x f i) (suc i) xs) i x xs e (mine-for i x xs e u s) (k .0) (k .1)))
       (λ (s : sameBytes d (x .designator) ≡ false).
       let z : stepOf area w a x c i ≡ asOther a f = s₀ ∙ used-other a x f i d s in
-      let n : scanFrom area w (asOther a f) (suc i) xs .valid ≡ true = subst (λ (y : Survey). scanFrom area w y (suc i) xs .valid ≡ true) z v in
-      subst (λ (y : Survey). Owns (scanFrom area w y (suc i) xs) i (x ∷ xs)) (sym z)
-      (own-later (scanFrom area w (asOther a f) (suc i) xs) i x xs e (other-for i x xs e s) (scan-own (asOther a f) (suc i) xs e′ n (omega arith)))))
+      let n : scanFrom area w ys (asOther a f) (suc i) xs .valid ≡ true = subst (λ (y : Survey). scanFrom area w ys y (suc i) xs .valid ≡ true) z v in
+      subst (λ (y : Survey). Owns (scanFrom area w ys y (suc i) xs) i (x ∷ xs)) (sym z)
+      (own-later (scanFrom area w ys (asOther a f) (suc i) xs) i x xs e (other-for i x xs e s) (scan-own (asOther a f) (suc i) xs e′ n (omega arith)))))
       (λ (u : isUsed x ≡ false).
       let z : stepOf area w a x c i ≡ withFree a i = step-free area w a x c i t u in
-      let n : scanFrom area w (withFree a i) (suc i) xs .valid ≡ true = subst (λ (y : Survey). scanFrom area w y (suc i) xs .valid ≡ true) z v in
-      subst (λ (y : Survey). Owns (scanFrom area w y (suc i) xs) i (x ∷ xs)) (sym z)
-      (own-later (scanFrom area w (withFree a i) (suc i) xs) i x xs e (free-for-none i x xs e u) (scan-own (withFree a i) (suc i) xs e′ n (omega arith))))
+      let n : scanFrom area w ys (withFree a i) (suc i) xs .valid ≡ true = subst (λ (y : Survey). scanFrom area w ys y (suc i) xs .valid ≡ true) z v in
+      subst (λ (y : Survey). Owns (scanFrom area w ys y (suc i) xs) i (x ∷ xs)) (sym z)
+      (own-later (scanFrom area w ys (withFree a i) (suc i) xs) i x xs e (free-for-none i x xs e u) (scan-own (withFree a i) (suc i) xs e′ n (omega arith))))
 
   -- and the lowest free one
-  pub scan-free : (a : Survey) (i : ℕ) (xs : List Slot) → length area ≡ 835 * (i + length xs) → scanFrom area w a i xs .valid ≡ true
-      → a .free ≡ i + length xs → scanFrom area w a i xs .free ≡ i + lowest isFree (boardFrom area i xs)
+  pub scan-free : (a : Survey) (i : ℕ) (xs : List Slot) → length area ≡ 835 * (i + length xs) → scanFrom area w ys a i xs .valid ≡ true
+      → a .free ≡ i + length xs → scanFrom area w ys a i xs .free ≡ i + lowest isFree (boardFrom area i xs)
   unfolding scanFrom
   scan-free a i [] e v o = free-none a i o
   scan-free a i (x ∷ xs) e v o =
-      let c = aloneIn a x xs in
+      let c = aloneIn a x (take i ys) in
       let f = c && soundAt x area i in
       let d = w .designator in
       let t = valid-back a i (x ∷ xs) v in
@@ -440,12 +540,12 @@ module _ (area : List ℕ) (w : Wanted) where
       (λ (u : isUsed x ≡ true).
       let y : Survey = withUsed a x f i d in
       let z : stepOf area w a x c i ≡ y = step-used area w a x c i t u in
-      let n : scanFrom area w y (suc i) xs .valid ≡ true = subst (λ (q : Survey). scanFrom area w q (suc i) xs .valid ≡ true) z v in
+      let n : scanFrom area w ys y (suc i) xs .valid ≡ true = subst (λ (q : Survey). scanFrom area w ys q (suc i) xs .valid ≡ true) z v in
       let k : y .free ≡ a .free = used-keeps a x f i d (λ (q : Survey). q .free) refl in
       let r = scan-free y (suc i) xs e′ n (omega arith) in
-      ap (λ (q : Survey). scanFrom area w q (suc i) xs .free) z ∙ r ∙ omega (arith, lowest-later i x xs e isFree (used-place i x xs e u)))
+      ap (λ (q : Survey). scanFrom area w ys q (suc i) xs .free) z ∙ r ∙ omega (arith, lowest-later i x xs e isFree (used-place i x xs e u)))
       (λ (u : isUsed x ≡ false).
       let z : stepOf area w a x c i ≡ withFree a i = step-free area w a x c i t u in
       let k : firstOf (a .free) i ≡ i = cond-false (ltb (a .free) i) (a .free) i (le-ltb (a .free) i (omega arith)) in
       let r = free-found (withFree a i) (suc i) xs (omega arith) in
-      ap (λ (q : Survey). scanFrom area w q (suc i) xs .free) z ∙ r ∙ k ∙ omega (arith, lowest-here i x xs e isFree (free-place i x xs e u)))
+      ap (λ (q : Survey). scanFrom area w ys q (suc i) xs .free) z ∙ r ∙ k ∙ omega (arith, lowest-here i x xs e isFree (free-place i x xs e u)))

@@ -3,7 +3,7 @@ use mathlib.Core.Bool.{Bool, true, false, cond, not, _&&_}
 use mathlib.Core.List.{List, [], _∷_}
 use Prim.Native.Nat.{ℕ, suc, _+_, _*_}
 use lib.Dec.{leb, ltb, eqb}
-use lib.ListN.{length, replicate}
+use lib.ListN.{length, take, replicate}
 use Rattle.text.specs.Parts.{part}
 use Rattle.text.specs.Equal.{sameBytes}
 use Rattle.command.specs.Text.{checkCommand}
@@ -33,13 +33,13 @@ unfoldable pub noneFor : List ℕ → List Slot → Bool
 noneFor d [] = true
 noneFor d (x ∷ xs) = not (usedFor d x) && noneFor d xs
 
--- no slot behind a used one is for its aircraft; not looked at where the board is not valid anyway
+-- no slot before a used one is for its aircraft; not looked at where the board is not valid anyway
 unfoldable pub aloneIn : Survey → Slot → List Slot → Bool
-aloneIn a x rest = cond (a .valid && isUsed x) (noneFor (x .designator) rest) true
+aloneIn a x before = cond (a .valid && isUsed x) (noneFor (x .designator) before) true
 
--- from which slot on that is looked at
-unfoldable pub beginAt : Survey → Slot → ℕ → ℕ → ℕ
-beginAt a x i n = cond (a .valid && isUsed x && ltb i n) (i + 1) n
+-- before which slot that is looked at
+unfoldable pub untilAt : Survey → Slot → ℕ → ℕ → ℕ
+untilAt a x i n = cond (a .valid && isUsed x) (cond (ltb i n) i n) 0
 
 -- designator and text of the used slot i
 unfoldable pub soundAt : Slot → List ℕ → ℕ → Bool
@@ -76,12 +76,13 @@ stepOf area w a x clear i =
     (cond (isUsed x) (withUsed a x (clear && soundAt x area i) i (w .designator)) (withFree a i))
     a
 
-unfoldable pub scanFrom : List ℕ → Wanted → Survey → ℕ → List Slot → Survey
-scanFrom area w a i [] = a
-scanFrom area w a i (x ∷ xs) = scanFrom area w (stepOf area w a x (aloneIn a x xs) i) (suc i) xs
+-- all slots ys, those from slot i on being left
+unfoldable pub scanFrom : List ℕ → Wanted → List Slot → Survey → ℕ → List Slot → Survey
+scanFrom area w ys a i [] = a
+scanFrom area w ys a i (x ∷ xs) = scanFrom area w ys (stepOf area w a x (aloneIn a x (take i ys)) i) (suc i) xs
 
 abbrev pub scanned : List ℕ → Wanted → List Slot → Survey
-scanned area w xs = scanFrom area w (startOf (length xs) (length area)) 0 xs
+scanned area w xs = scanFrom area w xs (startOf (length xs) (length area)) 0 xs
 
 -- ---- What is then done, by what was found
 

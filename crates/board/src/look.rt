@@ -12,7 +12,7 @@ ghost use Prim.Native.Nat.{_<_};
 ghost use mathlib.Core.List.{[]};
 ghost use lib.ListN.{length};
 ghost use Rattle.text.specs.Equal.{sameBytes};
-ghost use Rattle.board.specs.Survey.{wantedBy, usedFor, soundAt, beginAt, startOf, firstOf, withUsed, stepOf};
+ghost use Rattle.board.specs.Survey.{wantedBy, usedFor, soundAt, untilAt, startOf, firstOf, withUsed, stepOf};
 
 // The aircraft that a call is about.
 pub fn wanted(designator: &[u8]) -> Wanted
@@ -74,18 +74,18 @@ pub fn apart(clear: bool, x: Slot, s: Slot) -> bool
     clear & !(used & same_aircraft(mine, its))
 }
 
-// Behind which slot the others are looked at: behind the last where there is nothing to find.
-pub fn begin(a: Survey, s: Slot, i: usize, n: usize) -> usize
-    ensures { λ r. ⌜ r ≡ beginAt a s i n ⌝ }
+// Before which slot the others are looked at: before the first where there is nothing to find.
+pub fn until(a: Survey, s: Slot, i: usize, n: usize) -> usize
+    ensures { λ r. ⌜ r ≡ untilAt a s i n ⌝ }
 {
     if !a.valid {
-        return n;
+        return 0;
     }
     if s.length == 0 {
-        return n;
+        return 0;
     }
     if i < n {
-        return i + 1;
+        return i;
     }
     n
 }

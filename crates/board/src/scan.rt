@@ -3,21 +3,22 @@ use crate::Slot;
 use crate::Survey;
 use crate::Wanted;
 use crate::look::apart;
-use crate::look::begin;
+
 use crate::look::start;
 use crate::look::step;
+use crate::look::until;
 ghost use mathlib.Core.Path.{_≡_};
-ghost use Prim.Native.Nat.{_+_};
-ghost use lib.ListN.{drop, set};
+ghost use lib.ListN.{set, take};
 ghost use Rattle.board.specs.Survey.{aloneIn, scanned};
 
-// Whether no slot behind slot i, which is `s`, is used for its aircraft.
+// Whether no slot before slot i, which is `s`, is used for its aircraft: used slots lie low, so there are few.
 pub fn alone(slots: &[Slot], a: Survey, s: Slot, i: usize) -> bool
-    ensures { λ r. ⌜ r ≡ aloneIn a s (drop (i + 1) (now (slots .entry))) ⌝ }
+    ensures { λ r. ⌜ r ≡ aloneIn a s (take i (now (slots .entry))) ⌝ }
 {
     let mut clear = true;
-    let mut j = begin(a, s, i, slots.len());
-    while j < slots.len() {
+    let mut j = 0;
+    let end = until(a, s, i, slots.len());
+    while j < end {
         clear = apart(clear, slots[j], s);
         j += 1;
     }
