@@ -1,6 +1,6 @@
 -- What a look over the slots finds, in the functions that take one slot more.
 use mathlib.Core.Path.{_≡_, refl, sym, ap, _∙_}
-use mathlib.Core.Bool.{Bool, true, false, cond, not, _&&_, and-assoc, and-true}
+use mathlib.Core.Bool.{Bool, true, false, cond, not, _&&_, _||_, and-assoc, and-true}
 use mathlib.Core.List.{List, [], _∷_}
 use Prim.Native.Nat.{ℕ, suc, _+_, _-_, _*_, _≤_, _<_, _%_, _^_}
 use native.Mathlib.Numerals.{add-one}
@@ -8,12 +8,13 @@ use native.Mathlib.Omega.{arith}
 use lib.Dec.{leb, ltb, eqb}
 use lib.ListN.{length, getD, take, drop, drop-of-length-le}
 use lib.Seq.{take-all, take-length, length-take-le, getD-take, drop-cons, drop-length}
-use borrow.Author.Tests.{le-leb, lt-leb, lt-ltb, le-ltb, ltb-true}
+use borrow.Author.Tests.{le-leb, lt-leb, lt-ltb, le-ltb, ltb-true, leb-false}
 use Rattle.text.specs.Equal.{sameBytes}
 use Rattle.text.proofs.Cases.{by-le, by-lt, by-test, both-right}
 use Rattle.text.proofs.Parts.{part-bytes}
 use Rattle.board.specs.Lent.{noSlot}
-use Rattle.board.specs.Survey.{isUsed, usedFor, noneFor, aloneIn, untilAt, stepOf, scanFrom, scanned}
+use Rattle.board.specs.Survey.{isUsed, usedFor, noneFor, aloneIn, tellsOf, untilAt, firstOf, stepOf, scanFrom, scanned}
+use Rattle.board.proofs.Scanned.{step-bad, step-free}
 use Rattle.board.specs.declared.Wanted.{Wanted}
 use Rattle.board.specs.declared.Slot.{Slot}
 use Rattle.board.specs.declared.Survey.{Survey}
@@ -100,6 +101,25 @@ apart-end d ys m j c w k e h =
     let past : length (take m ys) ≤ j = rw (length-take-le m ys k, e) (omega arith) in
     sym (h ∙ rw (drop-of-length-le (take m ys) {i = j} past) (and-true c))
 
+neither-left : (s t : Bool) → (s || t) ≡ false → s ≡ false
+neither-left true t e = e
+neither-left false t e = refl
+
+neither-right : (s t : Bool) → (s || t) ≡ false → t ≡ false
+neither-right true t e = let z : _≡_ {A = ℕ} 0 1 = cc in absurd (omega arith)
+neither-right false t e = e
+
+-- a free slot behind a free one changes nothing
+tells-nothing : (area : List ℕ) (w : Wanted) (a : Survey) (x : Slot) (c : Bool) (i : ℕ) → isUsed x ≡ false → a .free < i → stepOf area w a x c i ≡ a
+tells-nothing area w a x c i u l =
+    by-test (a .valid)
+    (λ (t : a .valid ≡ true).
+    let same : firstOf (a .free) i ≡ a .free = rw (lt-ltb (a .free) i l) in
+    step-free area w a x c i t u
+    ∙ ap (λ (k : ℕ). record { valid = true; length = a .length; own = a .own; free = k; count = a .count }) same
+    ∙ ap (λ (v : Bool). record { valid = v; length = a .length; own = a .own; free = a .free; count = a .count }) (sym t))
+    (λ (t : a .valid ≡ false). step-bad area w a x c i t)
+
 -- ---- The look over the slots, from a slot on, with what was found before it
 
 module _ (area : List ℕ) (w : Wanted) (ys : List Slot) (i : ℕ) (a : Survey) where
@@ -109,6 +129,17 @@ module _ (area : List ℕ) (w : Wanted) (ys : List Slot) (i : ℕ) (a : Survey) 
       → scanned area w ys ≡ scanFrom area w ys r (i + 1) (drop (i + 1) ys)
   unfolding scanFrom
   look-next r c l h e f = h ∙ rw (f, e, add-one, drop-cons ys i noSlot l)
+
+  -- one that tells nothing
+  pub look-past : i < length ys → scanned area w ys ≡ scanFrom area w ys a i (drop i ys) → tellsOf a (getD ys i noSlot) i ≡ false
+      → scanned area w ys ≡ scanFrom area w ys a (i + 1) (drop (i + 1) ys)
+  unfolding scanFrom
+  look-past l h t =
+      let x = getD ys i noSlot in
+      h
+      ∙ rw (add-one, drop-cons ys i noSlot l)
+      (ap (λ (z : Survey). scanFrom area w ys z (suc i) (drop (suc i) ys))
+      (tells-nothing area w a x (aloneIn a x (take i ys)) i (neither-left (isUsed x) (leb i (a .free)) t) (leb-false i (a .free) (neither-right (isUsed x) (leb i (a .free)) t))))
 
   -- and none left
   pub look-end : i ≡ length ys → scanned area w ys ≡ scanFrom area w ys a i (drop i ys) → a ≡ scanned area w ys

@@ -128,11 +128,11 @@ module _ (area : List ℕ) (w : Wanted) (a : Survey) (x : Slot) (c : Bool) (i : 
   abbrev used : Survey
   used = withUsed a x (c && soundAt x area i) i (w .designator)
 
-  step-bad : a .valid ≡ false → stepOf area w a x c i ≡ a
+  pub step-bad : a .valid ≡ false → stepOf area w a x c i ≡ a
   unfolding stepOf
   step-bad e = cond-false (a .valid) (cond (isUsed x) used (withFree a i)) a e
 
-  step-free : a .valid ≡ true → isUsed x ≡ false → stepOf area w a x c i ≡ withFree a i
+  pub step-free : a .valid ≡ true → isUsed x ≡ false → stepOf area w a x c i ≡ withFree a i
   unfolding stepOf
   step-free e u = cond-true (a .valid) (cond (isUsed x) used (withFree a i)) a e ∙ cond-false (isUsed x) used (withFree a i) u
 

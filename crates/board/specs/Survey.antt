@@ -1,5 +1,5 @@
 -- What one look over the lent slots finds. No promise to a caller rests on these names.
-use mathlib.Core.Bool.{Bool, true, false, cond, not, _&&_}
+use mathlib.Core.Bool.{Bool, true, false, cond, not, _&&_, _||_}
 use mathlib.Core.List.{List, [], _∷_}
 use Prim.Native.Nat.{ℕ, suc, _+_, _*_}
 use lib.Dec.{leb, ltb, eqb}
@@ -36,6 +36,10 @@ noneFor d (x ∷ xs) = not (usedFor d x) && noneFor d xs
 -- no slot before a used one is for its aircraft; not looked at where the board is not valid anyway
 unfoldable pub aloneIn : Survey → Slot → List Slot → Bool
 aloneIn a x before = cond (a .valid && isUsed x) (noneFor (x .designator) before) true
+
+-- whether a slot tells anything: a free one behind a free one does not
+abbrev pub tellsOf : Survey → Slot → ℕ → Bool
+tellsOf a x i = isUsed x || leb i (a .free)
 
 -- before which slot that is looked at
 unfoldable pub untilAt : Survey → Slot → ℕ → ℕ → ℕ

@@ -12,7 +12,7 @@ ghost use Prim.Native.Nat.{_<_};
 ghost use mathlib.Core.List.{[]};
 ghost use lib.ListN.{length};
 ghost use Rattle.text.specs.Equal.{sameBytes};
-ghost use Rattle.board.specs.Survey.{wantedBy, usedFor, soundAt, untilAt, startOf, firstOf, withUsed, stepOf};
+ghost use Rattle.board.specs.Survey.{wantedBy, usedFor, soundAt, tellsOf, untilAt, startOf, firstOf, withUsed, stepOf};
 
 // The aircraft that a call is about.
 pub fn wanted(designator: &[u8]) -> Wanted
@@ -72,6 +72,13 @@ pub fn apart(clear: bool, x: Slot, s: Slot) -> bool
     let its = x.designator;
     let used = x.length != 0;
     clear & !(used & same_aircraft(mine, its))
+}
+
+// Whether a slot tells anything: a free one behind a free one does not.
+pub fn tells(a: Survey, s: Slot, i: usize) -> bool
+    ensures { λ r. ⌜ r ≡ tellsOf a s i ⌝ }
+{
+    (s.length != 0) | (i <= a.free)
 }
 
 // Before which slot the others are looked at: before the first where there is nothing to find.

@@ -3,9 +3,9 @@ use crate::Slot;
 use crate::Survey;
 use crate::Wanted;
 use crate::look::apart;
-
 use crate::look::start;
 use crate::look::step;
+use crate::look::tells;
 use crate::look::until;
 ghost use mathlib.Core.Path.{_≡_};
 ghost use lib.ListN.{set, take};
@@ -33,8 +33,10 @@ pub fn look_over(slots: &[Slot], area: &[u8], w: Wanted) -> Survey
     let mut i = 0;
     while i < slots.len() {
         let s = slots[i];
-        let clear = alone(slots, a, s, i);
-        a = step(a, s, clear, area, i, w);
+        if tells(a, s, i) {
+            let clear = alone(slots, a, s, i);
+            a = step(a, s, clear, area, i, w);
+        }
         i += 1;
     }
     a
