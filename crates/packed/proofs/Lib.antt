@@ -4,4 +4,5 @@ pub mod Put
 pub mod Refusal
 pub mod RoundTrip
 pub mod Scan
+pub mod Short
 pub mod Signs

@@ -5,7 +5,7 @@ use crate::sign::plus;
 use crate::sign::size;
 use crate::table::digit;
 ghost use mathlib.Core.Path.{_≡_};
-ghost use mathlib.Core.Bool.{true};
+ghost use mathlib.Core.Bool.{true, cond};
 ghost use mathlib.Core.List.{[]};
 ghost use Prim.Native.Nat.{_≤_, _<_};
 ghost use lib.ListN.{length, replicate};
@@ -23,6 +23,7 @@ ghost use Rattle.packed.specs.Packed.{
   writeCode,
   written,
 };
+ghost use Rattle.packed.specs.Steps.{lastDigit};
 
 // The fewest digits, w at the most, that hold a figure of size m.
 fn fewest_of(w: usize, m: u32) -> usize
@@ -81,8 +82,8 @@ fn place(t: &[u8; 40], out: &mut [u8], k: usize, n: u32)
     spell_into(t, &mut out[gap..], n);
 }
 
-// A given figure, in its one spelling, as wide as what is lent.
-fn put_given(t: &[u8; 40], x: i32, out: &mut [u8])
+// A given figure, in its one spelling, in any width.
+fn put_any(t: &[u8; 40], x: i32, out: &mut [u8])
     requires { ⌜ now t ≡ digits ⌝ }
     requires { ⌜ (length (now out) ≤ 5) × (mag x < halfOf (length (now out))) ⌝ }
     ensures { λ _. ⌜ now (out .exit) ≡ spelling (length (now (out .entry))) (fewest (length (now (out .entry))) (mag x)) x ⌝ }
@@ -90,6 +91,81 @@ fn put_given(t: &[u8; 40], x: i32, out: &mut [u8])
     let k = fewest_of(out.len(), size(x));
     let n = plus(x, half(k));
     place(t, out, k, n);
+}
+
+// A choice that costs no jump: how many digits a figure needs varies from field to field.
+fn either(t: bool, a: u8, b: u8) -> u8
+    ensures { λ r. ⌜ r ≡ cond t a b ⌝ }
+{
+    if t {
+        return a;
+    }
+    b
+}
+
+fn shift(t: bool) -> u32
+    ensures { λ r. ⌜ r ≡ cond t 20 0 ⌝ }
+{
+    if t {
+        return 20;
+    }
+    0
+}
+
+// The last digit of n, which is counted from half a digit on where none stands before it.
+fn last_digit(t: &[u8; 40], n: u32, alone: bool) -> u8
+    requires { ⌜ now t ≡ digits ⌝ }
+    requires { ⌜ n < 64000 ⌝ }
+    ensures { λ r. ⌜ r ≡ lastDigit n alone ⌝ }
+{
+    digit(t, low((n + shift(alone)) % 40))
+}
+
+// The two bytes and the three that most figures are written in: each by itself, with no loop.
+fn put_two(t: &[u8; 40], x: i32, out: &mut [u8])
+    requires { ⌜ now t ≡ digits ⌝ }
+    requires { ⌜ (length (now out) ≡ 2) × (mag x < 800) ⌝ }
+    ensures { λ _. ⌜ now (out .exit) ≡ spelling 2 (fewest 2 (mag x)) x ⌝ }
+{
+    let n = plus(x, 800);
+    let one = size(x) < 20;
+    let a = either(one, b' ', digit(t, low(n / 40)));
+    let b = last_digit(t, n, one);
+    out[0] = a;
+    out[1] = b;
+}
+
+fn put_three(t: &[u8; 40], x: i32, out: &mut [u8])
+    requires { ⌜ now t ≡ digits ⌝ }
+    requires { ⌜ (length (now out) ≡ 3) × (mag x < 32000) ⌝ }
+    ensures { λ _. ⌜ now (out .exit) ≡ spelling 3 (fewest 3 (mag x)) x ⌝ }
+{
+    let n = plus(x, 32000);
+    let m = size(x);
+    let one = m < 20;
+    let two = m < 800;
+    let a = either(two, b' ', digit(t, low(n / 1600)));
+    let b = either(one, b' ', last_digit(t, n / 40, two));
+    let c = last_digit(t, n, one);
+    out[0] = a;
+    out[1] = b;
+    out[2] = c;
+}
+
+// A given figure, in its one spelling, as wide as what is lent.
+fn put_given(t: &[u8; 40], x: i32, out: &mut [u8])
+    requires { ⌜ now t ≡ digits ⌝ }
+    requires { ⌜ (length (now out) ≤ 5) × (mag x < halfOf (length (now out))) ⌝ }
+    ensures { λ _. ⌜ now (out .exit) ≡ spelling (length (now (out .entry))) (fewest (length (now (out .entry))) (mag x)) x ⌝ }
+{
+    let w = out.len();
+    if w == 2 {
+        put_two(t, x, out);
+    } else if w == 3 {
+        put_three(t, x, out);
+    } else {
+        put_any(t, x, out);
+    }
 }
 
 // A figure, given or missing, as wide as what is lent.
