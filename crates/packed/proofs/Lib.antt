@@ -1,5 +1,6 @@
 -- The laws of the packed field.
 pub mod Digits
+pub mod Laid
 pub mod Put
 pub mod Refusal
 pub mod RoundTrip

@@ -2,7 +2,7 @@
 use mathlib.Core.Bool.{Bool, cond, _&&_}
 use mathlib.Core.List.{List}
 use Prim.Native.Nat.{ℕ, _+_, _%_}
-use lib.Dec.{ltb}
+use lib.Dec.{leb, ltb}
 use lib.ListN.{length}
 use Rattle.packed.specs.Packed.{digitOf, number, allDigits, allSolidi, fault}
 use Rattle.packed.specs.declared.Figure.the-variants.{Missing}
@@ -22,3 +22,7 @@ otherField f = cond (allSolidi f) (Is Missing) (Refused 4 (fault f))
 -- the last digit of n: one that stands alone counts from half a digit on
 unfoldable pub lastDigit : ℕ → Bool → ℕ
 lastDigit n alone = digitOf ((n + cond alone 20 0) % 40)
+
+-- the fewest digits that hold a figure of size m
+unfoldable pub neededFor : ℕ → ℕ
+neededFor m = 1 + cond (leb 20 m) 1 0 + cond (leb 800 m) 1 0 + cond (leb 32000 m) 1 0 + cond (leb 1280000 m) 1 0

@@ -18,10 +18,8 @@ ghost use Rattle.packed.specs.Packed.{
   spelling,
   fieldOf,
   fitting,
-  widthOk,
   halfOf,
   writeCode,
-  written,
 };
 ghost use Rattle.packed.specs.Steps.{lastDigit};
 
@@ -41,7 +39,7 @@ fn fewest_of(w: usize, m: u32) -> usize
     k
 }
 
-fn fill(out: &mut [u8], b: u8)
+pub fn fill(out: &mut [u8], b: u8)
     ensures { λ _. ⌜ now (out .exit) ≡ replicate (length (now (out .entry))) b ⌝ }
 {
     let mut i = 0;
@@ -94,7 +92,7 @@ fn put_any(t: &[u8; 40], x: i32, out: &mut [u8])
 }
 
 // A choice that costs no jump: how many digits a figure needs varies from field to field.
-fn either(t: bool, a: u8, b: u8) -> u8
+pub fn either(t: bool, a: u8, b: u8) -> u8
     ensures { λ r. ⌜ r ≡ cond t a b ⌝ }
 {
     if t {
@@ -192,7 +190,7 @@ pub fn fits(figure: Figure, w: usize) -> bool
 }
 
 // What writing the figure in that width into that room answers.
-fn code_of(figure: Figure, width: usize, room: usize) -> u8
+pub fn code_of(figure: Figure, width: usize, room: usize) -> u8
     ensures { λ r. ⌜ r ≡ writeCode figure width room ⌝ }
 {
     if width < 1 {
@@ -208,16 +206,4 @@ fn code_of(figure: Figure, width: usize, room: usize) -> u8
         return 2;
     }
     0
-}
-
-// A lone field at the start of what is lent, or nothing and the refusal's code.
-pub fn write(t: &[u8; 40], figure: Figure, width: usize, out: &mut [u8]) -> u8
-    requires { ⌜ now t ≡ digits ⌝ }
-    ensures { λ r. ⌜ (r ≡ writeCode figure width (length (now (out .entry)))) × (now (out .exit) ≡ written figure width (now (out .entry))) ⌝ }
-{
-    let code = code_of(figure, width, out.len());
-    if code == 0 {
-        put(t, figure, &mut out[..width]);
-    }
-    code
 }
