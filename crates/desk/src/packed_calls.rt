@@ -4,9 +4,8 @@ use crate::HostFigure;
 use crate::PackedAnswer;
 use packed::Figure;
 use packed::Packed;
+use packed::lone::write_lone;
 use packed::read::read_lone;
-use packed::table::digit_table;
-use packed::write::write;
 ghost use mathlib.Core.Path.{_≡_};
 ghost use Prim.Native.Nat.{_≤_};
 ghost use lib.ListN.{length};
@@ -114,7 +113,6 @@ pub extern "C" fn esk_packed_write(figure: HostFigure, width: usize, out: &mut [
     ensures { λ r. ⌜ (r ≡ writeAnswer (writeCode (figureOf figure) width (length (now (out .entry)))) width)
         × (now (out .exit) ≡ written (figureOf figure) width (now (out .entry))) ⌝ }
 {
-    let t = digit_table();
-    let code = write(&t, figure_from(figure), width, out);
+    let code = write_lone(figure_from(figure), width, out);
     write_answer(code, width)
 }

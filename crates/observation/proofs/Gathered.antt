@@ -7,8 +7,8 @@ use lib.Dec.{eqb}
 use borrow.Author.Tests.{ne-eqb}
 use Rattle.text.proofs.Cases.{by-eq}
 use lib.ListN.{getD}
-use Rattle.observation.specs.Observation.{firstRows, laterRows, altitudeRow, temperatureRow, directionRow, speedRow, vapourRow, isQuality}
-use Rattle.observation.specs.Steps.{presence, held, figuresFine, heightFine, windFine, airFine, waterFine, fieldsFine}
+use Rattle.observation.specs.Observation.{firstRows, laterRows, altitudeRow, temperatureRow, directionRow, speedRow, vapourRow, isKind, isQuality}
+use Rattle.observation.specs.Steps.{presence, held, figuresFine, heightFine, windFine, airFine, waterFine, fieldsFine, latitudeRow, longitudeRow, openingFine}
 use Rattle.observation.specs.declared.Row.{Row}
 
 module _ (from : ℕ) (s : List ℕ) where
@@ -53,3 +53,9 @@ pub later-gathered : (k : Bool) (s : List ℕ)
     → (k && figuresFine laterRows 1 s && heightFine 8 s && windFine 13 s && waterFine 17 s) ≡ (k && fieldsFine laterRows 7 s)
 unfolding figuresFine airFine fieldsFine
 later-gathered k s = simp (and-assoc, and-true)
+
+-- all but the time of a first observation
+pub opening-gathered : (s : List ℕ)
+    → (isKind (getD s 0 0) && held latitudeRow 1 s && held longitudeRow 4 s && heightFine 12 s && windFine 17 s && waterFine 21 s) ≡ openingFine s
+unfolding figuresFine airFine openingFine
+opening-gathered s = simp (and-assoc, and-true)

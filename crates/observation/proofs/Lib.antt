@@ -1,5 +1,6 @@
 -- The laws of an observation.
 pub mod Acceptance
+pub mod Accepted
 pub mod Bytes
 pub mod Checked
 pub mod Figures

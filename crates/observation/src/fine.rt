@@ -87,7 +87,7 @@ fn class_of(missing: bool, given: bool) -> u8
 }
 
 // Two bytes as one number: a byte that is no digit makes it too great for the row, or is seen for itself.
-fn pair_figure(t: &[u8; 256], a: u8, b: u8) -> i32
+pub fn pair_figure(t: &[u8; 256], a: u8, b: u8) -> i32
     requires { ⌜ now t ≡ worths ⌝ }
     ensures { λ r. ⌜ r ≡ pairFigure a b ⌝ }
 {
@@ -106,7 +106,7 @@ fn pair(t: &[u8; 256], a: u8, b: u8, row: Row) -> u8
     class_of((a == b'/') & (b == b'/'), given)
 }
 
-fn triple_figure(t: &[u8; 256], a: u8, b: u8, c: u8) -> i32
+pub fn triple_figure(t: &[u8; 256], a: u8, b: u8, c: u8) -> i32
     requires { ⌜ now t ≡ worths ⌝ }
     ensures { λ r. ⌜ r ≡ tripleFigure a b c ⌝ }
 {
@@ -140,7 +140,7 @@ fn pair_at(t: &[u8; 256], s: &[u8], from: usize, row: Row) -> u8
     pair(t, s[from], s[second], row)
 }
 
-fn triple_at(t: &[u8; 256], s: &[u8], from: usize, row: Row) -> u8
+pub fn triple_at(t: &[u8; 256], s: &[u8], from: usize, row: Row) -> u8
     requires { ⌜ now t ≡ worths ⌝ }
     requires { ⌜ (length (now s) ≤ 27) × (from + 3 ≤ length (now s)) × (row .width ≡ 3) × (narrow 32000 row ≡ true) ⌝ }
     ensures { λ r. ⌜ r ≡ presence row from (now (s .entry)) ⌝ }
@@ -160,7 +160,7 @@ fn first_position_fine(t: &[u8; 256], s: &[u8]) -> bool
         & (class_at(t, s, 7, SECONDS) != 0)
 }
 
-fn later_position_fine(t: &[u8; 256], s: &[u8]) -> bool
+pub fn later_position_fine(t: &[u8; 256], s: &[u8]) -> bool
     requires { ⌜ now t ≡ worths ⌝ }
     requires { ⌜ length (now s) ≡ 23 ⌝ }
     ensures { λ r. ⌜ r ≡ figuresFine laterRows 1 (now (s .entry)) ⌝ }
@@ -170,7 +170,7 @@ fn later_position_fine(t: &[u8; 256], s: &[u8]) -> bool
         & (triple_at(t, s, 5, SINCE) != 0)
 }
 
-fn height_fine(t: &[u8; 256], s: &[u8], from: usize) -> bool
+pub fn height_fine(t: &[u8; 256], s: &[u8], from: usize) -> bool
     requires { ⌜ now t ≡ worths ⌝ }
     requires { ⌜ (length (now s) ≤ 27) × (from + 5 ≤ length (now s)) ⌝ }
     ensures { λ r. ⌜ r ≡ heightFine from (now (s .entry)) ⌝ }
@@ -180,7 +180,7 @@ fn height_fine(t: &[u8; 256], s: &[u8], from: usize) -> bool
 }
 
 // Direction and speed are both missing or both given.
-fn wind_fine(t: &[u8; 256], s: &[u8], from: usize) -> bool
+pub fn wind_fine(t: &[u8; 256], s: &[u8], from: usize) -> bool
     requires { ⌜ now t ≡ worths ⌝ }
     requires { ⌜ (length (now s) ≤ 27) × (from + 4 ≤ length (now s)) ⌝ }
     ensures { λ r. ⌜ r ≡ windFine from (now (s .entry)) ⌝ }
@@ -191,7 +191,7 @@ fn wind_fine(t: &[u8; 256], s: &[u8], from: usize) -> bool
     (direction != 0) & (direction == speed)
 }
 
-fn water_fine(t: &[u8; 256], s: &[u8], from: usize) -> bool
+pub fn water_fine(t: &[u8; 256], s: &[u8], from: usize) -> bool
     requires { ⌜ now t ≡ worths ⌝ }
     requires { ⌜ (length (now s) ≤ 27) × (from + 6 ≤ length (now s)) ⌝ }
     ensures { λ r. ⌜ r ≡ waterFine from (now (s .entry)) ⌝ }

@@ -66,7 +66,7 @@ fn figure(t: &[u8; 256], s: &[u8], row: Row, at: usize) -> Packed
 }
 
 // The figure that begins `from` bytes into the observation.
-fn field(t: &[u8; 256], s: &[u8], at: usize, from: usize, row: Row) -> Packed
+pub fn field(t: &[u8; 256], s: &[u8], at: usize, from: usize, row: Row) -> Packed
     requires { ⌜ now t ≡ worths ⌝ }
     requires { ⌜ (at ≤ 4096) × (length (now s) ≤ 27) × (from + row .width ≤ length (now s)) ⌝ }
     ensures { λ r. ⌜ r ≡ readFigure row (at + from) (part from (row .width) (now (s .entry))) ⌝ }

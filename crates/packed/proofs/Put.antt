@@ -37,7 +37,7 @@ fewest-end (suc k) m h = absurd (omega arith)
 
 -- ---- digits, from the right
 
-drop-set : (l : List ℕ) (j a : ℕ) → j < length l → drop j (set l j a) ≡ a ∷ drop (suc j) l
+pub drop-set : (l : List ℕ) (j a : ℕ) → j < length l → drop j (set l j a) ≡ a ∷ drop (suc j) l
 drop-set l j a h =
     drop-cons (set l j a) j 0 (lt-length-set l j a h) ∙ rw (getD-set-same l j a 0 h, drop-set-lt (suc j) l j a (omega arith))
 

@@ -1,10 +1,10 @@
--- What the inner functions of the reader answer. No promise to a caller rests on these names.
-use mathlib.Core.Bool.{cond, _&&_}
+-- What the inner functions of the reader and the writer answer. No promise to a caller rests on these names.
+use mathlib.Core.Bool.{Bool, cond, _&&_}
 use mathlib.Core.List.{List}
-use Prim.Native.Nat.{ℕ}
-use lib.Dec.{ltb}
+use Prim.Native.Nat.{ℕ, _+_, _%_}
+use lib.Dec.{leb, ltb}
 use lib.ListN.{length}
-use Rattle.packed.specs.Packed.{number, allDigits, allSolidi, fault}
+use Rattle.packed.specs.Packed.{digitOf, number, allDigits, allSolidi, fault}
 use Rattle.packed.specs.declared.Figure.the-variants.{Missing}
 use Rattle.packed.specs.declared.Packed.{Packed}
 use Rattle.packed.specs.declared.Packed.the-variants.{Is, Refused}
@@ -18,3 +18,11 @@ numberOf ds = cond (ltb 0 (length ds) && allDigits ds) (Whole (number 0 ds)) Oth
 -- a field that is no run of digits behind spaces
 unfoldable pub otherField : List ℕ → Packed
 otherField f = cond (allSolidi f) (Is Missing) (Refused 4 (fault f))
+
+-- the last digit of n: one that stands alone counts from half a digit on
+unfoldable pub lastDigit : ℕ → Bool → ℕ
+lastDigit n alone = digitOf ((n + cond alone 20 0) % 40)
+
+-- the fewest digits that hold a figure of size m
+unfoldable pub neededFor : ℕ → ℕ
+neededFor m = 1 + cond (leb 20 m) 1 0 + cond (leb 800 m) 1 0 + cond (leb 32000 m) 1 0 + cond (leb 1280000 m) 1 0

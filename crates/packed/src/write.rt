@@ -5,7 +5,7 @@ use crate::sign::plus;
 use crate::sign::size;
 use crate::table::digit;
 ghost use mathlib.Core.Path.{_≡_};
-ghost use mathlib.Core.Bool.{true};
+ghost use mathlib.Core.Bool.{true, cond};
 ghost use mathlib.Core.List.{[]};
 ghost use Prim.Native.Nat.{_≤_, _<_};
 ghost use lib.ListN.{length, replicate};
@@ -18,11 +18,10 @@ ghost use Rattle.packed.specs.Packed.{
   spelling,
   fieldOf,
   fitting,
-  widthOk,
   halfOf,
   writeCode,
-  written,
 };
+ghost use Rattle.packed.specs.Steps.{lastDigit};
 
 // The fewest digits, w at the most, that hold a figure of size m.
 fn fewest_of(w: usize, m: u32) -> usize
@@ -40,7 +39,7 @@ fn fewest_of(w: usize, m: u32) -> usize
     k
 }
 
-fn fill(out: &mut [u8], b: u8)
+pub fn fill(out: &mut [u8], b: u8)
     ensures { λ _. ⌜ now (out .exit) ≡ replicate (length (now (out .entry))) b ⌝ }
 {
     let mut i = 0;
@@ -81,8 +80,8 @@ fn place(t: &[u8; 40], out: &mut [u8], k: usize, n: u32)
     spell_into(t, &mut out[gap..], n);
 }
 
-// A given figure, in its one spelling, as wide as what is lent.
-fn put_given(t: &[u8; 40], x: i32, out: &mut [u8])
+// A given figure, in its one spelling, in any width.
+fn put_any(t: &[u8; 40], x: i32, out: &mut [u8])
     requires { ⌜ now t ≡ digits ⌝ }
     requires { ⌜ (length (now out) ≤ 5) × (mag x < halfOf (length (now out))) ⌝ }
     ensures { λ _. ⌜ now (out .exit) ≡ spelling (length (now (out .entry))) (fewest (length (now (out .entry))) (mag x)) x ⌝ }
@@ -90,6 +89,81 @@ fn put_given(t: &[u8; 40], x: i32, out: &mut [u8])
     let k = fewest_of(out.len(), size(x));
     let n = plus(x, half(k));
     place(t, out, k, n);
+}
+
+// A choice that costs no jump: how many digits a figure needs varies from field to field.
+pub fn either(t: bool, a: u8, b: u8) -> u8
+    ensures { λ r. ⌜ r ≡ cond t a b ⌝ }
+{
+    if t {
+        return a;
+    }
+    b
+}
+
+fn shift(t: bool) -> u32
+    ensures { λ r. ⌜ r ≡ cond t 20 0 ⌝ }
+{
+    if t {
+        return 20;
+    }
+    0
+}
+
+// The last digit of n, which is counted from half a digit on where none stands before it.
+fn last_digit(t: &[u8; 40], n: u32, alone: bool) -> u8
+    requires { ⌜ now t ≡ digits ⌝ }
+    requires { ⌜ n < 64000 ⌝ }
+    ensures { λ r. ⌜ r ≡ lastDigit n alone ⌝ }
+{
+    digit(t, low((n + shift(alone)) % 40))
+}
+
+// The two bytes and the three that most figures are written in: each by itself, with no loop.
+fn put_two(t: &[u8; 40], x: i32, out: &mut [u8])
+    requires { ⌜ now t ≡ digits ⌝ }
+    requires { ⌜ (length (now out) ≡ 2) × (mag x < 800) ⌝ }
+    ensures { λ _. ⌜ now (out .exit) ≡ spelling 2 (fewest 2 (mag x)) x ⌝ }
+{
+    let n = plus(x, 800);
+    let one = size(x) < 20;
+    let a = either(one, b' ', digit(t, low(n / 40)));
+    let b = last_digit(t, n, one);
+    out[0] = a;
+    out[1] = b;
+}
+
+fn put_three(t: &[u8; 40], x: i32, out: &mut [u8])
+    requires { ⌜ now t ≡ digits ⌝ }
+    requires { ⌜ (length (now out) ≡ 3) × (mag x < 32000) ⌝ }
+    ensures { λ _. ⌜ now (out .exit) ≡ spelling 3 (fewest 3 (mag x)) x ⌝ }
+{
+    let n = plus(x, 32000);
+    let m = size(x);
+    let one = m < 20;
+    let two = m < 800;
+    let a = either(two, b' ', digit(t, low(n / 1600)));
+    let b = either(one, b' ', last_digit(t, n / 40, two));
+    let c = last_digit(t, n, one);
+    out[0] = a;
+    out[1] = b;
+    out[2] = c;
+}
+
+// A given figure, in its one spelling, as wide as what is lent.
+fn put_given(t: &[u8; 40], x: i32, out: &mut [u8])
+    requires { ⌜ now t ≡ digits ⌝ }
+    requires { ⌜ (length (now out) ≤ 5) × (mag x < halfOf (length (now out))) ⌝ }
+    ensures { λ _. ⌜ now (out .exit) ≡ spelling (length (now (out .entry))) (fewest (length (now (out .entry))) (mag x)) x ⌝ }
+{
+    let w = out.len();
+    if w == 2 {
+        put_two(t, x, out);
+    } else if w == 3 {
+        put_three(t, x, out);
+    } else {
+        put_any(t, x, out);
+    }
 }
 
 // A figure, given or missing, as wide as what is lent.
@@ -116,7 +190,7 @@ pub fn fits(figure: Figure, w: usize) -> bool
 }
 
 // What writing the figure in that width into that room answers.
-fn code_of(figure: Figure, width: usize, room: usize) -> u8
+pub fn code_of(figure: Figure, width: usize, room: usize) -> u8
     ensures { λ r. ⌜ r ≡ writeCode figure width room ⌝ }
 {
     if width < 1 {
@@ -132,16 +206,4 @@ fn code_of(figure: Figure, width: usize, room: usize) -> u8
         return 2;
     }
     0
-}
-
-// A lone field at the start of what is lent, or nothing and the refusal's code.
-pub fn write(t: &[u8; 40], figure: Figure, width: usize, out: &mut [u8]) -> u8
-    requires { ⌜ now t ≡ digits ⌝ }
-    ensures { λ r. ⌜ (r ≡ writeCode figure width (length (now (out .entry)))) × (now (out .exit) ≡ written figure width (now (out .entry))) ⌝ }
-{
-    let code = code_of(figure, width, out.len());
-    if code == 0 {
-        put(t, figure, &mut out[..width]);
-    }
-    code
 }

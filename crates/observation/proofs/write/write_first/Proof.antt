@@ -6,11 +6,11 @@ use Rattle.observation.specs.Observation.{firstRows}
 use Rattle.observation.proofs.RoundTrip.{first-sound}
 use Rattle.observation.proofs.Checked.{first-allowed, allowed-fitting}
 
-put-observation-requires : tie.Need-put-observation-requires
-put-observation-requires c κs =
+put-opening-requires : tie.Need-put-opening-requires
+put-opening-requires c κs =
     let s = c .before .before in
     let o = s .args .o in
-    (s .pre .0, (search needs, (search needs, search needs, search needs, allowed-fitting firstRows o first-sound (first-allowed 0 o (s .pre .1 .1)))))
+    (s .pre .0, (s .pre .1 .0, allowed-fitting firstRows o first-sound (first-allowed 0 o (s .pre .1 .1))))
 
 same-length : tie.Need-same-length
 same-length c = search needs
@@ -19,4 +19,4 @@ returns : tie.Need-returns
 returns c = search needs
 
 pub write-first-spec : {M : Type 1} → statement M
-write-first-spec = tie.close (tie.spec put-observation-requires same-length returns)
+write-first-spec = tie.close (tie.spec put-opening-requires same-length returns)

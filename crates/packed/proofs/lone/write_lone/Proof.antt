@@ -1,7 +1,7 @@
 use borrow.Author.Needs.{needs}
-use Rattle.packed.proofs.write.write.Statement.{statement}
-use Rattle.packed.proofs.write.write.Tie as tie
-use Rattle.packed.specs.Packed.{written, writeCode, fitting, fieldOf}
+use Rattle.packed.proofs.lone.write_lone.Statement.{statement}
+use Rattle.packed.proofs.lone.write_lone.Tie as tie
+use Rattle.packed.specs.Packed.{written, fieldOf}
 use Rattle.packed.proofs.Put.{Writes, writes}
 use mathlib.Core.Path.{_≡_, sym, _∙_, ap}
 use mathlib.Core.List.{List, _++_}
@@ -27,16 +27,16 @@ wide c =
 code-of-requires : tie.Need-code-of-requires
 code-of-requires c κs = search needs
 
-slice-relend-prefix-put : tie.Need-slice-relend-prefix-put
-slice-relend-prefix-put c = fine c .fits
+slice-relend-prefix-put-lone : tie.Need-slice-relend-prefix-put-lone
+slice-relend-prefix-put-lone c = fine c .fits
 
-slice-aggregate-put : tie.Need-slice-aggregate-put
-slice-aggregate-put c = sym (wide (c .before))
+slice-aggregate-put-lone : tie.Need-slice-aggregate-put-lone
+slice-aggregate-put-lone c = sym (wide (c .before))
 
-put-requires : tie.Need-put-requires
-put-requires c κs =
+put-lone-requires : tie.Need-put-lone-requires
+put-lone-requires c κs =
     let f = fine (c .before) in
-    (c .before .before .before .before .pre, rw (wide (c .before)) (f .few, f .held))
+    rw (wide (c .before)) (f .few, f .held)
 
 same-length : tie.Need-same-length
 same-length c = search needs
@@ -47,8 +47,8 @@ returns c =
     let t = c .before .before .before .before in
     let a = t .before .before .before .args in
     let e = t .before .code-of .ensures in
-    let p : c .before .before .put .last .1 .1 .0 ≡ fieldOf (a .width) (a .figure) =
-    c .before .before .put .ensures ∙ ap (λ (n : ℕ). fieldOf n (a .figure)) (wide t) in
+    let p : c .before .before .put-lone .last .1 .0 ≡ fieldOf (a .width) (a .figure) =
+    c .before .before .put-lone .ensures ∙ ap (λ (n : ℕ). fieldOf n (a .figure)) (wide t) in
     (e, rw (eq-eqb _ 0 (sym e ∙ t .if1 .taken)) (ap (λ (l : List ℕ). l ++ drop (a .width) (a .out .now)) p))
 
 returns-2 : tie.Need-returns-2
@@ -57,14 +57,14 @@ returns-2 c =
     let e = c .before .code-of .ensures in
     (e, rw (ne-eqb _ 0 (λ z. c .if1 .left (e ∙ z))))
 
-pub write-spec : {M : Type 1} → statement M
-write-spec =
+pub write-lone-spec : {M : Type 1} → statement M
+write-lone-spec =
     tie.close
     (tie.spec
     code-of-requires
-    slice-relend-prefix-put
-    slice-aggregate-put
-    put-requires
+    slice-relend-prefix-put-lone
+    slice-aggregate-put-lone
+    put-lone-requires
     same-length
     returns
     returns-2)
