@@ -32,7 +32,7 @@ programs := answer answer_command answer_config answer_decide answer_join answer
 all: $(archive) $(program)
 
 $(archive): crates.txt $(shell find crates -type f)
-	@echo 'The archive is proved and built; the first time this takes some five minutes.'
+	@echo 'The archive is proved and built; the first time this takes some eight minutes.'
 	host/native archive
 
 target/native/libdesk.a: $(archive) host/native
