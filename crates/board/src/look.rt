@@ -176,7 +176,7 @@ fn with_used(a: Survey, s: Slot, fine: bool, i: usize, w: Wanted) -> Survey
     }
 }
 
-// One slot more. `clear` says that no slot behind it is for the same aircraft.
+// One slot more. `clear` says that no slot before it is for the same aircraft.
 pub fn step(a: Survey, s: Slot, clear: bool, area: &[u8], i: usize, w: Wanted) -> Survey
     ensures { λ r. ⌜ r ≡ stepOf (now (area .entry)) w a s clear i ⌝ }
 {

@@ -7,8 +7,8 @@ use lib.Dec.{eqb}
 use borrow.Author.Tests.{ne-eqb}
 use Rattle.text.proofs.Cases.{by-eq}
 use lib.ListN.{getD}
-use Rattle.observation.specs.Observation.{firstRows, laterRows, altitudeRow, temperatureRow, directionRow, speedRow, vapourRow, isKind, isQuality}
-use Rattle.observation.specs.Steps.{presence, held, figuresFine, heightFine, windFine, airFine, waterFine, fieldsFine, latitudeRow, longitudeRow, openingFine}
+use Rattle.observation.specs.Observation.{latitudeRow, longitudeRow, firstRows, laterRows, altitudeRow, temperatureRow, directionRow, speedRow, vapourRow, isKind, isQuality}
+use Rattle.observation.specs.Steps.{presence, held, figuresFine, heightFine, windFine, airFine, waterFine, fieldsFine, openingFine}
 use Rattle.observation.specs.declared.Row.{Row}
 
 module _ (from : ℕ) (s : List ℕ) where
