@@ -4,6 +4,7 @@ pub mod Accepted
 pub mod Bytes
 pub mod Checked
 pub mod Figures
+mod Fewest
 pub mod Gathered
 pub mod RoundTrip
 pub mod Rows

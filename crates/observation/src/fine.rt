@@ -118,6 +118,7 @@ pub fn triple_figure(t: &[u8; 256], a: u8, b: u8, c: u8) -> i32
     less(high + middle + z, 32000)
 }
 
+// The fewest digits are behind as many spaces as there are, and `middle` is too great where the second byte is no digit.
 fn triple(t: &[u8; 256], a: u8, b: u8, c: u8, row: Row) -> u8
     requires { ⌜ now t ≡ worths ⌝ }
     ensures { λ r. ⌜ r ≡ classOf (eqb a 47 && eqb b 47 && eqb c 47) (tripleGiven row a b c) ⌝ }
@@ -125,9 +126,10 @@ fn triple(t: &[u8; 256], a: u8, b: u8, c: u8, row: Row) -> u8
     let figure = triple_figure(t, a, b, c);
     let one = a == b' ';
     let two = one & (b == b' ');
-    let digits = (worth(t, c) < 40) & (two | (worth(t, b) < 40));
-    let m = size(figure);
-    let given = digits & (one | (800 <= m)) & (two | (20 <= m)) & in_range(row, figure);
+    let middle = either(two, 780, wide(worth(t, b)) * 40);
+    let fewest = either(two, 0, either(one, 20, 800));
+    let digits = (worth(t, c) < 40) & (middle <= 1560);
+    let given = digits & (fewest <= size(figure)) & in_range(row, figure);
     class_of((a == b'/') & (b == b'/') & (c == b'/'), given)
 }
 

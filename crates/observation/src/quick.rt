@@ -42,7 +42,8 @@ ghost use Rattle.observation.specs.Steps.{
   fieldsFine,
 };
 
-// The figure of the two bytes that begin `from` bytes into the observation: no given one begins with a solidus.
+// The figure of the two bytes that begin `from` bytes into the observation: no given one begins with a solidus. It is
+// worked out first, which costs less than a jump round it.
 fn pair_of(t: &[u8; 256], s: &[u8], from: usize) -> Figure
     requires { ⌜ now t ≡ worths ⌝ }
     requires { ⌜ (length (now s) ≤ 27) × (from + 2 ≤ length (now s)) ⌝ }
@@ -51,10 +52,11 @@ fn pair_of(t: &[u8; 256], s: &[u8], from: usize) -> Figure
     let second = from + 1;
     let a = s[from];
     let b = s[second];
+    let figure = pair_figure(t, a, b);
     if a == b'/' {
         return Figure::Missing;
     }
-    Figure::Given(pair_figure(t, a, b))
+    Figure::Given(figure)
 }
 
 fn triple_of(t: &[u8; 256], s: &[u8], from: usize) -> Figure
@@ -67,10 +69,11 @@ fn triple_of(t: &[u8; 256], s: &[u8], from: usize) -> Figure
     let a = s[from];
     let b = s[second];
     let c = s[third];
+    let figure = triple_figure(t, a, b, c);
     if a == b'/' {
         return Figure::Missing;
     }
-    Figure::Given(triple_figure(t, a, b, c))
+    Figure::Given(figure)
 }
 
 // A later observation's changes, and the time since the previous.

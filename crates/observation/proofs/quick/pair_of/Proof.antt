@@ -17,16 +17,16 @@ shared-slice-read-a c = search needs
 shared-slice-read-b : tie.Need-shared-slice-read-b
 shared-slice-read-b c = search needs
 
+pair-figure-requires : tie.Need-pair-figure-requires
+pair-figure-requires c κs = search needs
+
 returns : tie.Need-returns
 unfolding pairOf
 returns c = rw (eq-eqb _ 47 (c .if1 .taken))
 
-pair-figure-requires : tie.Need-pair-figure-requires
-pair-figure-requires c κs = search needs
-
 returns-2 : tie.Need-returns-2
 unfolding pairOf
-returns-2 c = rw (toZ-ofZ {w = w32} (sfits-of (c .pair-figure .ok)), c .pair-figure .ensures, ne-eqb _ 47 (c .before .if1 .left))
+returns-2 c = rw (toZ-ofZ {w = w32} (sfits-of (c .before .pair-figure .ok)), c .before .pair-figure .ensures, ne-eqb _ 47 (c .if1 .left))
 
 pub pair-of-spec : {M : Type 1} → statement M
 pair-of-spec =
@@ -35,6 +35,6 @@ pair-of-spec =
     add-second
     shared-slice-read-a
     shared-slice-read-b
-    returns
     pair-figure-requires
+    returns
     returns-2)

@@ -23,16 +23,16 @@ shared-slice-read-b c = search needs
 shared-slice-read-c : tie.Need-shared-slice-read-c
 shared-slice-read-c c = search needs
 
+triple-figure-requires : tie.Need-triple-figure-requires
+triple-figure-requires c κs = search needs
+
 returns : tie.Need-returns
 unfolding tripleOf
 returns c = rw (eq-eqb _ 47 (c .if1 .taken))
 
-triple-figure-requires : tie.Need-triple-figure-requires
-triple-figure-requires c κs = search needs
-
 returns-2 : tie.Need-returns-2
 unfolding tripleOf
-returns-2 c = rw (toZ-ofZ {w = w32} (sfits-of (c .triple-figure .ok)), c .triple-figure .ensures, ne-eqb _ 47 (c .before .if1 .left))
+returns-2 c = rw (toZ-ofZ {w = w32} (sfits-of (c .before .triple-figure .ok)), c .before .triple-figure .ensures, ne-eqb _ 47 (c .if1 .left))
 
 pub triple-of-spec : {M : Type 1} → statement M
 triple-of-spec =
@@ -43,6 +43,6 @@ triple-of-spec =
     shared-slice-read-a
     shared-slice-read-b
     shared-slice-read-c
-    returns
     triple-figure-requires
+    returns
     returns-2)
