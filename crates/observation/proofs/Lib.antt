@@ -5,6 +5,7 @@ pub mod Bytes
 pub mod Checked
 pub mod Figures
 mod Fewest
+mod AllGiven
 pub mod Gathered
 pub mod RoundTrip
 pub mod Rows

@@ -96,13 +96,21 @@ pub fn pair_figure(t: &[u8; 256], a: u8, b: u8) -> i32
     less(either(a == b' ', 780, x * 40) + y, 800)
 }
 
+// The one spelling of a figure in the row's range.
+pub fn pair_given(t: &[u8; 256], a: u8, b: u8, row: Row) -> bool
+    requires { ⌜ now t ≡ worths ⌝ }
+    ensures { λ r. ⌜ r ≡ pairGiven row a b ⌝ }
+{
+    let figure = pair_figure(t, a, b);
+    let fewest = (a == b' ') | (20 <= size(figure));
+    (worth(t, b) < 40) & fewest & in_range(row, figure)
+}
+
 fn pair(t: &[u8; 256], a: u8, b: u8, row: Row) -> u8
     requires { ⌜ now t ≡ worths ⌝ }
     ensures { λ r. ⌜ r ≡ classOf (eqb a 47 && eqb b 47) (pairGiven row a b) ⌝ }
 {
-    let figure = pair_figure(t, a, b);
-    let fewest = (a == b' ') | (20 <= size(figure));
-    let given = (worth(t, b) < 40) & fewest & in_range(row, figure);
+    let given = pair_given(t, a, b, row);
     class_of((a == b'/') & (b == b'/'), given)
 }
 
@@ -119,9 +127,9 @@ pub fn triple_figure(t: &[u8; 256], a: u8, b: u8, c: u8) -> i32
 }
 
 // The fewest digits are behind as many spaces as there are, and `middle` is too great where the second byte is no digit.
-fn triple(t: &[u8; 256], a: u8, b: u8, c: u8, row: Row) -> u8
+pub fn triple_given(t: &[u8; 256], a: u8, b: u8, c: u8, row: Row) -> bool
     requires { ⌜ now t ≡ worths ⌝ }
-    ensures { λ r. ⌜ r ≡ classOf (eqb a 47 && eqb b 47 && eqb c 47) (tripleGiven row a b c) ⌝ }
+    ensures { λ r. ⌜ r ≡ tripleGiven row a b c ⌝ }
 {
     let figure = triple_figure(t, a, b, c);
     let one = a == b' ';
@@ -129,7 +137,14 @@ fn triple(t: &[u8; 256], a: u8, b: u8, c: u8, row: Row) -> u8
     let middle = either(two, 780, wide(worth(t, b)) * 40);
     let fewest = either(two, 0, either(one, 20, 800));
     let digits = (worth(t, c) < 40) & (middle <= 1560);
-    let given = digits & (fewest <= size(figure)) & in_range(row, figure);
+    digits & (fewest <= size(figure)) & in_range(row, figure)
+}
+
+fn triple(t: &[u8; 256], a: u8, b: u8, c: u8, row: Row) -> u8
+    requires { ⌜ now t ≡ worths ⌝ }
+    ensures { λ r. ⌜ r ≡ classOf (eqb a 47 && eqb b 47 && eqb c 47) (tripleGiven row a b c) ⌝ }
+{
+    let given = triple_given(t, a, b, c, row);
     class_of((a == b'/') & (b == b'/') & (c == b'/'), given)
 }
 

@@ -2,6 +2,7 @@
 mod byte;
 pub mod check;
 pub mod fine;
+pub mod given;
 pub mod quick;
 pub mod read;
 mod table;

@@ -1,36 +1,16 @@
 use borrow.Author.Needs.{needs}
 use Rattle.observation.proofs.fine.pair.Statement.{statement}
 use Rattle.observation.proofs.fine.pair.Tie as tie
-use borrow.Author.Needs.{sfits-of}
 use mathlib.Core.Path.{_∙_}
-use mir.Facts.{toZ-ofZ}
-use mir.Syntax.{w32}
 
-pair-figure-requires : tie.Need-pair-figure-requires
-pair-figure-requires c κs = search needs
-
-size-requires : tie.Need-size-requires
-size-requires c κs = search needs
-
-worth-requires : tie.Need-worth-requires
-worth-requires c κs = search needs
-
-in-range-requires : tie.Need-in-range-requires
-in-range-requires c κs = search needs
+pair-given-requires : tie.Need-pair-given-requires
+pair-given-requires c κs = search needs
 
 class-of-requires : tie.Need-class-of-requires
 class-of-requires c κs = search needs
 
 returns : tie.Need-returns
-returns c = c .class-of .ensures ∙ rw (c .before .in-range .ensures, c .before .before .worth .ensures, c .before .before .before .size .ensures, toZ-ofZ {w = w32} (sfits-of (c .before .before .before .before .pair-figure .ok)), c .before .before .before .before .pair-figure .ensures)
+returns c = c .class-of .ensures ∙ rw (c .before .pair-given .ensures)
 
 pub pair-spec : {M : Type 1} → statement M
-pair-spec =
-    tie.close
-    (tie.spec
-    pair-figure-requires
-    size-requires
-    worth-requires
-    in-range-requires
-    class-of-requires
-    returns)
+pair-spec = tie.close (tie.spec pair-given-requires class-of-requires returns)

@@ -1,70 +1,16 @@
 use borrow.Author.Needs.{needs}
 use Rattle.observation.proofs.fine.triple.Statement.{statement}
 use Rattle.observation.proofs.fine.triple.Tie as tie
-use borrow.Author.Needs.{sfits-of}
 use mathlib.Core.Path.{_∙_}
-use mathlib.Core.Bool.{_&&_, _||_}
-use mir.Facts.{toZ-ofZ}
-use mir.Syntax.{w32}
-use lib.Dec.{eqb, ltb}
-use lib.Signed.{mag}
-use Rattle.packed.specs.Packed.{worthOf}
-use Rattle.observation.specs.Steps.{tripleFigure}
-use Rattle.observation.proofs.Fewest.{middle-digit, fewest-digits}
 
-triple-figure-requires : tie.Need-triple-figure-requires
-triple-figure-requires c κs = search needs
-
-worth-requires : tie.Need-worth-requires
-worth-requires c κs = search needs
-
-wide-requires : tie.Need-wide-requires
-wide-requires c κs = search needs
-
-mul-either : tie.Need-mul-either
-mul-either c = search needs
-
-either-requires : tie.Need-either-requires
-either-requires c κs = search needs
-
-either-requires-2 : tie.Need-either-requires-2
-either-requires-2 c κs = search needs
-
-either-requires-3 : tie.Need-either-requires-3
-either-requires-3 c κs = search needs
-
-worth-requires-2 : tie.Need-worth-requires-2
-worth-requires-2 c κs = search needs
-
-size-requires : tie.Need-size-requires
-size-requires c κs = search needs
-
-in-range-requires : tie.Need-in-range-requires
-in-range-requires c κs = search needs
+triple-given-requires : tie.Need-triple-given-requires
+triple-given-requires c κs = search needs
 
 class-of-requires : tie.Need-class-of-requires
 class-of-requires c κs = search needs
 
 returns : tie.Need-returns
-returns c =
-    let s = c .before .before .before .before .before .before .before .before .before .before .args in
-    let two = eqb (s .a) 32 && eqb (s .b) 32 in
-    c .class-of .ensures
-    ∙ rw (c .before .in-range .ensures, c .before .before .size .ensures, c .before .before .before .worth2 .ensures, c .before .before .before .before .either3 .ensures, c .before .before .before .before .before .either2 .ensures, c .before .before .before .before .before .before .either .ensures, c .before .before .before .before .before .before .before .wide .ensures, c .before .before .before .before .before .before .before .before .worth .ensures, toZ-ofZ {w = w32} (sfits-of (c .before .before .before .before .before .before .before .before .before .triple-figure .ok)), c .before .before .before .before .before .before .before .before .before .triple-figure .ensures, middle-digit two (worthOf (s .b)), fewest-digits (ltb (worthOf (s .c)) 40 && (two || ltb (worthOf (s .b)) 40)) (eqb (s .a) 32) (eqb (s .b) 32) (mag (tripleFigure (s .a) (s .b) (s .c))))
+returns c = c .class-of .ensures ∙ rw (c .before .triple-given .ensures)
 
 pub triple-spec : {M : Type 1} → statement M
-triple-spec =
-    tie.close
-    (tie.spec
-    triple-figure-requires
-    worth-requires
-    wide-requires
-    mul-either
-    either-requires
-    either-requires-2
-    either-requires-3
-    worth-requires-2
-    size-requires
-    in-range-requires
-    class-of-requires
-    returns)
+triple-spec = tie.close (tie.spec triple-given-requires class-of-requires returns)
