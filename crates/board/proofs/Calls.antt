@@ -6,11 +6,11 @@ use Prim.Native.Nat.{ℕ}
 use lib.Dec.{leb, eqb}
 use lib.ListN.{length, drop}
 use borrow.Author.Tests.{eqb-true}
+use Rattle.text.specs.Checks.{isFine}
 use Rattle.text.specs.declared.Seen.{Seen}
 use Rattle.text.specs.declared.Seen.the-variants.{Fine, Bad}
 use Rattle.text.proofs.Cases.{by-test, both-left, both-right}
 use Rattle.command.specs.Text.{longest, checkCommand}
-use Rattle.config.specs.Config.{isFine}
 use Rattle.join.specs.Join.{joinText}
 use Rattle.board.specs.Board.{isDesignator, Place, isFree, isFor, any, waiting, isValid, Move, Stay, onSeen, placed, add, takeOut, onBoard, replyOf}
 use Rattle.board.specs.History.{Event, Add, Take, move, after, logged, isEmptyBoard, calledFor}

@@ -5,11 +5,12 @@ use mathlib.Core.List.{List, [], _∷_, _++_, foldl}
 use Prim.Native.Nat.{ℕ, _≤_}
 use native.Mathlib.Omega.{arith}
 use lib.ListN.{length}
+use Rattle.text.specs.Checks.{isFine}
 use Rattle.text.proofs.Cases.{by-test, both-left, both-right}
 use Rattle.section.specs.declared.Settings.{Settings}
 use Rattle.command.specs.Text.{checkCommand, longest}
 use Rattle.command.proofs.Accepted.{accepted, longest-is}
-use Rattle.config.specs.Config.{isFine, applyTo}
+use Rattle.config.specs.Config.{applyTo}
 use Rattle.join.specs.Join.{joinText}
 use Rattle.join.proofs.Laws.{join-acts}
 use Rattle.board.specs.Board.{Place, isNone, isFor, any, waiting, isValid}

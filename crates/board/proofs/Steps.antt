@@ -6,6 +6,7 @@ use Prim.Native.Nat.{ℕ}
 use native.Mathlib.Omega.{arith}
 use lib.Dec.{leb}
 use lib.ListN.{length, getD}
+use Rattle.text.specs.Checks.{isFine}
 use Rattle.text.specs.Equal.{sameBytes}
 use Rattle.text.specs.declared.Seen.{Seen}
 use Rattle.text.specs.declared.Seen.the-variants.{Fine, Bad}
@@ -13,7 +14,6 @@ use Rattle.text.proofs.Cases.{by-test}
 use Rattle.text.proofs.Equal.{same-equal}
 use Rattle.command.specs.Text.{checkCommand}
 use Rattle.command.proofs.Accepted.{accepted}
-use Rattle.config.specs.Config.{isFine}
 use Rattle.join.specs.Join.{joinText}
 use Rattle.join.proofs.Laws.{join-fine}
 use Rattle.board.specs.Board.{isDesignator, Place, nowhere, isNone, isFree, isFor, any, lowest, waiting, isValid, Move, Stay, Put, Free, onSeen, placed, add, takeOut, onBoard, Reply, Given, Refused, replyOf}

@@ -6,11 +6,11 @@ use Prim.Native.Nat.{ℕ, zero, suc, _<_}
 use native.Mathlib.Omega.{arith}
 use lib.ListN.{length, getD, set}
 use lib.Seq.{getD-set-same, getD-set-other}
+use Rattle.text.specs.Checks.{isFine}
 use Rattle.text.proofs.Cases.{by-test, by-eq, both-left, both-right}
 use Rattle.text.specs.Equal.{sameBytes}
 use Rattle.text.proofs.Equal.{equal-same}
 use Rattle.command.specs.Text.{checkCommand}
-use Rattle.config.specs.Config.{isFine}
 use Rattle.board.specs.Board.{isDesignator, Place, nowhere, isNone, isFree, isFor, any, lowest, waiting, isSound, isValid}
 use Rattle.board.proofs.Places.{never, both, for-who, for-used, free-for, used-for, lowest-passes, waiting-none, nothing-for, waiting-kept}
 

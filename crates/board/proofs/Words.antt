@@ -7,13 +7,14 @@ use native.Mathlib.Omega.{arith}
 use lib.Dec.{leb}
 use lib.ListN.{length}
 use borrow.Author.Tests.{le-leb}
+use Rattle.text.specs.Checks.{isFine}
 use Rattle.text.specs.declared.Seen.{Seen}
 use Rattle.text.specs.declared.Seen.the-variants.{Fine, Bad}
 use Rattle.text.proofs.Equal.{same-self}
 use Rattle.section.specs.declared.Settings.{Settings}
 use Rattle.command.specs.Text.{checkCommand}
 use Rattle.command.proofs.Codes.{check-coded}
-use Rattle.config.specs.Config.{isFine, applyTo}
+use Rattle.config.specs.Config.{applyTo}
 use Rattle.board.specs.Board.{isDesignator, Place, isNone, isFree, any, waiting, isValid, Move, Stay, Put, Free, onBoard, Given, Refused, replyOf}
 use Rattle.board.specs.History.{Event, Add, Take, Entry, aircraft, heard, since, onto, joined, move, after, logged, isEmptyBoard, toldSeen, due, noCommands, calledFor, act}
 use Rattle.board.proofs.Places.{never, none-is, some-for}

@@ -4,12 +4,12 @@ use mathlib.Core.List.{List, [], _∷_}
 use Prim.Native.Nat.{ℕ, zero, suc}
 use lib.Dec.{leb, eqb}
 use lib.ListN.{length, getD, set}
+use Rattle.text.specs.Checks.{isFine}
 use Rattle.text.specs.Names.{allAllowed}
 use Rattle.text.specs.Equal.{sameBytes}
 use Rattle.text.specs.declared.Seen.{Seen}
 use Rattle.text.specs.declared.Seen.the-variants.{Fine, Bad}
 use Rattle.command.specs.Text.{checkCommand}
-use Rattle.config.specs.Config.{isFine}
 use Rattle.join.specs.Join.{joinText}
 
 -- a designator is six allowed bytes

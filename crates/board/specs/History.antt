@@ -5,12 +5,13 @@ use mathlib.Core.List.{List, [], _∷_, _++_, foldl}
 use Prim.Native.Nat.{ℕ, zero, suc, _≤_}
 use lib.Dec.{leb, ltb}
 use lib.ListN.{length}
+use Rattle.text.specs.Checks.{isFine}
 use Rattle.text.specs.Equal.{sameBytes}
 use Rattle.text.specs.declared.Seen.{Seen}
 use Rattle.text.specs.declared.Seen.the-variants.{Fine, Bad}
 use Rattle.section.specs.declared.Settings.{Settings}
 use Rattle.command.specs.Text.{checkCommand, longest}
-use Rattle.config.specs.Config.{isFine, applyTo}
+use Rattle.config.specs.Config.{applyTo}
 use Rattle.join.specs.Join.{joinText}
 use Rattle.board.specs.Board.{isDesignator, Place, isNone, isFree, any, waiting, Move, Reply, Given, Refused, replyOf, onBoard, add, takeOut}
 

@@ -4,10 +4,10 @@ use mathlib.Core.List.{List, [], _∷_}
 use Prim.Native.Nat.{ℕ, suc, _+_, _*_}
 use lib.Dec.{leb, ltb, eqb}
 use lib.ListN.{length, take, replicate}
+use Rattle.text.specs.Checks.{isFine}
 use Rattle.text.specs.Parts.{part}
 use Rattle.text.specs.Equal.{sameBytes}
 use Rattle.command.specs.Text.{checkCommand}
-use Rattle.config.specs.Config.{isFine}
 use Rattle.join.specs.Join.{Joined, Joins, Refuses, join}
 use Rattle.board.specs.Board.{isDesignator, Move, Stay, Put, Free, onSeen}
 use Rattle.board.specs.Lent.{noSlot}

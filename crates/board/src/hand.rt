@@ -3,7 +3,7 @@ use crate::Done;
 use crate::Slot;
 use crate::Survey;
 use crate::Wanted;
-use section::record::middle;
+use field::record::middle;
 use text::copy;
 ghost use mathlib.Core.Path.{_≡_};
 ghost use Prim.Native.Nat.{_*_, _+_, _≤_, _<_};

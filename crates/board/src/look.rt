@@ -4,7 +4,7 @@ use crate::Survey;
 use crate::Wanted;
 use command::check::check;
 use config::settings::is_fine;
-use section::record::middle;
+use field::record::middle;
 use text::all_allowed;
 ghost use mathlib.Core.Path.{_≡_};
 ghost use mathlib.Core.Bool.{not, _&&_};

@@ -7,6 +7,7 @@ use native.Mathlib.Omega.{arith}
 use lib.Dec.{leb, eqb}
 use lib.ListN.{length, replicate}
 use borrow.Author.Tests.{eqb-true}
+use Rattle.text.specs.Checks.{isFine}
 use Rattle.text.specs.Parts.{part}
 use Rattle.text.specs.declared.Seen.the-variants.{Fine}
 use Rattle.text.proofs.Cases.{by-test, both-left, both-right}
@@ -23,7 +24,7 @@ use Rattle.command.proofs.Each.{Each, each-with}
 use Rattle.command.proofs.Head.{passes}
 use Rattle.command.proofs.Parts.{bodyOf, Place, Absent, Present}
 use Rattle.command.proofs.Accepted.{accepted, sound}
-use Rattle.config.specs.Config.{newFlag, newFlags, flagsValid, isFine, sectionsValid, valid, reset, applyTo}
+use Rattle.config.specs.Config.{newFlag, newFlags, flagsValid, sectionsValid, valid, reset, applyTo}
 use Rattle.config.proofs.Apply.{setBy, section-own, flags-own}
 
 -- ---- Flags

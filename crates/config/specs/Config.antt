@@ -4,6 +4,7 @@ use mathlib.Core.List.{List, [], _∷_}
 use Prim.Native.Nat.{ℕ}
 use lib.Dec.{leb, eqb}
 use lib.ListN.{replicate}
+use Rattle.text.specs.Checks.{isFine}
 use Rattle.text.specs.declared.Seen.{Seen}
 use Rattle.text.specs.declared.Seen.the-variants.{Fine, Bad}
 use Rattle.section.specs.Layout.{look, layoutOf}
@@ -35,10 +36,6 @@ reset = settingsFrom (1 ∷ 0 ∷ 0 ∷ 0 ∷ 1 ∷ 1 ∷ 1 ∷ []) resetHolds
 unfoldable pub flagsValid : List ℕ → Bool
 flagsValid [] = true
 flagsValid (v ∷ vs) = leb v 1 && flagsValid vs
-
-abbrev pub isFine : Seen → Bool
-isFine Fine = true
-isFine (Bad code place) = false
 
 unfoldable pub sectionsValid : List ℕ → Settings → Bool
 sectionsValid [] x = true

@@ -13,18 +13,20 @@ use section::Ascent;
 use section::Enroute;
 use section::Hours;
 use section::Settings;
-use section::record::airports_allowed;
+use section::record::airports_fine;
 use section::record::ascent_allowed;
 use section::record::digit_allowed;
 use section::record::enroute_allowed;
 use section::record::hours_allowed;
-use section::record::regions_allowed;
+use section::record::regions_fine;
 use text::Seen;
 ghost use mathlib.Core.Path.{_≡_};
+ghost use mathlib.Core.List.{_∷_, []};
+ghost use Rattle.text.specs.Checks.{isFine};
 ghost use Rattle.text.specs.declared.Seen.the-variants.{Fine};
 ghost use Rattle.section.specs.Settings.{ascentFrom};
-ghost use Rattle.command.specs.Text.{numbers, checkCommand};
-ghost use Rattle.config.specs.Config.{resetHolds, reset, isFine, sectionsValid, valid, applyTo, refused, applied};
+ghost use Rattle.command.specs.Text.{checkCommand};
+ghost use Rattle.config.specs.Config.{resetHolds, reset, sectionsValid, valid, applyTo, refused, applied};
 
 // ---- Reset
 
@@ -73,16 +75,10 @@ pub fn is_fine(seen: Seen) -> bool
     }
 }
 
-// Each section, as a section of a command, would pass the writer's checks.
-fn sections_valid(x: Settings) -> bool
-    ensures { λ r. ⌜ r ≡ sectionsValid numbers x ⌝ }
+// Sections 4 to 9.
+fn rest_valid(x: Settings) -> bool
+    ensures { λ r. ⌜ r ≡ sectionsValid (4 ∷ 5 ∷ 6 ∷ 7 ∷ 8 ∷ 9 ∷ []) x ⌝ }
 {
-    if !is_fine(regions_allowed(x.regions, 0)) {
-        return false;
-    }
-    if !is_fine(airports_allowed(x.airports, 0)) {
-        return false;
-    }
     let enroute = is_fine(enroute_allowed(x.enroute, 0));
     let ascent = is_fine(ascent_allowed(x.ascent, 0));
     let routine6 = is_fine(digit_allowed(x.routine6, 0));
@@ -91,14 +87,12 @@ fn sections_valid(x: Settings) -> bool
     enroute & ascent & routine6 & routine8 & hours
 }
 
+// The flags are 0 or 1 and each section, as a section of a command, would pass the writer's checks. Gathered: which of them fails plays no part.
 pub fn is_valid(x: Settings) -> bool
     ensures { λ r. ⌜ r ≡ valid x ⌝ }
 {
     let flags = x.flags;
-    if are_valid(flags) {
-        return sections_valid(x);
-    }
-    false
+    are_valid(flags) & regions_fine(x.regions) & airports_fine(x.airports) & rest_valid(x)
 }
 
 // ---- Applying

@@ -4,6 +4,7 @@ use mathlib.Core.Bool.{true}
 use mathlib.Core.List.{List, [], _∷_}
 use Prim.Native.Nat.{ℕ, _+_, _≤_}
 use lib.ListN.{length}
+use Rattle.text.specs.Checks.{isFine}
 use Rattle.text.specs.declared.Seen.{Seen}
 use Rattle.text.specs.declared.Seen.the-variants.{Fine, Bad}
 use Rattle.text.proofs.Cases.{both-left, both-right}
@@ -16,7 +17,7 @@ use Rattle.section.specs.declared.Regions.{Regions}
 use Rattle.section.specs.declared.Airports.{Airports}
 use Rattle.section.specs.declared.Settings.{Settings}
 use Rattle.command.specs.Text.{numbers}
-use Rattle.config.specs.Config.{flagsValid, isFine, sectionsValid, valid}
+use Rattle.config.specs.Config.{flagsValid, sectionsValid, valid}
 use Rattle.config.proofs.Seven.{sections-are}
 
 fine : (s : Seen) → isFine s ≡ true → s ≡ Fine

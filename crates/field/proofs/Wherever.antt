@@ -1,53 +1,53 @@
--- A box that passes the gathered tests is refused nowhere.
-use mathlib.Core.Path.{_≡_}
-use mathlib.Core.Bool.{Bool, true, false, not, _&&_}
+-- A box is refused nowhere just where it passes the gathered tests.
+use mathlib.Core.Path.{_≡_, refl, sym, ap, _∙_}
+use mathlib.Core.Bool.{Bool, true, false, not, _&&_, and-assoc, and-true}
 use Prim.Native.Nat.{ℕ, _+_}
 use lib.Dec.{leb}
-use Rattle.text.specs.declared.Seen.the-variants.{Fine}
-use Rattle.text.proofs.Cases.{both-left, both-right}
+use Rattle.text.specs.declared.Seen.{Seen}
+use Rattle.text.specs.declared.Seen.the-variants.{Fine, Bad}
+use Rattle.text.specs.Checks.{must, _andThen_, isFine}
+use Rattle.text.proofs.Checks.{fine-must, fine-then}
 use Rattle.field.specs.declared.Circle.{Circle}
 use Rattle.field.specs.declared.Edge.{Edge}
 use Rattle.field.specs.declared.Region.{Region}
 use Rattle.field.specs.Boxes.{latitude, longitude, isLetter, belowZero, edgeAllowed, regionAllowed}
 use Rattle.field.specs.Steps.{edgeIs, pairIs, regionIs, inOrder}
 
-edge-is : (c : Circle) (at : ℕ) (e : Edge) → edgeIs c e ≡ true → edgeAllowed c at e ≡ Fine
+edge-is : (c : Circle) (at : ℕ) (e : Edge) → isFine (edgeAllowed c at e) ≡ edgeIs c e
 unfolding edgeAllowed
-edge-is c at e t =
+edge-is c at e =
     let few = leb (e .degrees) (c .most) in
     let spelt = not (belowZero c (e .degrees) (e .letter)) in
     let letter = isLetter c (e .letter) in
-    let start = both-left (letter && spelt) few t in
-    rw (both-left letter spelt start, both-right letter spelt start, both-right (letter && spelt) few t)
+    rw (fine-then (must letter 4 at) (must spelt 6 at andThen must few 5 at), fine-must letter 4 at)
+    (rw (fine-then (must spelt 6 at) (must few 5 at), fine-must spelt 6 at, fine-must few 5 at) (sym (and-assoc letter spelt few)))
 
--- what a pair that passes is made of
-module _ (falling : Bool) (c : Circle) (a b : Edge) (t : pairIs falling c a b ≡ true) where
-  edges : (edgeIs c a && edgeIs c b) ≡ true
-  edges = both-left (edgeIs c a && edgeIs c b) (inOrder falling c a b) t
+-- a pair of edges, at two places, and what follows them
+pair-is : (falling : Bool) (c : Circle) (a b : Edge) (at mid : ℕ) (more : Seen)
+    → isFine (edgeAllowed c at a andThen edgeAllowed c mid b andThen must (inOrder falling c a b) 7 mid andThen more)
+    ≡ (pairIs falling c a b && isFine more)
+pair-is falling c a b at mid more =
+    let order = inOrder falling c a b in
+    let last = must order 7 mid andThen more in
+    fine-then (edgeAllowed c at a) (edgeAllowed c mid b andThen last)
+    ∙ rw (edge-is c at a, fine-then (edgeAllowed c mid b) last, edge-is c mid b, fine-then (must order 7 mid) more, fine-must order 7 mid)
+    (simp and-assoc)
 
-  first : (at : ℕ) → edgeAllowed c at a ≡ Fine
-  first at = edge-is c at a (both-left (edgeIs c a) (edgeIs c b) edges)
+nothing-more : (x : Seen) → x ≡ (x andThen Fine)
+nothing-more Fine = refl
+nothing-more (Bad code place) = refl
 
-  second : (at : ℕ) → edgeAllowed c at b ≡ Fine
-  second at = edge-is c at b (both-right (edgeIs c a) (edgeIs c b) edges)
-
-  order : inOrder falling c a b ≡ true
-  order = both-right (edgeIs c a && edgeIs c b) (inOrder falling c a b) t
-
-pub region-is : (b : Region) → regionIs b ≡ true → (at : ℕ) → regionAllowed at b ≡ Fine
+pub region-is : (b : Region) (at : ℕ) → isFine (regionAllowed at b) ≡ regionIs b
 unfolding regionIs regionAllowed
-region-is b t at =
+region-is b at =
     let n = b .north in
     let s = b .south in
     let w = b .west in
     let e = b .east in
-    let ns : pairIs true latitude n s ≡ true = both-left (pairIs true latitude n s) (pairIs false longitude w e) t in
-    let we : pairIs false longitude w e ≡ true = both-right (pairIs true latitude n s) (pairIs false longitude w e) t in
-    rw (
-      first true latitude n s ns at,
-      second true latitude n s ns (at + 3),
-      order true latitude n s ns,
-      first false longitude w e we (at + 6),
-      second false longitude w e we (at + 10),
-      order false longitude w e we,
-    )
+    let east = must (inOrder false longitude w e) 7 (at + 10) in
+    let ends = edgeAllowed longitude (at + 6) w andThen edgeAllowed longitude (at + 10) e andThen east in
+    let we : isFine ends ≡ pairIs false longitude w e =
+    ap (λ (z : Seen). isFine (edgeAllowed longitude (at + 6) w andThen edgeAllowed longitude (at + 10) e andThen z)) (nothing-more east)
+    ∙ pair-is false longitude w e (at + 6) (at + 10) Fine
+    ∙ and-true (pairIs false longitude w e) in
+    pair-is true latitude n s at (at + 3) ends ∙ ap (λ (t : Bool). pairIs true latitude n s && t) we

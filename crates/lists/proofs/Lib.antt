@@ -5,5 +5,6 @@ pub mod Accepted
 pub mod Spelling
 mod Sums
 pub mod Turns
+mod Fine
 pub mod RoundTrip
 pub mod Within

@@ -1,19 +1,24 @@
 -- Turns of the loops over a record's entries.
 use mathlib.Core.Path.{_≡_, refl, sym, ap, _∙_}
-use mathlib.Core.Bool.{Bool, true, false, _&&_, and-assoc, and-true}
+use mathlib.Core.Bool.{Bool, true, false, cond, _&&_, and-assoc, and-true}
 use mathlib.Core.List.{List, [], _∷_, _++_, append-nil, append-assoc}
 use Prim.Native.Nat.{ℕ, zero, suc, _+_, _-_, _*_, _≤_, _<_}
 use native.Mathlib.Omega.{arith}
 use native.Mathlib.Numerals.{add-one}
 use lib.ListN.{length, getD, take, drop, drop-of-length-le, length-append}
 use lib.Seq.{drop-cons, drop-drop, take-add, take-suc}
-use lib.Dec.{eqb}
+use lib.Dec.{ltb, eqb}
+use borrow.Author.Tests.{lt-ltb, le-ltb}
 use Rattle.text.specs.declared.Seen.the-variants.{Fine, Bad}
-use Rattle.text.specs.Names.{allAllowed}
-use Rattle.text.proofs.Cases.{both-left, both-right}
+use Rattle.text.specs.Names.{allowed, allAllowed}
+use Rattle.text.specs.Checks.{must, _andThen_, isFine}
+use Rattle.text.proofs.Cases.{by-lt, both-left, both-right}
+use Rattle.text.proofs.Checks.{fine-must, fine-then}
 use Rattle.text.proofs.Names.{allowed-append}
 use Rattle.field.specs.declared.Region.{Region}
 use Rattle.field.specs.Boxes.{regionAllowed, regionText, noRegion}
+use Rattle.field.specs.Steps.{regionIs}
+use Rattle.field.proofs.Wherever.{region-is}
 use Rattle.field.proofs.Spelling.{region-length}
 use Rattle.lists.specs.Lists.{allZero, namesAllowed, regionZero, regionsZero, regionsAllowed, regionsText}
 
@@ -62,6 +67,47 @@ names-all (suc n) at names e =
     let others = both-right (allAllowed (take 4 names)) (allAllowed (take (4 * n) (drop 4 names))) all in
     rw first (names-all n (at + 4) (drop 4 names) others)
 
+-- names are fine where all their bytes are allowed
+pub names-fine : (n at : ℕ) (names : List ℕ) → isFine (namesAllowed n at names) ≡ allAllowed (take (4 * n) names)
+unfolding namesAllowed allAllowed
+names-fine zero at names = refl
+names-fine (suc n) at names =
+    let here = allAllowed (take 4 names) in
+    let more : 4 * suc n ≡ 4 + 4 * n = omega arith in
+    let split = ap allAllowed (take-add 4 (4 * n) names) ∙ allowed-append (take 4 names) (take (4 * n) (drop 4 names)) in
+    fine-then (must here 4 at) (namesAllowed n (at + 4) (drop 4 names))
+    ∙ rw (fine-must here 4 at, names-fine n (at + 4) (drop 4 names)) (sym (ap (λ (k : ℕ). allAllowed (take k names)) more ∙ split))
+
+-- ---- Names, and nothing behind them
+
+abbrev pub usedThen : ℕ → List ℕ → Bool
+usedThen u s = allAllowed (take u s) && allZero (drop u s)
+
+pub used-turn : (t : Bool) (s : List ℕ) (u i : ℕ) → i < length s
+    → (t && usedThen (u - i) (drop i s))
+    ≡ (t && cond (ltb i u) (allowed (getD s i 0)) (eqb (getD s i 0) 0) && usedThen (u - (i + 1)) (drop (i + 1) s))
+unfolding allAllowed allZero
+used-turn t s u i h =
+    let x = getD s i 0 in
+    let xs = drop (i + 1) s in
+    rw (from s i 0 h)
+    (by-lt i u
+    (λ (l : i < u).
+    let one : u - i ≡ suc (u - (i + 1)) = omega arith in
+    rw (one, lt-ltb i u l) (simp and-assoc))
+    (λ (l : u ≤ i).
+    let none : u - i ≡ 0 = omega arith in
+    let still : u - (i + 1) ≡ 0 = omega arith in
+    rw (none, still, le-ltb i u l) (sym (and-assoc t (eqb x 0) (allZero xs)))))
+
+used-none : (u : ℕ) → usedThen u [] ≡ true
+unfolding allAllowed allZero
+used-none zero = refl
+used-none (suc u) = refl
+
+pub used-end : (t : Bool) (s : List ℕ) (u i : ℕ) → length s ≤ i → (t && usedThen (u - i) (drop i s)) ≡ t
+used-end t s u i h = rw (drop-of-length-le s {i = i} h, used-none (u - i)) (and-true t)
+
 -- ---- Boxes
 
 module _ (t : Bool) (bs : List Region) (i : ℕ) where
@@ -90,6 +136,16 @@ module _ (bs : List Region) (n i q : ℕ) where
       → regionsAllowed (n - i) q (drop i bs) ≡ Bad code place
   unfolding regionsAllowed
   regions-stop code place h k e = let one : n - i ≡ suc (n - (i + 1)) = omega arith in rw (one, from bs i noRegion k, e)
+
+  pub regions-fine-turn : (t : Bool) → i < n → i < length bs
+      → (t && isFine (regionsAllowed (n - i) q (drop i bs)))
+      ≡ (t && regionIs (getD bs i noRegion) && isFine (regionsAllowed (n - (i + 1)) (q + 14) (drop (i + 1) bs)))
+  unfolding regionsAllowed
+  regions-fine-turn t h k =
+      let one : n - i ≡ suc (n - (i + 1)) = omega arith in
+      let b = getD bs i noRegion in
+      let rest = regionsAllowed (n - (i + 1)) (q + 14) (drop (i + 1) bs) in
+      rw (one, from bs i noRegion k, fine-then (regionAllowed q b) rest, region-is b q) (sym (and-assoc t (regionIs b) (isFine rest)))
 
   pub regions-end : n ≤ i → regionsAllowed (n - i) q (drop i bs) ≡ Fine
   unfolding regionsAllowed

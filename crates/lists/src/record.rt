@@ -8,12 +8,14 @@ use field::record::region_is;
 use field::record::wide;
 use text::Seen;
 use text::all_allowed;
+use text::is_allowed;
 ghost use mathlib.Core.Path.{_≡_};
-ghost use mathlib.Core.Bool.{true, _&&_};
+ghost use mathlib.Core.Bool.{cond, _&&_};
 ghost use Prim.Native.Nat.{ℕ, _*_, _≤_, _<_};
 ghost use lib.Dec.{eqb};
-ghost use lib.ListN.{length, drop};
-ghost use Rattle.text.specs.declared.Seen.the-variants.{Fine};
+ghost use lib.ListN.{length, take, drop};
+ghost use Rattle.text.specs.Names.{allowed, allAllowed};
+ghost use Rattle.text.specs.Checks.{isFine};
 ghost use Rattle.lists.specs.Lists.{
   allZero,
   namesAllowed,
@@ -102,9 +104,9 @@ fn edge_sum(e: Edge) -> usize
     wide(e.degrees) + 256 * wide(e.letter)
 }
 
-// A number that is 0 where all of a box is: sums of these take fewer steps than a test of each byte.
-fn region_sum(b: Region) -> usize
-    ensures { λ r. ⌜ (eqb r 0 ≡ regionZero b) × (r < 8589934592) ⌝ }
+// A box's eight bytes as one number, which is 0 where all of them are.
+fn region_word(b: Region) -> usize
+    ensures { λ r. ⌜ eqb r 0 ≡ regionZero b ⌝ }
 {
     let north = b.north;
     let south = b.south;
@@ -112,27 +114,27 @@ fn region_sum(b: Region) -> usize
     let east = b.east;
     let latitudes = edge_sum(north) + 65536 * edge_sum(south);
     let longitudes = edge_sum(west) + 65536 * edge_sum(east);
-    latitudes + longitudes
+    latitudes + 4294967296 * longitudes
 }
 
-// Whether every box from the n-th on is zero.
+// Whether every box from the n-th on is zero. Gathered, as above.
 fn regions_zero(regions: [Region; 16], n: usize) -> bool
     requires { ⌜ n ≤ 16 ⌝ }
     ensures { λ r. ⌜ r ≡ regionsZero (drop n regions) ⌝ }
 {
-    let mut sum: usize = 0;
+    let mut zero = true;
     let mut i = n;
     while i < 16 {
-        sum += region_sum(regions[i]);
+        zero = zero & (region_word(regions[i]) == 0);
         i += 1;
     }
-    sum == 0
+    zero
 }
 
 // Whether n boxes would be taken, wherever they stand. Gathered, as above.
 fn regions_are(regions: [Region; 16], n: usize) -> bool
     requires { ⌜ n ≤ 16 ⌝ }
-    ensures { λ r. ⌜ ((at : ℕ) → r ≡ true → regionsAllowed n at regions ≡ Fine) ⌝ }
+    ensures { λ r. ⌜ ((at : ℕ) → r ≡ isFine (regionsAllowed n at regions)) ⌝ }
 {
     let mut fine = true;
     let mut i = 0;
@@ -196,4 +198,58 @@ pub fn boxes_zero(l: Boxes) -> bool
 {
     let regions = l.regions;
     (l.count == 0) & regions_zero(regions, 0)
+}
+
+// ---- The same without code and place, wherever the list stands. A list with nothing in it is the usual one, and takes fewer steps.
+
+// A byte of a name in use, or of an unused entry.
+fn is_entry(used: bool, b: u8) -> bool
+    ensures { λ r. ⌜ r ≡ cond used (allowed b) (eqb b 0) ⌝ }
+{
+    if used {
+        return is_allowed(b);
+    }
+    b == 0
+}
+
+// So many bytes of names, and nothing behind them. The place is counted a second time as a byte, so that sixteen are looked at in one step.
+fn names_fine(used: u8, names: &[u8]) -> bool
+    requires { ⌜ length (now names) ≡ 80 ⌝ }
+    ensures { λ r. ⌜ r ≡ (allAllowed (take used (now (names .entry))) && allZero (drop used (now (names .entry)))) ⌝ }
+{
+    let mut fine = true;
+    let mut i: usize = 0;
+    let mut k: u8 = 0;
+    while i < 80 {
+        fine = fine & is_entry(k < used, names[i]);
+        i += 1;
+        k += 1;
+    }
+    fine
+}
+
+pub fn airfields_fine(count: u8, names: &[u8]) -> bool
+    requires { ⌜ length (now names) ≡ 80 ⌝ }
+    ensures { λ r. ⌜ ((at : ℕ) → r ≡ isFine (airfieldsAllowed at (record { count = count; names = now (names .entry) }))) ⌝ }
+{
+    if count == 0 {
+        return zero_from(names, 0);
+    }
+    if 20 < count {
+        return false;
+    }
+    names_fine(4 * count, names)
+}
+
+pub fn boxes_fine(count: u8, regions: [Region; 16]) -> bool
+    ensures { λ r. ⌜ ((at : ℕ) → r ≡ isFine (boxesAllowed at (record { count = count; regions = regions }))) ⌝ }
+{
+    let n = wide(count);
+    if n == 0 {
+        return regions_zero(regions, 0);
+    }
+    if 16 < n {
+        return false;
+    }
+    regions_zero(regions, n) & regions_are(regions, n)
 }

@@ -5,6 +5,7 @@ pub mod Allowed
 pub mod Come
 pub mod Walk
 pub mod Held
+mod Fine
 pub mod Written
 pub mod Short
 pub mod RoundTrip

@@ -5,17 +5,20 @@ use crate::ByPhase;
 use crate::Enroute;
 use crate::Hours;
 use crate::Regions;
+use field::record::middle;
 use field::record::wide;
 use lists::Boxes;
 use lists::record::airfields_allowed;
+use lists::record::airfields_fine;
 use lists::record::boxes_allowed;
+use lists::record::boxes_fine;
 use text::Seen;
 ghost use mathlib.Core.Path.{_≡_};
 ghost use mathlib.Core.Bool.{_&&_};
-ghost use Prim.Native.Nat.{_+_, _≤_};
+ghost use Prim.Native.Nat.{ℕ, _+_, _≤_};
 ghost use lib.Dec.{leb};
 ghost use lib.ListN.{length};
-ghost use Rattle.text.specs.Checks.{must, _andThen_};
+ghost use Rattle.text.specs.Checks.{must, _andThen_, isFine};
 ghost use Rattle.lists.specs.Lists.{airfieldsAllowed, airfieldsText, boxesText};
 ghost use Rattle.section.specs.Layout.{layoutOf};
 ghost use Rattle.section.specs.Contents.{contentsAllowed};
@@ -42,12 +45,6 @@ fn both(first: Seen, second: Seen) -> Seen
         Seen::Bad(code, place) => Seen::Bad(code, place),
         Seen::Fine => second,
     }
-}
-
-pub fn middle(n: u16) -> usize
-    ensures { λ r. ⌜ r ≡ n ⌝ }
-{
-    n as usize
 }
 
 // Section 4.
@@ -123,8 +120,8 @@ fn boxes_end(l: Boxes, at: usize) -> usize
     at + (2 + 14 * wide(l.count))
 }
 
-// Section 2.
-pub fn regions_allowed(x: Regions, at: usize) -> Seen
+// Section 2, list by list.
+fn each_boxes_allowed(x: Regions, at: usize) -> Seen
     requires { ⌜ at ≤ 1000 ⌝ }
     ensures { λ r. ⌜ r ≡ contentsAllowed (layoutOf 2) at (regionsHold x) ⌝ }
 {
@@ -161,8 +158,8 @@ fn phases_end(x: ByPhase, at: usize) -> usize
     at + (2 + 4 * wide(ascent.count)) + (2 + 4 * wide(descent.count))
 }
 
-// Section 3.
-pub fn airports_allowed(x: Airports, at: usize) -> Seen
+// Section 3, list by list.
+fn each_airfields_allowed(x: Airports, at: usize) -> Seen
     requires { ⌜ at ≤ 1000 ⌝ }
     ensures { λ r. ⌜ r ≡ contentsAllowed (layoutOf 3) at (airportsHold x) ⌝ }
 {
@@ -181,4 +178,56 @@ pub fn airports_allowed(x: Airports, at: usize) -> Seen
             }
         }
     }
+}
+
+// ---- Sections 2 and 3: all lists at once, and one after the other only where one is wrong
+
+pub fn regions_fine(x: Regions) -> bool
+    ensures { λ r. ⌜ ((at : ℕ) → r ≡ isFine (contentsAllowed (layoutOf 2) at (regionsHold x))) ⌝ }
+{
+    let reporting = x.reporting;
+    let inhibiting = x.inhibiting;
+    let first = reporting.regions;
+    let second = inhibiting.regions;
+    boxes_fine(reporting.count, first) & boxes_fine(inhibiting.count, second)
+}
+
+fn phases_fine(x: ByPhase) -> bool
+    ensures { λ r. ⌜ ((p q : ℕ) → r ≡ (isFine (airfieldsAllowed p (x .ascent)) && isFine (airfieldsAllowed q (x .descent)))) ⌝ }
+{
+    let ascent = x.ascent;
+    let descent = x.descent;
+    let first = ascent.names;
+    let second = descent.names;
+    airfields_fine(ascent.count, &first) & airfields_fine(descent.count, &second)
+}
+
+pub fn airports_fine(x: Airports) -> bool
+    ensures { λ r. ⌜ ((at : ℕ) → r ≡ isFine (contentsAllowed (layoutOf 3) at (airportsHold x))) ⌝ }
+{
+    let selected = x.selected;
+    let inhibited = x.inhibited;
+    phases_fine(selected) & phases_fine(inhibited) & (x.routine <= 1)
+}
+
+// Section 2.
+pub fn regions_allowed(x: Regions, at: usize) -> Seen
+    requires { ⌜ at ≤ 1000 ⌝ }
+    ensures { λ r. ⌜ r ≡ contentsAllowed (layoutOf 2) at (regionsHold x) ⌝ }
+{
+    if regions_fine(x) {
+        return Seen::Fine;
+    }
+    each_boxes_allowed(x, at)
+}
+
+// Section 3.
+pub fn airports_allowed(x: Airports, at: usize) -> Seen
+    requires { ⌜ at ≤ 1000 ⌝ }
+    ensures { λ r. ⌜ r ≡ contentsAllowed (layoutOf 3) at (airportsHold x) ⌝ }
+{
+    if airports_fine(x) {
+        return Seen::Fine;
+    }
+    each_airfields_allowed(x, at)
 }

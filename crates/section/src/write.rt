@@ -5,7 +5,7 @@ use crate::ByPhase;
 use crate::Enroute;
 use crate::Hours;
 use crate::Regions;
-use crate::record::middle;
+use field::record::middle;
 use field::record::wide;
 use field::write::put_decimal;
 use lists::Airfields;

@@ -1,6 +1,6 @@
 -- What a check finds, and checks one after the other: "then fields from left to right".
 use Prim.Native.Nat.{ℕ}
-use mathlib.Core.Bool.{Bool, cond}
+use mathlib.Core.Bool.{Bool, true, false, cond}
 use Rattle.text.specs.declared.Seen.{Seen}
 use Rattle.text.specs.declared.Seen.the-variants.{Fine, Bad}
 
@@ -13,3 +13,8 @@ must ok code place = cond ok Fine (Bad code place)
 abbrev pub _andThen_ : Seen → Seen → Seen
 Fine andThen next = next
 (Bad code place) andThen next = Bad code place
+
+-- whether there was no refusal
+abbrev pub isFine : Seen → Bool
+isFine Fine = true
+isFine (Bad code place) = false

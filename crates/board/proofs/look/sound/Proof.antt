@@ -1,4 +1,5 @@
 use borrow.Author.Needs.{needs}
+use Rattle.text.specs.Checks.{isFine}
 use Rattle.board.proofs.look.sound.Statement.{statement}
 use Rattle.board.proofs.look.sound.Tie as tie
 use native.Mathlib.Omega.{arith}
@@ -9,7 +10,6 @@ use lib.ListN.{length, take, drop}
 use denote.Ref.{now}
 use Rattle.board.specs.Survey.{soundAt}
 use Prim.Native.Nat.{_*_}
-use Rattle.config.specs.Config.{isFine}
 use Rattle.command.specs.Text.{checkCommand}
 
 six-long : (c : tie.Then4) → length (c .before .before .before .before .before .before .before .before .before .args .s .designator) ≡ 6

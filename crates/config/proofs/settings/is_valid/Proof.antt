@@ -2,22 +2,32 @@
 use borrow.Author.Needs.{needs}
 use Rattle.config.proofs.settings.is_valid.Statement.{statement}
 use Rattle.config.proofs.settings.is_valid.Tie as tie
-use mathlib.Core.Path.{sym, _∙_}
+use mathlib.Core.Path.{_∙_}
 use Rattle.config.specs.Config.{valid}
+use Rattle.config.proofs.Seven.{sections-are, four}
 
 are-valid-requires : tie.Need-are-valid-requires
 are-valid-requires c κs = search needs
 
-sections-valid-requires : tie.Need-sections-valid-requires
-sections-valid-requires c κs = search needs
+regions-fine-requires : tie.Need-regions-fine-requires
+regions-fine-requires c κs = search needs
+
+airports-fine-requires : tie.Need-airports-fine-requires
+airports-fine-requires c κs = search needs
+
+rest-valid-requires : tie.Need-rest-valid-requires
+rest-valid-requires c κs = search needs
 
 returns : tie.Need-returns
 unfolding valid
-returns c = rw (sym (c .before .before .are-valid .ensures) ∙ c .before .if1 .taken) (c .sections-valid .ensures)
-
-returns-2 : tie.Need-returns-2
-unfolding valid
-returns-2 c = rw (sym (c .before .are-valid .ensures) ∙ c .if1 .left)
+returns c =
+    let airports = c .before in
+    let regions = airports .before in
+    let flags = regions .before in
+    four (flags .are-valid .result) (regions .regions-fine .result) (airports .airports-fine .result) (c .rest-valid .result)
+    ∙ rw (sections-are _, c .rest-valid .ensures, airports .airports-fine .ensures 0, regions .regions-fine .ensures 0, flags .are-valid .ensures)
 
 pub is-valid-spec : {M : Type 1} → statement M
-is-valid-spec = tie.close (tie.spec are-valid-requires sections-valid-requires returns returns-2)
+is-valid-spec =
+    tie.close
+    (tie.spec are-valid-requires regions-fine-requires airports-fine-requires rest-valid-requires returns)

@@ -1,5 +1,6 @@
 -- `lists::record::regions_allowed` meets its contract.
-use mathlib.Core.Path.{sym}
+use mathlib.Core.Path.{sym, _∙_}
+use Rattle.text.proofs.Checks.{fine-is}
 use borrow.Author.Needs.{needs}
 use Rattle.lists.proofs.record.regions_allowed.Statement.{statement}
 use Rattle.lists.proofs.record.regions_allowed.Tie as tie
@@ -8,7 +9,7 @@ regions-are-requires : tie.Need-regions-are-requires
 regions-are-requires c κs = search needs
 
 returns : tie.Need-returns
-returns c = sym (c .before .regions-are .ensures (c .before .before .args .at) (c .if1 .taken))
+returns c = sym (fine-is _ (sym (c .before .regions-are .ensures (c .before .before .args .at)) ∙ c .if1 .taken))
 
 each-region-allowed-requires : tie.Need-each-region-allowed-requires
 each-region-allowed-requires c κs = search needs

@@ -1,19 +1,18 @@
--- `lists::record::regions_are` meets its contract. The loop's invariant: where all so far are taken, those that are left decide.
+-- `lists::record::regions_are` meets its contract. The loop's invariant: what was gathered so far, and the boxes that are left, decide together, wherever they stand.
 use borrow.Author.Needs.{needs}
 use native.Mathlib.Omega.{arith}
 use mathlib.Core.Path.{_≡_, sym, ap, _∙_}
-use mathlib.Core.Bool.{true}
+use mathlib.Core.Bool.{_&&_, and-true}
 use Prim.Native.Nat.{ℕ, _≤_, _+_, _-_, _*_, _<_}
 use lib.ListN.{length, drop}
-use Rattle.text.proofs.Cases.{both-left, both-right}
-use Rattle.field.proofs.Wherever.{region-is}
+use Rattle.text.specs.Checks.{isFine}
 use Rattle.lists.specs.Lists.{regionsAllowed}
-use Rattle.lists.proofs.Turns.{regions-start, regions-turn, regions-end}
+use Rattle.lists.proofs.Turns.{regions-start, regions-fine-turn, regions-end}
 use Rattle.lists.proofs.record.regions_are.Statement.{statement}
 use Rattle.lists.proofs.record.regions_are.Tie as tie
 
 abbrev Inv-loop : tie.InvT-loop
-Inv-loop n regions fine₀ i₀ fine i = (i ≤ n) × ((at : ℕ) → fine ≡ true → regionsAllowed n at regions ≡ regionsAllowed (n - i) (at + 14 * i) (drop i regions))
+Inv-loop n regions fine₀ i₀ fine i = (i ≤ n) × ((at : ℕ) → isFine (regionsAllowed n at regions) ≡ (fine && isFine (regionsAllowed (n - i) (at + 14 * i) (drop i regions))))
 
 abbrev μ-loop : tie.MeasureT-loop
 μ-loop n regions fine₀ i₀ fine i = n - i
@@ -23,7 +22,7 @@ full : (c : tie.Start Inv-loop μ-loop) → length (c .args .t1) ≡ 16
 full c = search needs
 
 loop-holds : tie.Need-loop-holds Inv-loop μ-loop
-loop-holds c = (omega arith, λ at e. regions-start (c .args .n) at (c .args .t1))
+loop-holds c = (omega arith, λ at. ap isFine (regions-start (c .args .n) at (c .args .t1)))
 
 mul-region-is : tie.Need-mul-region-is Inv-loop μ-loop
 mul-region-is c = omega (arith, c .before .before .pre)
@@ -47,18 +46,18 @@ loop-again c =
     let bs = l .before .args .t1 in
     let room : i < length bs = omega (arith, full (l .before), l .before .pre) in (
       omega arith,
-      λ at e.
+      λ at.
           let far : at + 14 * i + 14 ≡ at + 14 * (i + 1) = omega arith in
-          let taken = sym (c .region-is .ensures) ∙ both-right (l .loop .fine) (c .region-is .result) e in
-          l .loop .inv .1 at (both-left (l .loop .fine) (c .region-is .result) e)
-          ∙ regions-turn bs (l .before .args .n) i (at + 14 * i) (c .before .before .loop-test .taken) room (region-is _ taken (at + 14 * i))
-          ∙ ap (λ (q : ℕ). regionsAllowed (l .before .args .n - (i + 1)) q (drop (i + 1) bs)) far,
+          l .loop .inv .1 at
+          ∙ regions-fine-turn bs (l .before .args .n) i (at + 14 * i) (l .loop .fine) (c .before .before .loop-test .taken) room
+          ∙ rw (far, c .region-is .ensures),
     )
 
 returns : tie.Need-returns Inv-loop μ-loop
-returns c at e =
+returns c at =
     let l = c .before in
-    l .loop .inv .1 at e ∙ regions-end (l .before .args .t1) (l .before .args .n) (l .loop .i) (at + 14 * l .loop .i) (c .loop-test .left)
+    let end = regions-end (l .before .args .t1) (l .before .args .n) (l .loop .i) (at + 14 * l .loop .i) (c .loop-test .left) in
+    sym (l .loop .inv .1 at ∙ rw end (and-true (l .loop .fine)))
 
 pub regions-are-spec : {M : Type 1} → statement M
 regions-are-spec =

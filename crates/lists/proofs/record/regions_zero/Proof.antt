@@ -1,41 +1,36 @@
--- `lists::record::regions_zero` meets its contract. The loop's invariant: the sum so far, and the boxes that are left, decide together.
+-- `lists::record::regions_zero` meets its contract. The loop's invariant: what was gathered so far, and the boxes that are left, decide together.
 use borrow.Author.Needs.{needs}
-use Prim.Native.Nat.{_≤_, _-_, _*_, _<_}
+use Prim.Native.Nat.{_≤_, _-_, _<_}
 use mathlib.Core.Path.{_≡_, refl, sym, _∙_}
 use mathlib.Core.Bool.{_&&_}
-use lib.Dec.{eqb}
 use lib.ListN.{drop, length}
 use native.Mathlib.Omega.{arith}
 use Rattle.lists.specs.Lists.{regionsZero}
 use Rattle.lists.proofs.Turns.{regions-zero-turn, regions-zero-end}
-use Rattle.lists.proofs.Sums.{both-zero}
 use Rattle.lists.proofs.record.regions_zero.Statement.{statement}
 use Rattle.lists.proofs.record.regions_zero.Tie as tie
 
 abbrev Inv-loop : tie.InvT-loop
-Inv-loop n regions sum₀ i₀ sum i = (i ≤ 16) × (sum ≤ i * 8589934592) × (regionsZero (drop n regions) ≡ (eqb sum 0 && regionsZero (drop i regions)))
+Inv-loop n regions zero₀ i₀ zero i = (i ≤ 16) × (regionsZero (drop n regions) ≡ (zero && regionsZero (drop i regions)))
 
 abbrev μ-loop : tie.MeasureT-loop
-μ-loop n regions sum₀ i₀ sum i = 16 - i
+μ-loop n regions zero₀ i₀ zero i = 16 - i
 
 -- the array has its 16 boxes
 full : (c : tie.Start Inv-loop μ-loop) → length (c .args .t1) ≡ 16
 full c = search needs
 
 loop-holds : tie.Need-loop-holds Inv-loop μ-loop
-loop-holds c = (c .pre, omega arith, refl)
+loop-holds c = (c .pre, refl)
 
-mul-region-sum : tie.Need-mul-region-sum Inv-loop μ-loop
-mul-region-sum c = omega arith
+mul-region-word : tie.Need-mul-region-word Inv-loop μ-loop
+mul-region-word c = omega arith
 
-array-copy-out-region-sum : tie.Need-array-copy-out-region-sum Inv-loop μ-loop
-array-copy-out-region-sum c = omega arith
+array-copy-out-region-word : tie.Need-array-copy-out-region-word Inv-loop μ-loop
+array-copy-out-region-word c = omega arith
 
-region-sum-requires : tie.Need-region-sum-requires Inv-loop μ-loop
-region-sum-requires c κs = search needs
-
-add-sum : tie.Need-add-sum Inv-loop μ-loop
-add-sum c = omega arith
+region-word-requires : tie.Need-region-word-requires Inv-loop μ-loop
+region-word-requires c κs = search needs
 
 add-i : tie.Need-add-i Inv-loop μ-loop
 add-i c = omega arith
@@ -48,15 +43,14 @@ loop-again c =
     let l = c .before .before .before in
     let bs = l .before .args .t1 in
     let room : l .loop .i < length bs = omega (arith, full (l .before)) in
-    let turn = l .loop .inv .2 ∙ regions-zero-turn (eqb (l .loop .sum) 0) bs (l .loop .i) room in
-    (omega arith, omega arith, turn ∙ rw (both-zero (l .loop .sum) (c .region-sum .result), c .region-sum .ensures .0))
+    (omega arith, l .loop .inv .1 ∙ regions-zero-turn (l .loop .zero) bs (l .loop .i) room ∙ rw (c .region-word .ensures))
 
 returns : tie.Need-returns Inv-loop μ-loop
 returns c =
     let l = c .before in
     let bs = l .before .args .t1 in
     let past : length bs ≤ l .loop .i = omega (arith, full (l .before)) in
-    sym (l .loop .inv .2 ∙ regions-zero-end (eqb (l .loop .sum) 0) bs (l .loop .i) past)
+    sym (l .loop .inv .1 ∙ regions-zero-end (l .loop .zero) bs (l .loop .i) past)
 
 pub regions-zero-spec : {M : Type 1} → statement M
 regions-zero-spec =
@@ -65,10 +59,9 @@ regions-zero-spec =
     Inv-loop
     μ-loop
     loop-holds
-    mul-region-sum
-    array-copy-out-region-sum
-    region-sum-requires
-    add-sum
+    mul-region-word
+    array-copy-out-region-word
+    region-word-requires
     add-i
     loop-less
     loop-again

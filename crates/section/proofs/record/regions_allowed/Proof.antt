@@ -1,51 +1,22 @@
 -- `section::record::regions_allowed` meets its contract.
+use mathlib.Core.Path.{sym, _∙_}
+use Rattle.text.proofs.Checks.{fine-is}
 use borrow.Author.Needs.{needs}
 use Rattle.section.proofs.record.regions_allowed.Statement.{statement}
 use Rattle.section.proofs.record.regions_allowed.Tie as tie
-use native.Mathlib.Omega.{arith}
-use mathlib.Core.Path.{_≡_, sym, _∙_}
-use Rattle.text.specs.declared.Seen.the-variants.{Fine}
-use Rattle.section.specs.Layout.{layoutOf}
-use Rattle.section.specs.Contents.{contentsAllowed}
-use Rattle.lists.specs.Lists.{boxesAllowed}
-use Rattle.lists.proofs.RoundTrip.{boxes-held}
-use Rattle.section.proofs.Held.{and-fine}
 
--- the first list is allowed
-first : (c : tie.After-enum-told) → let a = c .before .before .before .before .before .args in boxesAllowed (a .at) (a .x .reporting) ≡ Fine
-first c = sym (c .before .before .boxes-allowed .ensures) ∙ c .enum-told .given .1
-
-boxes-allowed-requires : tie.Need-boxes-allowed-requires
-boxes-allowed-requires c κs = search needs
-
-enum-known-code : tie.Need-enum-known-code
-enum-known-code c = search needs
-
-enum-told : tie.Need-enum-told
-enum-told c = search needs
-
-boxes-end-requires : tie.Need-boxes-end-requires
-boxes-end-requires c κs = (omega arith, boxes-held _ _ (first c) .few)
-
-boxes-allowed-requires-2 : tie.Need-boxes-allowed-requires-2
-boxes-allowed-requires-2 c κs = search needs
+regions-fine-requires : tie.Need-regions-fine-requires
+regions-fine-requires c κs = search needs
 
 returns : tie.Need-returns
-unfolding layoutOf contentsAllowed
-returns c = rw (sym (c .before .before .before .boxes-allowed .ensures) ∙ c .before .code .given .1)
+returns c = sym (fine-is _ (sym (c .before .regions-fine .ensures (c .before .before .args .at)) ∙ c .if1 .taken))
+
+each-boxes-allowed-requires : tie.Need-each-boxes-allowed-requires
+each-boxes-allowed-requires c κs = search needs
 
 returns-2 : tie.Need-returns-2
-unfolding layoutOf contentsAllowed
-returns-2 c = rw (first (c .before .before), c .boxes-allowed2 .ensures, c .before .boxes-end .ensures .0, and-fine)
+returns-2 c = search needs
 
 pub regions-allowed-spec : {M : Type 1} → statement M
 regions-allowed-spec =
-    tie.close
-    (tie.spec
-    boxes-allowed-requires
-    enum-known-code
-    enum-told
-    boxes-end-requires
-    boxes-allowed-requires-2
-    returns
-    returns-2)
+    tie.close (tie.spec regions-fine-requires returns each-boxes-allowed-requires returns-2)

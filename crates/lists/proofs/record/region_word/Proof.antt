@@ -1,10 +1,9 @@
--- `lists::record::region_sum` meets its contract.
+-- `lists::record::region_word` meets its contract.
 use mathlib.Core.Path.{_∙_}
-use native.Mathlib.Omega.{arith}
 use Rattle.lists.proofs.Sums.{four-zero}
 use borrow.Author.Needs.{needs}
-use Rattle.lists.proofs.record.region_sum.Statement.{statement}
-use Rattle.lists.proofs.record.region_sum.Tie as tie
+use Rattle.lists.proofs.record.region_word.Statement.{statement}
+use Rattle.lists.proofs.record.region_word.Tie as tie
 
 edge-sum-requires : tie.Need-edge-sum-requires
 edge-sum-requires c κs = search needs
@@ -30,6 +29,9 @@ mul-longitudes c = search needs
 add-longitudes : tie.Need-add-longitudes
 add-longitudes c = search needs
 
+mul-result : tie.Need-mul-result
+mul-result c = search needs
+
 add-result : tie.Need-add-result
 add-result c = search needs
 
@@ -39,10 +41,10 @@ returns c =
     let s = c .before .before .edge-sum2 .ensures in
     let w = c .before .edge-sum3 .ensures in
     let e = c .edge-sum4 .ensures in
-    (four-zero (c .before .before .before .edge-sum .result) (c .before .before .edge-sum2 .result) (c .before .edge-sum3 .result) (c .edge-sum4 .result) ∙ rw (n .0, s .0, w .0, e .0), omega arith)
+    four-zero (c .before .before .before .edge-sum .result) (c .before .before .edge-sum2 .result) (c .before .edge-sum3 .result) (c .edge-sum4 .result) ∙ rw (n .0, s .0, w .0, e .0)
 
-pub region-sum-spec : {M : Type 1} → statement M
-region-sum-spec =
+pub region-word-spec : {M : Type 1} → statement M
+region-word-spec =
     tie.close
     (tie.spec
     edge-sum-requires
@@ -53,5 +55,6 @@ region-sum-spec =
     edge-sum-requires-4
     mul-longitudes
     add-longitudes
+    mul-result
     add-result
     returns)
