@@ -274,7 +274,8 @@ esk_command_got esk_command_read(const uint8_t *text, size_t length);
 
 /*
  * Writes a command at the start of `out`, which is lent for writing, `room` bytes; on success length is the text's, at
- * most 835. The record is checked first, as its text would be, with the place where the field would stand:
+ * most 835. The command is lent for reading, and is never NULL. It is checked first, as its text would be, with the
+ * place where the field would stand:
  *   4  a flag, the downlink digit, an indicator, a mode, list, timer, letter or airfield byte that is not allowed
  *   6  zero degrees with the letter 'S' or 'W'
  *   5  a count, or a number, outside its range
@@ -283,7 +284,7 @@ esk_command_got esk_command_read(const uint8_t *text, size_t length);
  * and then
  *   2  room below the text's length; place 0
  */
-esk_answer esk_command_write(esk_command command, uint8_t *out, size_t room);
+esk_answer esk_command_write(const esk_command *command, uint8_t *out, size_t room);
 
 /* ---- the configuration ----------------------------------------------------------------------------------------- */
 
@@ -291,8 +292,8 @@ esk_answer esk_command_write(esk_command command, uint8_t *out, size_t room);
 esk_settings esk_reset(void);
 
 /* Whether a configuration is valid: 1 where the flags are 0 or 1 and every section would pass the checks of
- * esk_command_write, else 0. Nothing is lent. */
-uint8_t esk_settings_valid(esk_settings settings);
+ * esk_command_write, else 0. The configuration is lent for reading, and is never NULL. */
+uint8_t esk_settings_valid(const esk_settings *settings);
 
 /* The answer of esk_apply. 16 bytes, no padding. */
 typedef struct esk_applied {
@@ -324,12 +325,13 @@ typedef struct esk_decided {
 
 /*
  * Whether an aircraft with this configuration reports: in a phase (ESK_ASCENT..), at a latitude and longitude in
- * minutes, in an hour, at an airfield, which is lent for reading. Codes, all at place 0:
+ * minutes, in an hour, at an airfield. The configuration, which is never NULL, and the airfield are lent for reading.
+ * Codes, all at place 0:
  *   12  the configuration is not valid
  *   5   phase above 2, hour above 23, latitude not -5400 to 5400 or longitude not -10800 to 10800
  *   4   the airfield is not four bytes 'A' to 'Z' or '0' to '9', in every phase
  */
-esk_decided esk_decide(esk_settings settings, uint8_t phase, int32_t latitude, int32_t longitude, uint8_t hour,
+esk_decided esk_decide(const esk_settings *settings, uint8_t phase, int32_t latitude, int32_t longitude, uint8_t hour,
                        const uint8_t *airfield, size_t length);
 
 /* ---- joining two commands --------------------------------------------------------------------------------------- */

@@ -84,7 +84,7 @@ static int decide(const asked *q, const esk_settings *settings)
 {
     /* A well-formed name stands for one that is left out: in level flight the answer does not depend on it. */
     const char *airfield = q->airfield ? q->airfield : "0000";
-    esk_decided d = esk_decide(*settings, q->phase_number, q->north, q->east, q->hour_number,
+    esk_decided d = esk_decide(settings, q->phase_number, q->north, q->east, q->hour_number,
                                (const uint8_t *)airfield, strlen(airfield));
     if (d.code != ESK_ACCEPTED)
         return refuse_plain(NULL, A_SETTINGS, d.code, d.code == ESK_SETTINGS ? NULL : because(q, d.code));

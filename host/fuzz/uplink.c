@@ -32,11 +32,13 @@ static void command_read(input from)
 static void command_write(input from)
 {
     lent out = command_room(&from);
-    esk_command command;
-    take_into(&from, &command, sizeof command);
-    esk_answer ours = esk_command_write(command, out.ours, out.length);
-    esk_answer second = second_command_write(command, out.second, out.length);
+    esk_command held;
+    take_into(&from, &held, sizeof held);
+    lent command = lend(&held, sizeof held);
+    esk_answer ours = esk_command_write((const esk_command *)command.ours, out.ours, out.length);
+    esk_answer second = second_command_write(held, out.second, out.length);
     hold("answer", &ours, &second, sizeof ours);
+    give_back("command", command);
     give_back("out", out);
 }
 
@@ -52,11 +54,13 @@ static void reset(input from)
 /* Configuration. */
 static void settings_valid(input from)
 {
-    esk_settings settings;
-    take_into(&from, &settings, sizeof settings);
-    uint8_t ours = esk_settings_valid(settings);
-    uint8_t second = second_settings_valid(settings);
+    esk_settings held;
+    take_into(&from, &held, sizeof held);
+    lent settings = lend(&held, sizeof held);
+    uint8_t ours = esk_settings_valid((const esk_settings *)settings.ours);
+    uint8_t second = second_settings_valid(held);
     hold("answer", &ours, &second, sizeof ours);
+    give_back("settings", settings);
 }
 
 /* Configuration, text. */
@@ -76,14 +80,17 @@ static void apply(input from)
 /* Configuration, phase, hour, latitude, longitude, airfield. */
 static void decide(input from)
 {
-    esk_settings settings;
-    take_into(&from, &settings, sizeof settings);
+    esk_settings held;
+    take_into(&from, &held, sizeof held);
+    lent settings = lend(&held, sizeof held);
     uint8_t phase = take_byte(&from), hour = take_byte(&from);
     int32_t latitude = (int32_t)take_word(&from), longitude = (int32_t)take_word(&from);
     lent airfield = lend_rest(&from);
-    esk_decided ours = esk_decide(settings, phase, latitude, longitude, hour, airfield.ours, airfield.length);
-    esk_decided second = second_decide(settings, phase, latitude, longitude, hour, airfield.second, airfield.length);
+    esk_decided ours = esk_decide((const esk_settings *)settings.ours, phase, latitude, longitude, hour, airfield.ours,
+                                  airfield.length);
+    esk_decided second = second_decide(held, phase, latitude, longitude, hour, airfield.second, airfield.length);
     hold("answer", &ours, &second, sizeof ours);
+    give_back("settings", settings);
     give_back("airfield", airfield);
 }
 
@@ -104,11 +111,11 @@ static void join(input from)
 const target uplink_targets[] = {
     {"esk_command_check", "answer text", command_check},
     {"esk_command_read", "answer command text", command_read},
-    {"esk_command_write", "answer out", command_write},
+    {"esk_command_write", "answer command out", command_write},
     {"esk_reset", "settings", reset},
-    {"esk_settings_valid", "answer", settings_valid},
+    {"esk_settings_valid", "answer settings", settings_valid},
     {"esk_apply", "answer settings text", apply},
-    {"esk_decide", "answer airfield", decide},
+    {"esk_decide", "answer settings airfield", decide},
     {"esk_join", "answer first second out", join},
     {NULL, NULL, NULL},
 };

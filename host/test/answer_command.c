@@ -23,7 +23,7 @@ static const uint8_t *text_question(const uint8_t *q)
     give(&got, sizeof got);
     if (check.code == 0 && got.answer.code == 0) {
         uint8_t *out = lend(ESK_COMMAND_BYTES);
-        give_written(esk_command_write(got.command, out, ESK_COMMAND_BYTES), ESK_COMMAND_BYTES);
+        give_written(esk_command_write(&got.command, out, ESK_COMMAND_BYTES), ESK_COMMAND_BYTES);
     }
     return text.end;
 }
@@ -34,7 +34,7 @@ static const uint8_t *record_question(const uint8_t *q)
     memcpy(&command, q, sizeof command);
     size_t room = number(q + sizeof command, 2);
     uint8_t *out = lend(room);
-    esk_answer answer = esk_command_write(command, out, room);
+    esk_answer answer = esk_command_write(&command, out, room);
     give_written(answer, room);
     if (answer.code == 0) {
         esk_command_got got = esk_command_read(out, answer.length);

@@ -18,7 +18,7 @@ static const uint8_t *apply_question(const uint8_t *q)
 {
     fill((uint8_t *)&lent, sizeof lent);
     memcpy(&lent.settings, q, sizeof lent.settings);
-    uint8_t valid = esk_settings_valid(lent.settings);
+    uint8_t valid = esk_settings_valid(&lent.settings);
     give(&valid, 1);
     string text = string_at(q + sizeof lent.settings);
     esk_applied applied = esk_apply(&lent.settings, text.bytes, text.length);

@@ -25,7 +25,7 @@ static const uint8_t *question(const uint8_t *q)
     q += 2;
     for (size_t i = 0; i < n; i++, q += ASKED) {
         const uint8_t *airfield = q[10] == 0 ? NULL : q + 11;
-        esk_decided decided = esk_decide(settings, q[0], minutes(q + 2), minutes(q + 6), q[1], airfield, q[10]);
+        esk_decided decided = esk_decide(&settings, q[0], minutes(q + 2), minutes(q + 6), q[1], airfield, q[10]);
         give(&decided, sizeof decided);
     }
     return q;

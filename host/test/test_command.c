@@ -103,7 +103,9 @@ static void write_holds(esk_command c, size_t room, unsigned code, unsigned long
                         const char *why)
 {
     lent out;
-    esk_answer got = esk_command_write(c, lend(&out, NULL, room, 1), room);
+    const esk_command before = c;
+    esk_answer got = esk_command_write(&c, lend(&out, NULL, room, 1), room);
+    HOLD(memcmp(&c, &before, sizeof c) == 0);
     answer_holds(got, code, place, code == 0 ? length : 0, 0, "esk_command_write", why);
     bytes_hold(&out, text, code == 0 ? length : 0, "esk_command_write", why);
 }

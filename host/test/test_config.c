@@ -19,7 +19,7 @@ static void reset(void)
     HOLD(s.ascent.mode == 1 && s.ascent.interval1 == 6 && s.ascent.duration == 90 && s.ascent.interval2 == 20);
     HOLD(s.ascent.total == 51 && s.ascent.top == 200 && s.ascent.list == 2 && s.ascent.timer == 1);
     HOLD(s.hours.start == 0 && s.hours.end == 0);
-    HOLD(esk_settings_valid(s) == 1);
+    HOLD(esk_settings_valid(&s) == 1);
 }
 
 /* Configurations made from the full one; whether each is valid. */
@@ -140,11 +140,13 @@ static void validity(void)
         const valid_case *c = &valids[i];
         esk_settings s = full;
         c->make(&s);
+        const esk_settings before = s;
         checks++;
-        if (esk_settings_valid(s) != c->valid) {
+        if (esk_settings_valid(&s) != c->valid) {
             fail(c->why, "esk_settings_valid", (const uint8_t *)&s, sizeof s);
             exit(1);
         }
+        HOLD(memcmp(&s, &before, sizeof s) == 0);
         if (c->valid) {
             apply_holds(&s, NO_CHANGE, 22, 0, 0, 0, &s, c->why);
         } else {

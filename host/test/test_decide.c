@@ -93,7 +93,8 @@ static const decide_case cases[] = {
 static void decide_holds(esk_settings settings, const decide_case *c, size_t length)
 {
     lent in;
-    esk_decided got = esk_decide(settings, (uint8_t)c->phase, c->latitude, c->longitude, (uint8_t)c->hour,
+    const esk_settings before = settings;
+    esk_decided got = esk_decide(&settings, (uint8_t)c->phase, c->latitude, c->longitude, (uint8_t)c->hour,
                                  lend(&in, c->airfield, length, 1), length);
     checks++;
     if (got.code != c->code || got.decision != c->decision) {
@@ -105,6 +106,7 @@ static void decide_holds(esk_settings settings, const decide_case *c, size_t len
         exit(1);
     }
     bytes_hold(&in, "", 0, "esk_decide", c->why);
+    HOLD(memcmp(&settings, &before, sizeof settings) == 0);
 }
 
 /* A configuration that is not valid goes before all else. */

@@ -57,11 +57,21 @@ fn wrote_answer(w: Wrote) -> Answer
     }
 }
 
-#[no_mangle]
-pub extern "C" fn esk_command_write(command: Command, out: &mut [u8]) -> Answer
+fn write_answer(command: Command, out: &mut [u8]) -> Answer
     ensures { λ r. ⌜ (r ≡ writeNumbers (writeSeen command (length (now (out .entry)))) (length (commandText command)))
         × (now (out .exit) ≡ leftBy (writeSeen command (length (now (out .entry)))) (commandText command) (now (out .entry))) ⌝ }
 {
     let w = write(command, out);
     wrote_answer(w)
+}
+
+#[no_mangle]
+pub extern "C" fn esk_command_write(command: &Command, out: &mut [u8]) -> Answer
+    ensures { λ r. ⌜
+        (r ≡ writeNumbers (writeSeen (now (command .entry)) (length (now (out .entry)))) (length (commandText (now (command .entry)))))
+        × (now (out .exit)
+        ≡ leftBy (writeSeen (now (command .entry)) (length (now (out .entry)))) (commandText (now (command .entry))) (now (out .entry)))
+        ⌝ }
+{
+    write_answer(*command, out)
 }

@@ -17,14 +17,20 @@ pub extern "C" fn esk_reset() -> Settings
 }
 
 // 1 or 0.
-#[no_mangle]
-pub extern "C" fn esk_settings_valid(settings: Settings) -> u8
-    ensures { λ r. ⌜ r ≡ cond (valid settings) 1 0 ⌝ }
+fn valid_number(x: Settings) -> u8
+    ensures { λ r. ⌜ r ≡ cond (valid x) 1 0 ⌝ }
 {
-    if is_valid(settings) {
+    if is_valid(x) {
         return 1;
     }
     0
+}
+
+#[no_mangle]
+pub extern "C" fn esk_settings_valid(settings: &Settings) -> u8
+    ensures { λ r. ⌜ r ≡ cond (valid (now (settings .entry))) 1 0 ⌝ }
+{
+    valid_number(*settings)
 }
 
 // What the host is told, and the settings that an accepted command leaves.

@@ -31,9 +31,8 @@ fn decided_answer(d: Decided) -> HostDecided
     }
 }
 
-#[no_mangle]
-pub extern "C" fn esk_decide(
-    settings: Settings,
+fn answer_for(
+    x: Settings,
     phase: u8,
     latitude: i32,
     longitude: i32,
@@ -43,7 +42,25 @@ pub extern "C" fn esk_decide(
     ensures { λ r. ⌜
         r
         ≡ decidedNumbers
-        (decided settings (record {
+        (decided x (record { phase = phase; north = latitude; east = longitude; hour = hour; airfield = now (airfield .entry) }))
+        ⌝ }
+{
+    decided_answer(decide(x, phase, latitude, longitude, hour, airfield))
+}
+
+#[no_mangle]
+pub extern "C" fn esk_decide(
+    settings: &Settings,
+    phase: u8,
+    latitude: i32,
+    longitude: i32,
+    hour: u8,
+    airfield: &[u8],
+) -> HostDecided
+    ensures { λ r. ⌜
+        r
+        ≡ decidedNumbers
+        (decided (now (settings .entry)) (record {
           phase = phase;
           north = latitude;
           east = longitude;
@@ -52,5 +69,5 @@ pub extern "C" fn esk_decide(
         }))
         ⌝ }
 {
-    decided_answer(decide(settings, phase, latitude, longitude, hour, airfield))
+    answer_for(*settings, phase, latitude, longitude, hour, airfield)
 }

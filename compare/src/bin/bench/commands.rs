@@ -36,7 +36,7 @@ fn writes(records: &[Command]) -> [f64; 2] {
     let raw: Vec<_> = records.iter().map(meet::command).collect();
     let (mut one, mut other) = ([0; MOST], [0; MOST]);
     best(
-        || pass(&raw, |record| linked::command_write(*record, black_box(&mut one))),
+        || pass(&raw, |record| linked::command_write(record, black_box(&mut one))),
         || pass(records, |record| second_write(record, black_box(&mut other))),
     )
 }

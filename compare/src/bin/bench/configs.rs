@@ -43,7 +43,7 @@ pub fn rows(bench: &Bench) {
     for (name, held) in [("validity after reset", reset), ("validity, full lists", full)] {
         let (one, other) = (vec![meet::configuration(&held); INPUTS], vec![held; INPUTS]);
         bench.row(name, INPUTS, None, || {
-            best(|| pass(&one, |held| linked::settings_valid(*held)), || pass(&other, second_valid))
+            best(|| pass(&one, linked::settings_valid), || pass(&other, second_valid))
         });
     }
     let short: Vec<_> = (0..INPUTS).map(|_| text(&short_command(&mut random))).collect();

@@ -46,7 +46,7 @@ pub fn rows(bench: &Bench) {
         let settings: Settings = meet::configuration(&held);
         let ours = |question: &Question| {
             let Question { phase, hour, latitude, longitude, airfield } = *question;
-            linked::decide(settings, [phase, hour], [latitude, longitude], airfield)
+            linked::decide(&settings, [phase, hour], [latitude, longitude], airfield)
         };
         bench.row(name, INPUTS, None, || {
             best(|| pass(&questions, ours), || pass(&questions, |question| second_decide(&held, question)))

@@ -6,12 +6,12 @@ use desk_compare::ours::Answer;
 extern "C" {
     fn esk_command_check(text: *const u8, length: usize) -> Answer;
     fn esk_command_read(text: *const u8, length: usize) -> CommandGot;
-    fn esk_command_write(command: Command, out: *mut u8, room: usize) -> Answer;
+    fn esk_command_write(command: *const Command, out: *mut u8, room: usize) -> Answer;
     fn esk_reset() -> Settings;
-    fn esk_settings_valid(settings: Settings) -> u8;
+    fn esk_settings_valid(settings: *const Settings) -> u8;
     fn esk_apply(settings: *mut Settings, text: *const u8, length: usize) -> Applied;
     fn esk_decide(
-        settings: Settings,
+        settings: *const Settings,
         phase: u8,
         latitude: i32,
         longitude: i32,
@@ -61,7 +61,7 @@ pub fn command_read(text: &[u8]) -> CommandGot {
 }
 
 #[inline(always)]
-pub fn command_write(command: Command, out: &mut [u8]) -> Answer {
+pub fn command_write(command: &Command, out: &mut [u8]) -> Answer {
     unsafe { esk_command_write(command, out.as_mut_ptr(), out.len()) }
 }
 
@@ -71,7 +71,7 @@ pub fn reset() -> Settings {
 }
 
 #[inline(always)]
-pub fn settings_valid(settings: Settings) -> u8 {
+pub fn settings_valid(settings: &Settings) -> u8 {
     unsafe { esk_settings_valid(settings) }
 }
 
@@ -82,7 +82,7 @@ pub fn apply(settings: &mut Settings, text: &[u8]) -> Applied {
 
 /// Phase, hour; latitude, longitude.
 #[inline(always)]
-pub fn decide(settings: Settings, [phase, hour]: [u8; 2], [north, east]: [i32; 2], airfield: &[u8]) -> Decided {
+pub fn decide(settings: &Settings, [phase, hour]: [u8; 2], [north, east]: [i32; 2], airfield: &[u8]) -> Decided {
     unsafe { esk_decide(settings, phase, north, east, hour, airfield.as_ptr(), airfield.len()) }
 }
 
