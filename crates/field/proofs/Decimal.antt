@@ -1,6 +1,6 @@
 -- Decimal numbers: what digits are worth and how a number is spelt, by one law over the width each.
 use mathlib.Core.Path.{_≡_, refl, ap, _∙_}
-use mathlib.Core.Bool.{true, false}
+use mathlib.Core.Bool.{true, false, _&&_}
 use mathlib.Core.List.{List, [], _∷_}
 use Prim.Native.Nat.{ℕ, zero, suc, _+_, _-_, _*_, _/_, _%_, _^_, _≤_, _<_}
 use native.Mathlib.Omega.{arith}
@@ -48,6 +48,14 @@ module _ (s : List ℕ) (at w i : ℕ) (h : at + w ≤ length s) (k : i < w) whe
   pub digits-step : isDigit (getD s (at + i) 0) ≡ true → allDigits (drop i (part at w s)) ≡ allDigits (drop (i + 1) (part at w s))
   unfolding allDigits
   digits-step e = rw (part-next s at w i h k, e)
+
+  -- where all that is left are digits, the next byte is one, and so are those behind it
+  pub digits-next : allDigits (drop i (part at w s)) ≡ true
+      → (isDigit (getD s (at + i) 0) ≡ true) × (allDigits (drop (i + 1) (part at w s)) ≡ true)
+  unfolding allDigits
+  digits-next e =
+      let split : (isDigit (getD s (at + i) 0) && allDigits (drop (i + 1) (part at w s))) ≡ true = rw (part-next s at w i h k) at e in
+      (both-left (isDigit (getD s (at + i) 0)) _ split, both-right (isDigit (getD s (at + i) 0)) _ split)
 
   -- a byte that is no digit
   pub digits-stop : isDigit (getD s (at + i) 0) ≡ false → allDigits (drop i (part at w s)) ≡ false

@@ -34,11 +34,6 @@ number-is ds h =
     (λ (d : allDigits ds ≡ true). (d, rw d))
     (λ (d : allDigits ds ≡ false). absurd (omega (arith, rw d at h)))
 
--- and digits, three at the most, spell one
-pub number-digits : (ds : List ℕ) → allDigits ds ≡ true → numberOr ds ≡ value ds
-unfolding numberOr
-number-digits ds d = rw d
-
 pub number-none : (ds : List ℕ) → length ds ≤ 3 → 999 < numberOr ds → allDigits ds ≡ false
 unfolding numberOr
 number-none ds l h =

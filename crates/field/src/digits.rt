@@ -43,14 +43,20 @@ pub fn number_at(s: &[u8], at: usize, w: usize) -> usize
     n
 }
 
-// What w digits spell, where they are known to be digits.
+// What w digits spell, where they are known to be digits: none is tested again.
 pub fn value_at(s: &[u8], at: usize, w: usize) -> usize
     requires { ⌜ at + w ≤ length (now s) ⌝ }
     requires { ⌜ w ≤ 3 ⌝ }
     requires { ⌜ allDigits (part at w (now s)) ≡ true ⌝ }
     ensures { λ r. ⌜ r ≡ value (part at w (now (s .entry))) ⌝ }
 {
-    number_at(s, at, w)
+    let mut n: usize = 0;
+    let mut i = 0;
+    while i < w {
+        n = n * 10 + worth(s[at + i]);
+        i += 1;
+    }
+    n
 }
 
 // The same for a number that a byte holds.
