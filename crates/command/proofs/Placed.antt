@@ -12,11 +12,13 @@ use Rattle.text.proofs.Cases.{by-test, by-eq, both-left, both-right}
 use Rattle.field.specs.declared.Step.the-variants.{Next}
 use Rattle.field.proofs.Local.{after-cases}
 use Rattle.section.specs.Layout.{layoutOf, isEmpty, checkSection, itemsSize, Accepted}
+use Rattle.section.specs.Places.{listsAt}
 use Rattle.section.specs.Contents.{Content, contentsAt}
+use Rattle.section.specs.declared.size.Lists.{Lists}
 use Rattle.section.proofs.Own.{cut-end}
 use Rattle.command.specs.Text.{isFlag, isIndicator, numbers, isNamed, checkFrom, checkCommand}
 use Rattle.command.specs.Record.{held, heldIn}
-use Rattle.command.specs.Steps.{isOneOf, placeFrom, Stands, heldOver}
+use Rattle.command.specs.Steps.{isOneOf, placeFrom, placeOf, listsIn, Stands, ListsStand, heldOver}
 use Rattle.command.proofs.Each.{Each, each-map, each-with}
 use Rattle.command.proofs.Accepted.{accepted, flag-byte, downlink-byte, indicators-are}
 
@@ -91,6 +93,24 @@ module _ {s : List ℕ} {k at : ℕ} (p : Stands s k at) where
   -- and holds what the text holds there
   pub stands-held : isNamed s k ≡ true → contentsAt (layoutOf k) s at ≡ heldIn s k
   stands-held n = rw (p .place) (sym (held-place numbers s 22 k (p .number) n))
+
+-- ---- The lists of section 3
+
+first-of : (s : List ℕ) (at : ℕ) → listsIn s at .first ≡ at
+first-of s at = by-test (isNamed s 3) (λ (n : isNamed s 3 ≡ true). rw n) (λ (n : isNamed s 3 ≡ false). rw n)
+
+-- found at the section's place they are the text's
+pub lists-stand : {s : List ℕ} {p : Lists} → checkCommand s ≡ Fine → p ≡ listsIn s (placeOf s 3) → ListsStand s p
+lists-stand {s} {p} fine e =
+    let first : p .first ≡ placeOf s 3 = ap (λ (x : Lists). x .first) e ∙ first-of s (placeOf s 3) in
+    record {
+      stands = record { fine = fine; number = refl; place = first };
+      lists = e ∙ ap (listsIn s) (sym first);
+    }
+
+-- those of a named section are where its counts say
+pub lists-named : {s : List ℕ} {p : Lists} → ListsStand s p → isNamed s 3 ≡ true → p ≡ listsAt s (p .first)
+lists-named l n = l .lists ∙ rw n
 
 -- ---- The digits of the first 22 bytes
 

@@ -21,6 +21,7 @@ use section::read::enroute_at;
 use section::read::hours_at;
 use section::read::mark_at;
 use section::read::regions_at;
+use section::size::Lists;
 use text::Seen;
 ghost use mathlib.Core.Path.{_≡_};
 ghost use mathlib.Core.Bool.{cond};
@@ -34,7 +35,7 @@ ghost use Rattle.section.specs.Layout.{layoutOf};
 ghost use Rattle.section.specs.Settings.{regionsHold, airportsHold, enrouteHold, ascentHold, digitHold, hoursHold, contentsOf, amountIn, byPhase, regionsFrom, airportsFrom, enrouteFrom, ascentFrom, hoursFrom, settingsFrom};
 ghost use Rattle.command.specs.Text.{isNamed, checkCommand};
 ghost use Rattle.command.specs.Record.{heldIn, digitsOf, flagsOf, downlinkOf, commandOf, noCommand, readCommand};
-ghost use Rattle.command.specs.Steps.{Stands, heldOver};
+ghost use Rattle.command.specs.Steps.{Stands, ListsStand, heldOver};
 
 // ---- Each section: what the text holds where it names the section, else the old one
 
@@ -48,12 +49,12 @@ fn regions_over(s: &[u8], at: usize, old: Regions) -> Regions
     old
 }
 
-fn airports_over(s: &[u8], at: usize, old: Airports) -> Airports
-    requires { ⌜ Stands (now s) 3 at ⌝ }
+fn airports_over(s: &[u8], p: Lists, old: Airports) -> Airports
+    requires { ⌜ ListsStand (now s) p ⌝ }
     ensures { λ r. ⌜ r ≡ airportsFrom (heldOver (now (s .entry)) 3 (airportsHold old)) ⌝ }
 {
     if is_named(s, 3) {
-        return airports_at(s, at);
+        return airports_at(s, p);
     }
     old
 }
@@ -108,10 +109,11 @@ pub fn settings_over(x: Settings, flags: [u8; 7], s: &[u8]) -> Settings
         ⌝ }
 {
     let p = places_of(s);
+    let lists = p.airports;
     Settings {
         flags,
         regions: regions_over(s, p.regions, x.regions),
-        airports: airports_over(s, p.airports, x.airports),
+        airports: airports_over(s, lists, x.airports),
         enroute: enroute_over(s, p.enroute, x.enroute),
         ascent: ascent_over(s, p.ascent, x.ascent),
         routine6: digit_over(s, 6, p.routine6, x.routine6),
@@ -262,14 +264,24 @@ fn regions_in(s: &[u8], at: usize) -> Regions
     regions_at(s, at)
 }
 
-fn airports_in(s: &[u8], at: usize) -> Airports
-    requires { ⌜ Stands (now s) 3 at ⌝ }
+fn airports_in(s: &[u8], p: Lists) -> Airports
+    requires { ⌜ ListsStand (now s) p ⌝ }
     ensures { λ r. ⌜ r ≡ airportsFrom (heldIn (now (s .entry)) 3) ⌝ }
 {
     if !is_named(s, 3) {
         return no_airports();
     }
-    airports_at(s, at)
+    airports_at(s, p)
+}
+
+fn ascent_in(s: &[u8], at: usize) -> Ascent
+    requires { ⌜ Stands (now s) 5 at ⌝ }
+    ensures { λ r. ⌜ r ≡ ascentFrom (heldIn (now (s .entry)) 5) ⌝ }
+{
+    if !is_named(s, 5) {
+        return no_ascent();
+    }
+    ascent_at(s, at)
 }
 
 // Flags and sections of an accepted text: those that aren't named are zero.
@@ -278,6 +290,7 @@ fn settings_of(s: &[u8]) -> Settings
     ensures { λ r. ⌜ r ≡ settingsFrom (flagsOf (now (s .entry))) (heldIn (now (s .entry))) ⌝ }
 {
     let p = places_of(s);
+    let lists = p.airports;
     let enroute = Enroute {
         interval: 0,
         wind: 0,
@@ -286,9 +299,9 @@ fn settings_of(s: &[u8]) -> Settings
     Settings {
         flags: flags_of(s),
         regions: regions_in(s, p.regions),
-        airports: airports_in(s, p.airports),
+        airports: airports_in(s, lists),
         enroute: enroute_over(s, p.enroute, enroute),
-        ascent: ascent_over(s, p.ascent, no_ascent()),
+        ascent: ascent_in(s, p.ascent),
         routine6: digit_over(s, 6, p.routine6, 0),
         routine8: digit_over(s, 8, p.routine8, 0),
         hours: hours_over(s, p.hours, hours),

@@ -17,7 +17,8 @@ use Rattle.field.specs.declared.Step.the-variants.{Next}
 use Rattle.field.proofs.Accepted.{Both, both, number, mark}
 use Rattle.lists.specs.Lists.{countAt, checkList, checkAirfields, checkBoxes}
 use Rattle.lists.proofs.Accepted.{counted}
-use Rattle.section.specs.Layout.{Item, AirfieldList, BoxList, checkItem, checkItems, itemSize, itemsSize}
+use Rattle.section.specs.Layout.{Item, Number, AirfieldList, BoxList, layoutOf, Accepted, checkItem, checkItems, itemSize, itemsSize}
+use Rattle.section.specs.Places.{listsAt}
 use Rattle.section.proofs.Local.{item-sized}
 use Rattle.section.proofs.Own.{cut-inside}
 use Rattle.section.proofs.Come.{lists}
@@ -91,12 +92,34 @@ module _ (limit : ℕ) (entry : List ℕ → ℕ → Step) (w : ℕ) (s : List �
       let same : at + (2 + w * countAt s at) ≡ at + 2 + w * countAt s at = omega arith in
       (omega (arith, n .room), e ∙ ap Next same)
 
--- ---- Airfield lists, one after the other
+-- ---- The four lists of section 3
 
--- while i of n are passed, one more is left
-pub lists-turn : (n i : ℕ) (js : List Item) → i < n → lists (n - i) js ≡ AirfieldList ∷ lists (n - (i + 1)) js
-lists-turn n i js h = let one : n - i ≡ suc (n - (i + 1)) = omega arith in rw one
+abbrev digit : List Item
+digit = Number 1 0 1 ∷ []
 
--- and behind the last none
-pub lists-end : (n i : ℕ) (js : List Item) → n ≤ i → lists (n - i) js ≡ js
-lists-end n i js h = let e : n - i ≡ 0 = omega arith in rw e
+-- each of them, and the digit behind them, where it stands
+module _ (s : List ℕ) (at : ℕ) (e : Accepted 3 s at) where
+  pub left-first : Left (lists 4 digit) s at (lists 4 digit) at
+  unfolding layoutOf
+  left-first = left-all e
+
+  pub left-second : Left (lists 4 digit) s at (lists 3 digit) (listsAt s at .second)
+  left-second = left-on left-first
+
+  pub left-third : Left (lists 4 digit) s at (lists 2 digit) (listsAt s at .third)
+  left-third = left-on left-second
+
+  pub left-fourth : Left (lists 4 digit) s at (lists 1 digit) (listsAt s at .fourth)
+  left-fourth = left-on left-third
+
+  pub left-last : Left (lists 4 digit) s at digit (listsAt s at .last)
+  left-last = left-on left-fourth
+
+  -- the section ends two bytes behind the last
+  pub lists-size : at + itemsSize (layoutOf 3) s at ≡ listsAt s at .last + 2
+  unfolding layoutOf itemsSize
+  lists-size = omega arith
+
+  -- in the text
+  pub lists-inside : listsAt s at .last + 2 ≤ length s
+  lists-inside = rw (← lists-size) (cut-inside (layoutOf 3) s at (at + itemsSize (layoutOf 3) s at) e)

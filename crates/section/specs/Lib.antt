@@ -1,4 +1,5 @@
 pub mod Contents
 pub mod Layout
+pub mod Places
 pub mod Settings
 pub mod Turn

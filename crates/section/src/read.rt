@@ -5,6 +5,7 @@ use crate::ByPhase;
 use crate::Enroute;
 use crate::Hours;
 use crate::Regions;
+use crate::size::Lists;
 use crate::size::list_end;
 use field::digits::small_at;
 use field::digits::value_at;
@@ -19,6 +20,7 @@ ghost use Rattle.field.specs.Decimal.{allDigits, value};
 ghost use Rattle.field.specs.declared.Step.the-variants.{Next};
 ghost use Rattle.lists.specs.Lists.{countAt, checkAirfields, airfieldsAt};
 ghost use Rattle.section.specs.Layout.{layoutOf, Accepted};
+ghost use Rattle.section.specs.Places.{listsAt};
 ghost use Rattle.section.specs.Contents.{contentsAt};
 ghost use Rattle.section.specs.Settings.{amountIn, regionsFrom, airportsFrom, enrouteFrom, ascentFrom, hoursFrom, byPhase};
 
@@ -48,18 +50,15 @@ fn phases_at(s: &[u8], ascent: usize, descent: usize) -> ByPhase
 }
 
 // Section 3: selected for the ascent, for the descent, inhibited for each, and the routine digit.
-pub fn airports_at(s: &[u8], at: usize) -> Airports
-    requires { ⌜ Accepted 3 (now s) at ⌝ }
-    ensures { λ r. ⌜ r ≡ airportsFrom (contentsAt (layoutOf 3) (now (s .entry)) at) ⌝ }
+pub fn airports_at(s: &[u8], p: Lists) -> Airports
+    requires { ⌜ Accepted 3 (now s) (p .first) ⌝ }
+    requires { ⌜ p ≡ listsAt (now s) (p .first) ⌝ }
+    ensures { λ r. ⌜ r ≡ airportsFrom (contentsAt (layoutOf 3) (now (s .entry)) (p .first)) ⌝ }
 {
-    let second = list_end(s, at, 4);
-    let third = list_end(s, second, 4);
-    let fourth = list_end(s, third, 4);
-    let last = list_end(s, fourth, 4);
     Airports {
-        selected: phases_at(s, at, second),
-        inhibited: phases_at(s, third, fourth),
-        routine: small_at(s, last, 1),
+        selected: phases_at(s, p.first, p.second),
+        inhibited: phases_at(s, p.third, p.fourth),
+        routine: small_at(s, p.last, 1),
     }
 }
 

@@ -8,6 +8,7 @@ ghost use Rattle.text.specs.Parts.{part};
 ghost use Rattle.field.specs.Decimal.{allDigits};
 ghost use Rattle.lists.specs.Lists.{countAt};
 ghost use Rattle.section.specs.Layout.{layoutOf, itemsSize, Accepted};
+ghost use Rattle.section.specs.Places.{listsAt};
 
 // Where a list ends that stands at a place: a count, and as many entries of w bytes.
 pub fn list_end(s: &[u8], at: usize, w: usize) -> usize
@@ -29,18 +30,40 @@ fn regions_size(s: &[u8], at: usize) -> usize
     end + 1 - at
 }
 
+// Where the four lists of section 3 stand, and the digit behind them.
+pub struct Lists {
+    pub first: usize,
+    pub second: usize,
+    pub third: usize,
+    pub fourth: usize,
+    pub last: usize,
+}
+
+// The lists of a section 3 that stands at a place: its counts are read here alone.
+pub fn lists_at(s: &[u8], at: usize) -> Lists
+    requires { ⌜ Accepted 3 (now s) at ⌝ }
+    ensures { λ r. ⌜ r ≡ listsAt (now (s .entry)) at ⌝ }
+{
+    let second = list_end(s, at, 4);
+    let third = list_end(s, second, 4);
+    let fourth = list_end(s, third, 4);
+    let last = list_end(s, fourth, 4);
+    Lists {
+        first: at,
+        second,
+        third,
+        fourth,
+        last,
+    }
+}
+
 // Four lists of airfields, and a digit.
 fn airports_size(s: &[u8], at: usize) -> usize
     requires { ⌜ Accepted 3 (now s) at ⌝ }
     ensures { λ r. ⌜ r ≡ itemsSize (layoutOf 3) (now (s .entry)) at ⌝ }
 {
-    let mut p = at;
-    let mut i: usize = 0;
-    while i < 4 {
-        p = list_end(s, p, 4);
-        i += 1;
-    }
-    p + 2 - at
+    let p = lists_at(s, at);
+    p.last + 2 - at
 }
 
 // Section k, with its `/`.

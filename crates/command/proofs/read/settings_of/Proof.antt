@@ -2,9 +2,9 @@
 use mathlib.Core.Path.{refl, ap}
 use mathlib.Core.List.{[]}
 use Rattle.section.specs.Layout.{layoutOf}
-use Rattle.section.specs.Settings.{amountIn, enrouteHold, enrouteFrom, ascentHold, ascentFrom, digitHold, hoursHold, hoursFrom, settingsFrom}
+use Rattle.section.specs.Settings.{amountIn, enrouteHold, enrouteFrom, digitHold, hoursHold, hoursFrom, settingsFrom}
 use Rattle.command.specs.declared.places.Places.{Places}
-use Rattle.command.proofs.Placed.{over-zero}
+use Rattle.command.proofs.Placed.{over-zero, lists-stand}
 use borrow.Author.Needs.{needs}
 use Rattle.command.proofs.read.settings_of.Statement.{statement}
 use Rattle.command.proofs.read.settings_of.Tie as tie
@@ -16,19 +16,16 @@ flags-of-requires : tie.Need-flags-of-requires
 flags-of-requires c κs = search needs
 
 regions-in-requires : tie.Need-regions-in-requires
-regions-in-requires c κs = record { fine = c .before .before .before .pre; number = refl; place = ap (λ (p : Places). p .regions) (c .before .places-of .ensures) }
+regions-in-requires c κs = record { fine = c .before .before .before .before .pre; number = refl; place = ap (λ (p : Places). p .regions) (c .before .before .places-of .ensures) }
 
 airports-in-requires : tie.Need-airports-in-requires
-airports-in-requires c κs = record { fine = c .before .before .before .before .pre; number = refl; place = ap (λ (p : Places). p .airports) (c .before .before .places-of .ensures) }
+airports-in-requires c κs = lists-stand (c .before .before .before .before .before .pre) (ap (λ (p : Places). p .airports) (c .before .before .before .places-of .ensures))
 
 enroute-over-requires : tie.Need-enroute-over-requires
-enroute-over-requires c κs = record { fine = c .before .before .before .before .before .pre; number = refl; place = ap (λ (p : Places). p .enroute) (c .before .before .before .places-of .ensures) }
+enroute-over-requires c κs = record { fine = c .before .before .before .before .before .before .pre; number = refl; place = ap (λ (p : Places). p .enroute) (c .before .before .before .before .places-of .ensures) }
 
-no-ascent-requires : tie.Need-no-ascent-requires
-no-ascent-requires c κs = search needs
-
-ascent-over-requires : tie.Need-ascent-over-requires
-ascent-over-requires c κs = record { fine = c .before .before .before .before .before .before .before .pre; number = refl; place = ap (λ (p : Places). p .ascent) (c .before .before .before .before .before .places-of .ensures) }
+ascent-in-requires : tie.Need-ascent-in-requires
+ascent-in-requires c κs = record { fine = c .before .before .before .before .before .before .before .pre; number = refl; place = ap (λ (p : Places). p .ascent) (c .before .before .before .before .before .places-of .ensures) }
 
 digit-over-requires : tie.Need-digit-over-requires
 unfolding layoutOf
@@ -42,7 +39,7 @@ hours-over-requires : tie.Need-hours-over-requires
 hours-over-requires c κs = record { fine = c .before .before .before .before .before .before .before .before .before .before .pre; number = refl; place = ap (λ (p : Places). p .hours) (c .before .before .before .before .before .before .before .before .places-of .ensures) }
 
 returns : tie.Need-returns
-unfolding settingsFrom enrouteFrom ascentFrom hoursFrom
+unfolding settingsFrom enrouteFrom hoursFrom
 returns c =
     let s = c .before .before .before .before .before .before .before .before .before .before .before .args .s .now in
     rw (
@@ -52,14 +49,12 @@ returns c =
       over-zero s (λ cs. amountIn cs 0) 8 (digitHold 0) refl,
       c .before .before .digit-over .ensures,
       over-zero s (λ cs. amountIn cs 0) 6 (digitHold 0) refl,
-      c .before .before .before .ascent-over .ensures,
-      c .before .before .before .before .no-ascent .ensures,
-      over-zero s ascentFrom 5 (ascentHold (ascentFrom [])) refl,
-      c .before .before .before .before .before .enroute-over .ensures,
+      c .before .before .before .ascent-in .ensures,
+      c .before .before .before .before .enroute-over .ensures,
       over-zero s enrouteFrom 4 (enrouteHold (enrouteFrom [])) refl,
-      c .before .before .before .before .before .before .airports-in .ensures,
-      c .before .before .before .before .before .before .before .regions-in .ensures,
-      c .before .before .before .before .before .before .before .before .flags-of .ensures,
+      c .before .before .before .before .before .airports-in .ensures,
+      c .before .before .before .before .before .before .regions-in .ensures,
+      c .before .before .before .before .before .before .before .flags-of .ensures,
     )
 
 pub settings-of-spec : {M : Type 1} → statement M
@@ -71,8 +66,7 @@ settings-of-spec =
     regions-in-requires
     airports-in-requires
     enroute-over-requires
-    no-ascent-requires
-    ascent-over-requires
+    ascent-in-requires
     digit-over-requires
     digit-over-requires-2
     hours-over-requires
