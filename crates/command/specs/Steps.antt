@@ -73,3 +73,8 @@ pub record ListsStand (s : List ℕ) (p : Lists) : Type 0 where
 -- what section k holds over what it held: the text's where it is named
 abbrev pub heldOver : List ℕ → ℕ → List Content → List Content
 heldOver s k old = cond (isNamed s k) (heldIn s k) old
+
+-- whether a text names a section at all
+abbrev pub namesAny : List ℕ → Bool
+namesAny s =
+    isNamed s 2 || isNamed s 3 || isNamed s 4 || isNamed s 5 || isNamed s 6 || isNamed s 8 || isNamed s 9

@@ -16,7 +16,7 @@ pub struct Command {
     pub named: [u8; 8],
 }
 
-// What reading gives: the command, or the refusal's code and place beside the one empty command.
+// What reading means: the command, or the refusal's code and place beside the one empty command. Contracts speak of it.
 pub struct Got {
     pub code: u8,
     pub place: usize,

@@ -1,7 +1,5 @@
 // Reading a command: its text checked, then what it holds as a record.
 use crate::Command;
-use crate::Got;
-use crate::check::check;
 use crate::check::is_named;
 use crate::places::places_of;
 use field::read::no_region;
@@ -22,9 +20,8 @@ use section::read::hours_at;
 use section::read::mark_at;
 use section::read::regions_at;
 use section::size::Lists;
-use text::Seen;
 ghost use mathlib.Core.Path.{_≡_};
-ghost use mathlib.Core.Bool.{cond};
+ghost use mathlib.Core.Bool.{false, cond};
 ghost use mathlib.Core.List.{[]};
 ghost use Prim.Native.Nat.{ℕ};
 ghost use lib.ListN.{replicate};
@@ -34,8 +31,8 @@ ghost use Rattle.lists.specs.Lists.{noAirfields, noBoxes};
 ghost use Rattle.section.specs.Layout.{layoutOf};
 ghost use Rattle.section.specs.Settings.{regionsHold, airportsHold, enrouteHold, ascentHold, digitHold, hoursHold, contentsOf, amountIn, byPhase, regionsFrom, airportsFrom, enrouteFrom, ascentFrom, hoursFrom, settingsFrom};
 ghost use Rattle.command.specs.Text.{isNamed, checkCommand};
-ghost use Rattle.command.specs.Record.{heldIn, digitsOf, flagsOf, downlinkOf, commandOf, noCommand, readCommand};
-ghost use Rattle.command.specs.Steps.{Stands, ListsStand, heldOver};
+ghost use Rattle.command.specs.Record.{heldIn, digitsOf, flagsOf, downlinkOf, commandOf, noCommand};
+ghost use Rattle.command.specs.Steps.{Stands, ListsStand, heldOver, namesAny};
 
 // ---- Each section: what the text holds where it names the section, else the old one
 
@@ -221,12 +218,12 @@ pub fn no_airports() -> Airports
     }
 }
 
-// The settings that every refusal carries.
-pub fn no_settings() -> Settings
-    ensures { λ r. ⌜ r ≡ settingsFrom (replicate 7 0) (λ (k : ℕ). []) ⌝ }
+// Flags, and sections that hold nothing.
+fn only_flags(flags: [u8; 7]) -> Settings
+    ensures { λ r. ⌜ r ≡ settingsFrom flags (λ (k : ℕ). []) ⌝ }
 {
     Settings {
-        flags: [0u8; 7],
+        flags,
         regions: no_regions(),
         airports: no_airports(),
         enroute: Enroute {
@@ -240,8 +237,15 @@ pub fn no_settings() -> Settings
     }
 }
 
+// The settings that every refusal carries.
+pub fn no_settings() -> Settings
+    ensures { λ r. ⌜ r ≡ settingsFrom (replicate 7 0) (λ (k : ℕ). []) ⌝ }
+{
+    only_flags([0u8; 7])
+}
+
 // The command that every refusal carries.
-fn no_command() -> Command
+pub fn no_command() -> Command
     ensures { λ r. ⌜ r ≡ noCommand ⌝ }
 {
     Command {
@@ -308,8 +312,38 @@ fn settings_of(s: &[u8]) -> Settings
     }
 }
 
+// Whether a text names a section at all.
+pub fn names_any(s: &[u8]) -> bool
+    requires { ⌜ checkCommand (now s) ≡ Fine ⌝ }
+    ensures { λ r. ⌜ r ≡ namesAny (now (s .entry)) ⌝ }
+{
+    is_named(s, 2)
+        | is_named(s, 3)
+        | is_named(s, 4)
+        | is_named(s, 5)
+        | is_named(s, 6)
+        | is_named(s, 8)
+        | is_named(s, 9)
+}
+
+// The command of an accepted text that names none: its first digits, and zeros.
+pub fn head_of(s: &[u8]) -> Command
+    requires { ⌜ checkCommand (now s) ≡ Fine ⌝ }
+    requires { ⌜ namesAny (now s) ≡ false ⌝ }
+    ensures { λ r. ⌜ r ≡ commandOf (now (s .entry)) ⌝ }
+{
+    let flags = flags_of(s);
+    let downlink = downlink_of(s);
+    let named = named_of(s);
+    Command {
+        settings: only_flags(flags),
+        downlink,
+        named,
+    }
+}
+
 // An accepted text's command.
-fn command_of(s: &[u8]) -> Command
+pub fn command_of(s: &[u8]) -> Command
     requires { ⌜ checkCommand (now s) ≡ Fine ⌝ }
     ensures { λ r. ⌜ r ≡ commandOf (now (s .entry)) ⌝ }
 {
@@ -317,22 +351,5 @@ fn command_of(s: &[u8]) -> Command
         settings: settings_of(s),
         downlink: downlink_of(s),
         named: named_of(s),
-    }
-}
-
-pub fn read(s: &[u8]) -> Got
-    ensures { λ r. ⌜ r ≡ readCommand (now (s .entry)) ⌝ }
-{
-    match check(s) {
-        Seen::Bad(code, place) => Got {
-            code,
-            place,
-            command: no_command(),
-        },
-        Seen::Fine => Got {
-            code: 0,
-            place: 0,
-            command: command_of(s),
-        },
     }
 }

@@ -5,17 +5,20 @@ use crate::answers::answer_of;
 use crate::answers::length_of;
 use crate::answers::numbers;
 use command::Command;
-use command::Got;
 use command::Wrote;
 use command::check::check;
-use command::read::read;
+use command::read::command_of;
+use command::read::head_of;
+use command::read::names_any;
+use command::read::no_command;
 use command::write::write;
+use text::Seen;
 ghost use mathlib.Core.Path.{_≡_};
 ghost use Prim.Native.Nat.{_≤_};
 ghost use lib.ListN.{length};
 ghost use Rattle.command.specs.Text.{checkCommand};
 ghost use Rattle.command.specs.Record.{readCommand, commandText, writeSeen, leftBy};
-ghost use Rattle.desk.specs.Numbers.{checkNumbers, writeNumbers};
+ghost use Rattle.desk.specs.Numbers.{answerOf, checkNumbers, writeNumbers};
 ghost use Rattle.desk.specs.Commands.{commandNumbers};
 ghost use Rattle.desk.specs.Steps.{wroteNumbers};
 
@@ -26,21 +29,29 @@ pub extern "C" fn esk_command_check(text: &[u8]) -> Answer
     numbers(check(text), 0)
 }
 
-fn command_answer(g: Got) -> CommandAnswer
-    ensures { λ r. ⌜ r ≡ commandNumbers g ⌝ }
-{
-    let command = g.command;
-    CommandAnswer {
-        answer: answer_of(g.code, g.place),
-        command,
-    }
-}
-
+// A text that names no section has a way of its own: its digits are read first, and then all else of the answer is zero.
 #[no_mangle]
 pub extern "C" fn esk_command_read(text: &[u8]) -> CommandAnswer
     ensures { λ r. ⌜ r ≡ commandNumbers (readCommand (now (text .entry))) ⌝ }
 {
-    command_answer(read(text))
+    match check(text) {
+        Seen::Bad(code, place) => CommandAnswer {
+            answer: answer_of(code, place),
+            command: no_command(),
+        },
+        Seen::Fine => {
+            if !names_any(text) {
+                return CommandAnswer {
+                    answer: answer_of(0, 0),
+                    command: head_of(text),
+                };
+            }
+            CommandAnswer {
+                answer: answer_of(0, 0),
+                command: command_of(text),
+            }
+        }
+    }
 }
 
 // The length of what was written, or the refusal.

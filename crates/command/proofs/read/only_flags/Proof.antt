@@ -1,8 +1,8 @@
--- `command::read::no_settings` meets its contract.
+-- `command::read::only_flags` meets its contract.
 use Rattle.section.specs.Settings.{settingsFrom, enrouteFrom, hoursFrom}
 use borrow.Author.Needs.{needs}
-use Rattle.command.proofs.read.no_settings.Statement.{statement}
-use Rattle.command.proofs.read.no_settings.Tie as tie
+use Rattle.command.proofs.read.only_flags.Statement.{statement}
+use Rattle.command.proofs.read.only_flags.Tie as tie
 
 no-regions-requires : tie.Need-no-regions-requires
 no-regions-requires c κs = search needs
@@ -17,6 +17,6 @@ returns : tie.Need-returns
 unfolding settingsFrom enrouteFrom hoursFrom
 returns c = rw (c .no-ascent .ensures, c .before .no-airports .ensures, c .before .before .no-regions .ensures)
 
-pub no-settings-spec : {M : Type 1} → statement M
-no-settings-spec =
+pub only-flags-spec : {M : Type 1} → statement M
+only-flags-spec =
     tie.close (tie.spec no-regions-requires no-airports-requires no-ascent-requires returns)
