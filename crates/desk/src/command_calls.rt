@@ -18,7 +18,7 @@ ghost use Prim.Native.Nat.{_≤_};
 ghost use lib.ListN.{length};
 ghost use Rattle.command.specs.Text.{checkCommand};
 ghost use Rattle.command.specs.Record.{readCommand, commandText, writeSeen, leftBy};
-ghost use Rattle.desk.specs.Numbers.{answerOf, checkNumbers, writeNumbers};
+ghost use Rattle.desk.specs.Numbers.{checkNumbers, writeNumbers};
 ghost use Rattle.desk.specs.Commands.{commandNumbers};
 ghost use Rattle.desk.specs.Steps.{wroteNumbers};
 

@@ -39,7 +39,7 @@ pub struct Lists {
     pub last: usize,
 }
 
-// The lists of a section 3 that stands at a place: its counts are read here alone.
+// The lists of a section 3 that stands at a place, each found behind the one before it.
 pub fn lists_at(s: &[u8], at: usize) -> Lists
     requires { ⌜ Accepted 3 (now s) at ⌝ }
     ensures { λ r. ⌜ r ≡ listsAt (now (s .entry)) at ⌝ }
