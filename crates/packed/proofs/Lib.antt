@@ -5,5 +5,6 @@ pub mod Put
 pub mod Refusal
 pub mod RoundTrip
 pub mod Scan
+mod Runs
 pub mod Short
 pub mod Signs

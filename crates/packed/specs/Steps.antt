@@ -1,10 +1,10 @@
 -- What the inner functions of the reader and the writer answer. No promise to a caller rests on these names.
 use mathlib.Core.Bool.{Bool, cond, _&&_}
 use mathlib.Core.List.{List}
-use Prim.Native.Nat.{ℕ, _+_, _%_}
+use Prim.Native.Nat.{ℕ, _+_, _*_, _%_}
 use lib.Dec.{leb, ltb}
 use lib.ListN.{length}
-use Rattle.packed.specs.Packed.{digitOf, number, allDigits, allSolidi, fault}
+use Rattle.packed.specs.Packed.{worthOf, digitOf, number, allDigits, allSolidi, fault, spelt}
 use Rattle.packed.specs.declared.Figure.the-variants.{Missing}
 use Rattle.packed.specs.declared.Packed.{Packed}
 use Rattle.packed.specs.declared.Packed.the-variants.{Is, Refused}
@@ -18,6 +18,14 @@ numberOf ds = cond (ltb 0 (length ds) && allDigits ds) (Whole (number 0 ds)) Oth
 -- a field that is no run of digits behind spaces
 unfoldable pub otherField : List ℕ → Packed
 otherField f = cond (allSolidi f) (Is Missing) (Refused 4 (fault f))
+
+-- a number and one digit more
+unfoldable pub oneMore : ℕ → ℕ → Number
+oneMore n b = cond (ltb (worthOf b) 40) (Whole (n * 40 + worthOf b)) Other
+
+-- a field of which n is read, and ds are left, of k digits in all
+unfoldable pub runOf : List ℕ → ℕ → ℕ → List ℕ → Packed
+runOf f k n ds = cond (allDigits ds) (spelt (number n ds) k) (otherField f)
 
 -- the last digit of n: one that stands alone counts from half a digit on
 unfoldable pub lastDigit : ℕ → Bool → ℕ

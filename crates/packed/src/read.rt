@@ -6,10 +6,10 @@ use crate::sign::size;
 use crate::table::worth;
 use crate::table::worth_of;
 ghost use mathlib.Core.Path.{_≡_};
-ghost use Prim.Native.Nat.{_≤_, _<_, _^_};
+ghost use Prim.Native.Nat.{_-_, _≤_, _<_, _^_};
 ghost use lib.ListN.{length, drop};
 ghost use Rattle.packed.specs.Packed.{worths, readPacked, spelt, trim, allSolidi, halfOf};
-ghost use Rattle.packed.specs.Steps.{numberOf, otherField};
+ghost use Rattle.packed.specs.Steps.{numberOf, otherField, oneMore, runOf};
 
 // A run of digits as the number that it spells, or that it is no such run.
 enum Number {
@@ -49,27 +49,6 @@ fn number_of(t: &[u8; 256], s: &[u8]) -> Number
     let mut i = 0;
     while i < s.len() {
         let d = worth(t, s[i]);
-        if 40 <= d {
-            return Number::Other;
-        }
-        n = n * 40 + wide(d);
-        i += 1;
-    }
-    Number::Whole(n)
-}
-
-// The same with no table lent.
-fn lone_number(s: &[u8]) -> Number
-    requires { ⌜ length (now s) ≤ 5 ⌝ }
-    ensures { λ r. ⌜ r ≡ numberOf (now (s .entry)) ⌝ }
-{
-    if s.len() < 1 {
-        return Number::Other;
-    }
-    let mut n: u32 = 0;
-    let mut i = 0;
-    while i < s.len() {
-        let d = worth_of(s[i]);
         if 40 <= d {
             return Number::Other;
         }
@@ -149,7 +128,99 @@ pub fn read(t: &[u8; 256], f: &[u8]) -> Packed
     }
 }
 
-// A field that stands alone, for which building the table would cost more than reading does.
+// ---- A field that stands alone, for which building the table would cost more than reading does
+
+// Where its digits begin: behind its leading spaces, but at its last byte at the latest, which is no digit where it is a space.
+fn digits_from(f: &[u8]) -> usize
+    requires { ⌜ (1 ≤ length (now f)) × (length (now f) ≤ 5) ⌝ }
+    ensures { λ r. ⌜
+        (r < length (now (f .entry)))
+        × (readPacked (now (f .entry)) ≡ runOf (now (f .entry)) (length (now (f .entry)) - r) 0 (drop r (now (f .entry))))
+        ⌝ }
+{
+    let last = f.len() - 1;
+    let mut i = 0;
+    while i < last {
+        if f[i] != b' ' {
+            return i;
+        }
+        i += 1;
+    }
+    i
+}
+
+// The number with one digit more, where the byte is one.
+fn one_more(n: u32, b: u8) -> Number
+    requires { ⌜ n < 2560000 ⌝ }
+    ensures { λ r. ⌜ r ≡ oneMore n b ⌝ }
+{
+    let d = worth_of(b);
+    if 40 <= d {
+        return Number::Other;
+    }
+    Number::Whole(n * 40 + wide(d))
+}
+
+// The digits from a place on, k in all.
+fn more_digits(f: &[u8], from: usize, n: u32, k: usize) -> Packed
+    requires { ⌜ (from ≤ length (now f)) × (length (now f) ≤ 5) × (n < 40 ^ from) × (1 ≤ k) × (k ≤ 5) ⌝ }
+    ensures { λ r. ⌜ r ≡ runOf (now (f .entry)) k n (drop from (now (f .entry))) ⌝ }
+{
+    let mut m = n;
+    let mut i = from;
+    while i < f.len() {
+        match one_more(m, f[i]) {
+            Number::Other => {
+                return other(f);
+            }
+            Number::Whole(more) => {
+                m = more;
+            }
+        }
+        i += 1;
+    }
+    figure_of(m, k)
+}
+
+// All of them. Most fields have three at the most: these are read without a loop, each number of them by itself.
+fn run_from(f: &[u8], start: usize) -> Packed
+    requires { ⌜ (start < length (now f)) × (length (now f) ≤ 5) ⌝ }
+    ensures { λ r. ⌜ r ≡ runOf (now (f .entry)) (length (now (f .entry)) - start) 0 (drop start (now (f .entry))) ⌝ }
+{
+    let w = f.len();
+    let second = start + 1;
+    let third = second + 1;
+    let fourth = third + 1;
+    let one = match one_more(0, f[start]) {
+        Number::Other => {
+            return other(f);
+        }
+        Number::Whole(n) => n,
+    };
+    if second == w {
+        return figure_of(one, 1);
+    }
+    let two = match one_more(one, f[second]) {
+        Number::Other => {
+            return other(f);
+        }
+        Number::Whole(n) => n,
+    };
+    if third == w {
+        return figure_of(two, 2);
+    }
+    let three = match one_more(two, f[third]) {
+        Number::Other => {
+            return other(f);
+        }
+        Number::Whole(n) => n,
+    };
+    if fourth == w {
+        return figure_of(three, 3);
+    }
+    more_digits(f, fourth, three, w - start)
+}
+
 pub fn read_lone(f: &[u8]) -> Packed
     ensures { λ r. ⌜ r ≡ readPacked (now (f .entry)) ⌝ }
 {
@@ -160,10 +231,6 @@ pub fn read_lone(f: &[u8]) -> Packed
     if 5 < w {
         return Packed::Refused(1, 0);
     }
-    let start = behind_spaces(f);
-    let run = lone_number(&f[start..]);
-    match run {
-        Number::Whole(n) => figure_of(n, w - start),
-        Number::Other => other(f),
-    }
+    let start = digits_from(f);
+    run_from(f, start)
 }
