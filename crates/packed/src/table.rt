@@ -390,7 +390,8 @@ pub fn digit(t: &[u8; 40], n: usize) -> u8
     t[n]
 }
 
-// The same for a lone field: the compiler keeps this match as constant data.
+// The same for a lone field: the compiler keeps this match as constant data, and looks no further where all 40 digits have
+// an arm.
 pub fn digit_of(n: u32) -> u8
     ensures { λ r. ⌜ r ≡ digitOf n ⌝ }
 {
@@ -434,6 +435,7 @@ pub fn digit_of(n: u32) -> u8
         36 => b':',
         37 => b',',
         38 => b'-',
+        39 => b'.',
         _ => b'.',
     }
 }
