@@ -20,7 +20,8 @@
 #include <stddef.h>
 #include <stdint.h>
 
-#define ESK_VERSION "1.0.0"
+/* 2.0.0: esk_settings_valid, esk_decide and esk_command_write are lent what 1.0.0 handed over by value. */
+#define ESK_VERSION "2.0.0"
 
 #ifdef __cplusplus
 extern "C" {
