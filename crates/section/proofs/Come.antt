@@ -7,10 +7,8 @@ use Rattle.field.specs.declared.Step.{Step}
 use Rattle.field.specs.declared.Step.the-variants.{Next, Stop}
 use Rattle.field.specs.Fields.{after, repeat}
 use Rattle.field.proofs.Local.{ends-inside}
-use Rattle.field.proofs.Within.{repeat-within}
-use Rattle.lists.specs.Lists.{checkAirfields}
-use Rattle.lists.proofs.Within.{airfields-within}
-use Rattle.section.specs.Layout.{Item, AirfieldList, checkItem, checkItems}
+use Rattle.field.proofs.Within.{Within, repeat-within}
+use Rattle.section.specs.Layout.{Item, checkItem, checkItems}
 use Rattle.section.proofs.Local.{item-local}
 
 -- the items `is` from `at` on have been passed up to the items js, which begin at p
@@ -39,34 +37,35 @@ module _ {is : List Item} {s : List ℕ} {at : ℕ} where
   pub come-rest : {js : List Item} {p : ℕ} {r : Step} → Come is s at js p → r ≡ checkItems js s p → r ≡ checkItems is s at
   come-rest c e = e ∙ sym (c .same)
 
--- ---- Airfield lists, one after the other
+-- ---- Lists of one kind, one after the other
 
 -- n of them before the other items
-abbrev pub lists : ℕ → List Item → List Item
-lists zero js = js
-lists (suc n) js = AirfieldList ∷ lists n js
+abbrev pub lists : Item → ℕ → List Item → List Item
+lists i zero js = js
+lists i (suc n) js = i ∷ lists i n js
 
 grouped : (x : Step) (f g h : ℕ → Step) → ((p : ℕ) → f p ≡ after (g p) h) → after x f ≡ after (after x g) h
 grouped (Next p) f g h e = e p
 grouped (Stop code place) f g h e = refl
 
 -- they are checked first
-pub lists-first : (n : ℕ) (js : List Item) (s : List ℕ) (at : ℕ)
-    → checkItems (lists n js) s at ≡ after (repeat (checkAirfields s) n at) (checkItems js s)
+pub lists-first : (i : Item) (n : ℕ) (js : List Item) (s : List ℕ) (at : ℕ)
+    → checkItems (lists i n js) s at ≡ after (repeat (checkItem i s) n at) (checkItems js s)
 unfolding checkItems repeat
-lists-first zero js s at = refl
-lists-first (suc n) js s at =
-    grouped (checkAirfields s at) (checkItems (lists n js) s) (repeat (checkAirfields s) n) (checkItems js s) (lists-first n js s)
+lists-first i zero js s at = refl
+lists-first i (suc n) js s at =
+    grouped (checkItem i s at) (checkItems (lists i n js) s) (repeat (checkItem i s) n) (checkItems js s) (lists-first i n js s)
 
-module _ (n : ℕ) (js : List Item) (s : List ℕ) (at : ℕ) where
+module _ (i : Item) (n : ℕ) (js : List Item) (s : List ℕ) (at : ℕ) where
   -- all of them accepted
-  pub lists-on : {p : ℕ} → at ≤ length s → repeat (checkAirfields s) n at ≡ Next p → Come (lists n js) s at js p
-  lists-on h e =
+  pub lists-on : {p : ℕ} → ((q : ℕ) → q ≤ length s → Within s q (checkItem i s q)) → at ≤ length s
+      → repeat (checkItem i s) n at ≡ Next p → Come (lists i n js) s at js p
+  lists-on within h e =
       record {
-        same = lists-first n js s at ∙ rw e;
-        inside = (rw e at (repeat-within s (checkAirfields s) (airfields-within s) n at h)) .1;
+        same = lists-first i n js s at ∙ rw e;
+        inside = (rw e at (repeat-within s (checkItem i s) within n at h)) .1;
       }
 
   -- one of them refused
-  pub lists-stop : {code place : ℕ} → repeat (checkAirfields s) n at ≡ Stop code place → Stop code place ≡ checkItems (lists n js) s at
-  lists-stop e = sym (lists-first n js s at ∙ rw e)
+  pub lists-stop : {code place : ℕ} → repeat (checkItem i s) n at ≡ Stop code place → Stop code place ≡ checkItems (lists i n js) s at
+  lists-stop e = sym (lists-first i n js s at ∙ rw e)

@@ -99,20 +99,20 @@ digit = Number 1 0 1 ∷ []
 
 -- each of them, and the digit behind them, where it stands
 module _ (s : List ℕ) (at : ℕ) (e : Accepted 3 s at) where
-  pub left-first : Left (lists 4 digit) s at (lists 4 digit) at
+  pub left-first : Left (lists AirfieldList 4 digit) s at (lists AirfieldList 4 digit) at
   unfolding layoutOf
   left-first = left-all e
 
-  pub left-second : Left (lists 4 digit) s at (lists 3 digit) (listsAt s at .second)
+  pub left-second : Left (lists AirfieldList 4 digit) s at (lists AirfieldList 3 digit) (listsAt s at .second)
   left-second = left-on left-first
 
-  pub left-third : Left (lists 4 digit) s at (lists 2 digit) (listsAt s at .third)
+  pub left-third : Left (lists AirfieldList 4 digit) s at (lists AirfieldList 2 digit) (listsAt s at .third)
   left-third = left-on left-second
 
-  pub left-fourth : Left (lists 4 digit) s at (lists 1 digit) (listsAt s at .fourth)
+  pub left-fourth : Left (lists AirfieldList 4 digit) s at (lists AirfieldList 1 digit) (listsAt s at .fourth)
   left-fourth = left-on left-third
 
-  pub left-last : Left (lists 4 digit) s at digit (listsAt s at .last)
+  pub left-last : Left (lists AirfieldList 4 digit) s at digit (listsAt s at .last)
   left-last = left-on left-fourth
 
   -- the section ends two bytes behind the last

@@ -10,7 +10,7 @@ ghost use mathlib.Core.List.{_∷_, []};
 ghost use Prim.Native.Nat.{_≤_};
 ghost use lib.ListN.{length};
 ghost use Rattle.field.specs.Fields.{repeat};
-ghost use Rattle.lists.specs.Lists.{checkAirfields};
+ghost use Rattle.lists.specs.Lists.{checkAirfields, checkBoxes};
 ghost use Rattle.section.specs.Layout.{Number, Mark, checkItems, checkSection};
 
 // A section's last number, and `/`.
@@ -25,18 +25,32 @@ fn last_number(s: &[u8], at: usize, w: usize, least: usize, most: usize) -> Step
     }
 }
 
-// 2: reporting boxes, inhibiting boxes, `/`.
+// Two lists: reporting boxes, inhibiting boxes.
+fn two_lists(s: &[u8], at: usize) -> Step
+    requires { ⌜ at ≤ length (now s) ⌝ }
+    ensures { λ r. ⌜ r ≡ repeat (checkBoxes (now (s .entry))) 2 at ⌝ }
+{
+    let mut p = at;
+    let mut i: usize = 0;
+    while i < 2 {
+        let q = match boxes(s, p) {
+            Step::Stop(code, place) => {
+                return Step::Stop(code, place);
+            }
+            Step::Next(q) => q,
+        };
+        p = q;
+        i += 1;
+    }
+    Step::Next(p)
+}
+
+// 2: two lists, `/`.
 fn regions(s: &[u8], at: usize) -> Step
     requires { ⌜ at ≤ length (now s) ⌝ }
     ensures { λ r. ⌜ r ≡ checkSection 2 (now (s .entry)) at ⌝ }
 {
-    let inhibiting = match boxes(s, at) {
-        Step::Stop(code, place) => {
-            return Step::Stop(code, place);
-        }
-        Step::Next(p) => p,
-    };
-    match boxes(s, inhibiting) {
+    match two_lists(s, at) {
         Step::Stop(code, place) => Step::Stop(code, place),
         Step::Next(end) => delimiter(s, end),
     }

@@ -1,0 +1,68 @@
+-- `section::check::two_lists` meets its contract. The loop's invariant: from here on the lists that are left decide.
+use Rattle.section.proofs.check.two_lists.Statement.{statement}
+use Rattle.section.proofs.check.two_lists.Tie as tie
+use borrow.Author.Needs.{needs}
+use native.Mathlib.Omega.{arith}
+use Prim.Native.Nat.{_≤_, _-_}
+use lib.ListN.{length}
+use mathlib.Core.Path.{_≡_, refl, sym, _∙_}
+use denote.Ref.{now}
+use Rattle.field.proofs.Repeat.{repeat-end, repeat-turn, repeat-stop}
+use Rattle.lists.proofs.Within.{boxes-within}
+use Rattle.lists.specs.Lists.{checkBoxes}
+use Rattle.field.specs.Fields.{repeat}
+
+abbrev Inv-loop : tie.InvT-loop
+Inv-loop s at p₀ i₀ p i = (i ≤ 2) × (p ≤ length s) × (repeat (checkBoxes s) 2 at ≡ repeat (checkBoxes s) (2 - i) p)
+
+abbrev μ-loop : tie.MeasureT-loop
+μ-loop s at p₀ i₀ p i = 2 - i
+
+loop-holds : tie.Need-loop-holds Inv-loop μ-loop
+loop-holds c = (omega arith, c .before .pre, refl)
+
+boxes-requires : tie.Need-boxes-requires Inv-loop μ-loop
+boxes-requires c κs = c .before .loop .inv .1
+
+enum-known-code : tie.Need-enum-known-code Inv-loop μ-loop
+enum-known-code c = search needs
+
+returns : tie.Need-returns Inv-loop μ-loop
+returns c =
+    let l = c .before .before .before .before .before in
+    sym (l .loop .inv .2 ∙ repeat-stop _ _ _ _ _ _ (c .before .before .before .before .loop-test .taken) (sym (c .before .before .before .boxes .ensures) ∙ c .before .code .given .1))
+
+enum-known-q : tie.Need-enum-known-q Inv-loop μ-loop
+enum-known-q c = search needs
+
+add-i : tie.Need-add-i Inv-loop μ-loop
+add-i c = omega arith
+
+loop-less : tie.Need-loop-less Inv-loop μ-loop
+loop-less c = omega arith
+
+loop-again : tie.Need-loop-again Inv-loop μ-loop
+loop-again c =
+    let l = c .before .before .before .before .before in
+    let step = sym (c .before .before .before .boxes .ensures) ∙ c .before .q .given .1 in
+    let s = now (l .before .before .args .s) in
+    (omega arith, (rw step at (boxes-within s (l .loop .p) (l .loop .inv .1))) .1, l .loop .inv .2 ∙ repeat-turn _ _ _ _ _ (c .before .before .before .before .loop-test .taken) step)
+
+returns-2 : tie.Need-returns-2 Inv-loop μ-loop
+returns-2 c = sym (c .before .loop .inv .2 ∙ repeat-end _ _ _ _ (c .loop-test .left))
+
+pub two-lists-spec : {M : Type 1} → statement M
+two-lists-spec =
+    tie.close
+    (tie.spec
+    Inv-loop
+    μ-loop
+    loop-holds
+    boxes-requires
+    enum-known-code
+    returns
+    enum-known-q
+    add-i
+    loop-less
+    loop-again
+    returns-2)
