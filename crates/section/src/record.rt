@@ -187,9 +187,16 @@ pub fn regions_fine(x: Regions) -> bool
 {
     let reporting = x.reporting;
     let inhibiting = x.inhibiting;
-    let first = reporting.regions;
-    let second = inhibiting.regions;
-    boxes_fine(reporting.count, first) & boxes_fine(inhibiting.count, second)
+    let lists = [reporting, inhibiting];
+    let mut fine = true;
+    let mut i: usize = 0;
+    while i < 2 {
+        let l = lists[i];
+        let regions = l.regions;
+        fine = fine & boxes_fine(l.count, regions);
+        i += 1;
+    }
+    fine
 }
 
 fn phases_fine(x: ByPhase) -> bool
