@@ -92,7 +92,9 @@ pub fn is_valid(x: Settings) -> bool
     ensures { λ r. ⌜ r ≡ valid x ⌝ }
 {
     let flags = x.flags;
-    are_valid(flags) & regions_fine(x.regions) & airports_fine(x.airports) & rest_valid(x)
+    let regions = x.regions;
+    let airports = x.airports;
+    are_valid(flags) & regions_fine(regions) & airports_fine(airports) & rest_valid(x)
 }
 
 // ---- Applying

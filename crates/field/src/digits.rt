@@ -18,7 +18,7 @@ fn worth(b: u8) -> usize
     requires { ⌜ 48 ≤ b ⌝ }
     ensures { λ r. ⌜ r ≡ b - 48 ⌝ }
 {
-    (b - b'0') as usize
+    (b as usize) - 48
 }
 
 // The number that w digits from a place on spell, or 1000 where one of the bytes is no digit.
