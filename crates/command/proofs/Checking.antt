@@ -9,7 +9,7 @@ use native.Mathlib.Nat.{add-zero, zero-add, add-suc, suc-add, le-of-suc-le-suc, 
 use lib.Dec.{eqb, leb}
 use lib.ListN.{length, getD, drop, drop-of-length-le}
 use lib.Seq.{drop-cons}
-use borrow.Author.Tests.{le-leb, lt-leb, leb-true}
+use borrow.Author.Tests.{eq-eqb, ne-eqb, le-leb, lt-leb, leb-true}
 use Rattle.text.specs.Equal.{sameBytes}
 use Rattle.text.specs.Parts.{part}
 use Rattle.text.specs.Table.{values}
@@ -20,9 +20,10 @@ use Rattle.field.specs.declared.Step.{Step}
 use Rattle.field.specs.declared.Step.the-variants.{Next, Stop}
 use Rattle.field.proofs.Local.{ends-inside}
 use Rattle.section.proofs.Local.{items-local}
-use Rattle.section.specs.Layout.{layoutOf, isEmpty, checkItems, checkSection}
+use Rattle.section.proofs.Own.{cut-end}
+use Rattle.section.specs.Layout.{layoutOf, isEmpty, checkItems, checkSection, itemsSize}
 use Rattle.command.specs.Text.{awr04, isFlag, isNamed, headBytes, numbers, checkAwr04, checkEach, checkHead, checkFrom}
-use Rattle.command.specs.Steps.{headTest, sectionSeen}
+use Rattle.command.specs.Steps.{headTest, sectionSeen, placeFrom}
 
 -- ---- `AWR04`
 
@@ -122,6 +123,26 @@ module _ (s : List ℕ) (k p : ℕ) (lo : 2 ≤ k) (hi : k < 10) where
 pub sections-end : (s : List ℕ) (k p : ℕ) → 10 ≤ k → checkFrom (drop (k - 2) numbers) s p ≡ Next p
 unfolding checkFrom
 sections-end s k p h = rw (drop-of-length-le numbers {i = k - 2} (omega arith))
+
+-- ---- where they stand
+
+module _ (s : List ℕ) (k p : ℕ) (lo : 2 ≤ k) (hi : k < 10) where
+  -- the section whose turn it is stands here
+  pub place-here : placeFrom (drop (k - 2) numbers) s p k ≡ p
+  unfolding placeFrom
+  place-here = rw (numbers-next k lo hi, eq-eqb k k refl)
+
+  -- a later one where the walk from the next place finds it
+  pub place-on : (q j : ℕ) → k < j → sectionSeen s k p ≡ Next q
+      → placeFrom (drop (k - 2) numbers) s p j ≡ placeFrom (drop (k + 1 - 2) numbers) s q j
+  unfolding placeFrom
+  place-on q j h e =
+      rw (numbers-next k lo hi, ne-eqb j k (λ (z : j ≡ k). omega arith))
+      (ap (λ (r : ℕ). placeFrom (drop (k + 1 - 2) numbers) s r j) (go (isNamed s k) e))
+    where
+      go : (t : Bool) → cond t (checkSection k s p) (Next p) ≡ Next q → cond t (p + itemsSize (layoutOf k) s p) p ≡ q
+      go true w = sym (cut-end (layoutOf k) s p q w)
+      go false w = cc
 
 -- what the fixed group's acceptance says
 pub awr04-next : (s : List ℕ) (p : ℕ) → checkAwr04 s ≡ Next p → (5 ≤ length s) × (p ≡ 5)

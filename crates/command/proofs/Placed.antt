@@ -12,14 +12,12 @@ use Rattle.text.proofs.Cases.{by-test, by-eq, both-left, both-right}
 use Rattle.field.specs.declared.Step.the-variants.{Next}
 use Rattle.field.proofs.Local.{after-cases}
 use Rattle.section.specs.Layout.{layoutOf, isEmpty, checkSection, itemsSize, Accepted}
-use Rattle.section.specs.Places.{listsAt}
 use Rattle.section.specs.Contents.{Content, contentsAt}
 use Rattle.section.specs.Settings.{settingsFrom}
-use Rattle.section.specs.declared.size.Lists.{Lists}
 use Rattle.section.proofs.Own.{cut-end}
 use Rattle.command.specs.Text.{isFlag, isIndicator, numbers, isNamed, checkFrom, checkCommand}
 use Rattle.command.specs.Record.{held, heldIn}
-use Rattle.command.specs.Steps.{isOneOf, placeFrom, placeOf, listsIn, Stands, ListsStand, heldOver, namesAny}
+use Rattle.command.specs.Steps.{isOneOf, placeFrom, Stands, Noted, heldOver, namesAny}
 use Rattle.command.proofs.Each.{Each, each-map, each-with}
 use Rattle.command.proofs.Accepted.{accepted, flag-byte, downlink-byte, indicators-are}
 
@@ -72,7 +70,14 @@ accepted-place (k ∷ ks) s at j p i n e =
     absurd (omega arith))
     (λ (y : eqb j k ≡ false). rw (y, m) (accepted-place ks s at j p (rw y at i) n (rw m at e))))
 
-one-most : (most : ℕ) (ks : List ℕ) (j : ℕ) → Each (λ k. k ≤ most) ks → isOneOf ks j ≡ true → j ≤ most
+pub one-least : (least : ℕ) (ks : List ℕ) (j : ℕ) → Each (λ k. least ≤ k) ks → isOneOf ks j ≡ true → least ≤ j
+one-least least [] j h i = let z : _≡_ {A = ℕ} 0 1 = cc in absurd (omega arith)
+one-least least (k ∷ ks) j h i =
+    by-test (eqb j k)
+    (λ (y : eqb j k ≡ true). rw (eqb-true j k y) (h .0))
+    (λ (y : eqb j k ≡ false). one-least least ks j (h .1) (rw y at i))
+
+pub one-most : (most : ℕ) (ks : List ℕ) (j : ℕ) → Each (λ k. k ≤ most) ks → isOneOf ks j ≡ true → j ≤ most
 one-most most [] j h i = let z : _≡_ {A = ℕ} 0 1 = cc in absurd (omega arith)
 one-most most (k ∷ ks) j h i =
     by-test (eqb j k)
@@ -95,23 +100,10 @@ module _ {s : List ℕ} {k at : ℕ} (p : Stands s k at) where
   pub stands-held : isNamed s k ≡ true → contentsAt (layoutOf k) s at ≡ heldIn s k
   stands-held n = rw (p .place) (sym (held-place numbers s 22 k (p .number) n))
 
--- ---- The lists of section 3
-
-first-of : (s : List ℕ) (at : ℕ) → listsIn s at .first ≡ at
-first-of s at = by-test (isNamed s 3) (λ (n : isNamed s 3 ≡ true). rw n) (λ (n : isNamed s 3 ≡ false). rw n)
-
--- found at the section's place they are the text's
-pub lists-stand : {s : List ℕ} {p : Lists} → checkCommand s ≡ Fine → p ≡ listsIn s (placeOf s 3) → ListsStand s p
-lists-stand {s} {p} fine e =
-    let first : p .first ≡ placeOf s 3 = ap (λ (x : Lists). x .first) e ∙ first-of s (placeOf s 3) in
-    record {
-      stands = record { fine = fine; number = refl; place = first };
-      lists = e ∙ ap (listsIn s) (sym first);
-    }
-
--- those of a named section are where its counts say
-pub lists-named : {s : List ℕ} {p : Lists} → ListsStand s p → isNamed s 3 ≡ true → p ≡ listsAt s (p .first)
-lists-named l n = l .lists ∙ rw n
+-- a noted place is its section's
+pub noted-stands : {s places : List ℕ} → checkCommand s ≡ Fine → Noted s places → (k : ℕ) → isOneOf numbers k ≡ true
+    → Stands s k (getD places k 0)
+noted-stands fine n k i = record { fine = fine; number = i; place = n .under k i }
 
 -- ---- The digits of the first 22 bytes
 

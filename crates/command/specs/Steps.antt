@@ -4,16 +4,14 @@ use mathlib.Core.Bool.{Bool, true, false, cond, _||_}
 use mathlib.Core.List.{List, [], _∷_}
 use Prim.Native.Nat.{ℕ, _+_, _-_}
 use lib.Dec.{ltb, eqb}
+use lib.ListN.{getD}
 use Rattle.text.specs.declared.Seen.the-variants.{Fine}
 use Rattle.section.specs.Layout.{layoutOf, checkSection, itemsSize}
-use Rattle.section.specs.Places.{listsAt}
 use Rattle.section.specs.Contents.{Content}
-use Rattle.section.specs.declared.size.Lists.{Lists}
 use Rattle.field.specs.declared.Step.{Step}
 use Rattle.field.specs.declared.Step.the-variants.{Next}
 use Rattle.command.specs.Text.{isFlag, isDownlink, isIndicator, isNamed, numbers, checkCommand}
 use Rattle.command.specs.Record.{heldIn}
-use Rattle.command.specs.declared.places.Places.{Places}
 
 -- the test of the byte i bytes behind the first flag
 abbrev pub headTest : ℕ → ℕ → Bool
@@ -42,33 +40,15 @@ placeFrom (k ∷ ks) s at j = cond (eqb j k) at (placeFrom ks s (past s k at) j)
 abbrev pub placeOf : List ℕ → ℕ → ℕ
 placeOf s k = placeFrom numbers s 22 k
 
--- the lists of section 3, all at one place where it isn't named
-abbrev pub listsIn : List ℕ → ℕ → Lists
-listsIn s at =
-    cond (isNamed s 3) (listsAt s at) (record { first = at; second = at; third = at; fourth = at; last = at })
-
-abbrev pub placesOf : List ℕ → Places
-placesOf s =
-    record {
-      regions = placeOf s 2;
-      airports = listsIn s (placeOf s 3);
-      enroute = placeOf s 4;
-      ascent = placeOf s 5;
-      routine6 = placeOf s 6;
-      routine8 = placeOf s 8;
-      hours = placeOf s 9;
-    }
+-- the places of the sections, each under its number
+pub record Noted (s places : List ℕ) : Type 0 where
+  pub under : (k : ℕ) → isOneOf numbers k ≡ true → getD places k 0 ≡ placeOf s k
 
 -- the place of section k in an accepted text
 pub record Stands (s : List ℕ) (k at : ℕ) : Type 0 where
   pub fine : checkCommand s ≡ Fine
   pub number : isOneOf numbers k ≡ true
   pub place : at ≡ placeOf s k
-
--- the lists of section 3 in an accepted text
-pub record ListsStand (s : List ℕ) (p : Lists) : Type 0 where
-  pub stands : Stands s 3 (p .first)
-  pub lists : p ≡ listsIn s (p .first)
 
 -- what section k holds over what it held: the text's where it is named
 abbrev pub heldOver : List ℕ → ℕ → List Content → List Content

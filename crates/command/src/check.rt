@@ -6,7 +6,7 @@ use section::check::check_section;
 use text::Seen;
 ghost use mathlib.Core.Path.{_≡_};
 ghost use mathlib.Core.Bool.{true, not};
-ghost use Prim.Native.Nat.{_+_, _≤_, _<_};
+ghost use Prim.Native.Nat.{ℕ, _+_, _≤_, _<_};
 ghost use lib.ListN.{length};
 ghost use Rattle.text.specs.Equal.{sameBytes};
 ghost use Rattle.text.specs.Parts.{part};
@@ -14,7 +14,8 @@ ghost use Rattle.section.specs.Layout.{layoutOf, isEmpty};
 ghost use Rattle.command.specs.Text.{awr04, isFlag, isDownlink, isIndicator, isNamed, headBytes, numbers, checkAwr04, checkEach, checkHead, checkFrom, ended, checkCommand};
 ghost use Rattle.field.specs.Fields.{after, checkDelimiter};
 ghost use Rattle.field.specs.declared.Step.the-variants.{Next};
-ghost use Rattle.command.specs.Steps.{headTest, sectionSeen};
+ghost use Rattle.text.specs.declared.Seen.the-variants.{Fine};
+ghost use Rattle.command.specs.Steps.{headTest, sectionSeen, Noted};
 
 fn is_awr04(s: &[u8]) -> bool
     requires { ⌜ 5 ≤ length (now s) ⌝ }
@@ -175,14 +176,18 @@ fn section_seen(s: &[u8], k: usize, at: usize) -> Step
     Step::Next(at)
 }
 
-// The sections named, in rising order.
-fn check_sections(s: &[u8]) -> Step
-    requires { ⌜ 22 ≤ length (now s) ⌝ }
-    ensures { λ r. ⌜ r ≡ checkFrom numbers (now (s .entry)) 22 ⌝ }
+// The sections named, in rising order. The place of each is noted under its number; an unnamed one's is where it would stand.
+fn check_sections(s: &[u8], places: &mut [usize]) -> Step
+    requires { ⌜ (22 ≤ length (now s)) × (length (now places) ≡ 10) ⌝ }
+    ensures { λ r. ⌜
+        (r ≡ checkFrom numbers (now (s .entry)) 22)
+        × ((p : ℕ) → r ≡ Next p → Noted (now (s .entry)) (now (places .exit)))
+        ⌝ }
 {
     let mut k: usize = 2;
     let mut at = 22;
     while k < 10 {
+        places[k] = at;
         match section_seen(s, k, at) {
             Step::Stop(code, place) => {
                 return Step::Stop(code, place);
@@ -197,11 +202,14 @@ fn check_sections(s: &[u8]) -> Step
 }
 
 // Bytes after the last delimiter are 8 at the first of them.
-fn check_end(s: &[u8]) -> Seen
-    requires { ⌜ 22 ≤ length (now s) ⌝ }
-    ensures { λ r. ⌜ r ≡ ended (now (s .entry)) (checkFrom numbers (now (s .entry)) 22) ⌝ }
+fn check_end(s: &[u8], places: &mut [usize]) -> Seen
+    requires { ⌜ (22 ≤ length (now s)) × (length (now places) ≡ 10) ⌝ }
+    ensures { λ r. ⌜
+        (r ≡ ended (now (s .entry)) (checkFrom numbers (now (s .entry)) 22))
+        × (r ≡ Fine → Noted (now (s .entry)) (now (places .exit)))
+        ⌝ }
 {
-    match check_sections(s) {
+    match check_sections(s, places) {
         Step::Stop(code, place) => Seen::Bad(code, place),
         Step::Next(at) => {
             if at == s.len() {
@@ -212,15 +220,27 @@ fn check_end(s: &[u8]) -> Seen
     }
 }
 
-// The code and place of a command's text.
-pub fn check(s: &[u8]) -> Seen
-    ensures { λ r. ⌜ r ≡ checkCommand (now (s .entry)) ⌝ }
+// The code and place of a command's text; where it is accepted, also the places of its sections.
+pub fn walk(s: &[u8], places: &mut [usize]) -> Seen
+    requires { ⌜ length (now places) ≡ 10 ⌝ }
+    ensures { λ r. ⌜
+        (r ≡ checkCommand (now (s .entry)))
+        × (r ≡ Fine → Noted (now (s .entry)) (now (places .exit)))
+        ⌝ }
 {
     if 835 < s.len() {
         return Seen::Bad(1, 0);
     }
     match check_head(s) {
         Step::Stop(code, place) => Seen::Bad(code, place),
-        Step::Next(_) => check_end(s),
+        Step::Next(_) => check_end(s, places),
     }
+}
+
+// The code and place of a command's text.
+pub fn check(s: &[u8]) -> Seen
+    ensures { λ r. ⌜ r ≡ checkCommand (now (s .entry)) ⌝ }
+{
+    let mut places: [usize; 10] = [0; 10];
+    walk(s, &mut places)
 }

@@ -1,6 +1,5 @@
 // The uplink command of document 01, 22 to 835 bytes.
 pub mod check;
-pub mod places;
 pub mod read;
 pub mod record;
 pub mod write;

@@ -1,7 +1,6 @@
 // Reading a command: its text checked, then what it holds as a record.
 use crate::Command;
 use crate::check::is_named;
-use crate::places::places_of;
 use field::read::no_region;
 use lists::Airfields;
 use lists::Boxes;
@@ -19,7 +18,7 @@ use section::read::enroute_at;
 use section::read::hours_at;
 use section::read::mark_at;
 use section::read::regions_at;
-use section::size::Lists;
+use section::size::lists_at;
 ghost use mathlib.Core.Path.{_≡_};
 ghost use mathlib.Core.Bool.{false, cond};
 ghost use mathlib.Core.List.{[]};
@@ -32,7 +31,7 @@ ghost use Rattle.section.specs.Layout.{layoutOf};
 ghost use Rattle.section.specs.Settings.{regionsHold, airportsHold, enrouteHold, ascentHold, digitHold, hoursHold, contentsOf, amountIn, byPhase, regionsFrom, airportsFrom, enrouteFrom, ascentFrom, hoursFrom, settingsFrom};
 ghost use Rattle.command.specs.Text.{isNamed, checkCommand};
 ghost use Rattle.command.specs.Record.{heldIn, digitsOf, flagsOf, downlinkOf, commandOf, noCommand};
-ghost use Rattle.command.specs.Steps.{Stands, ListsStand, heldOver, namesAny};
+ghost use Rattle.command.specs.Steps.{Stands, Noted, heldOver, namesAny};
 
 // ---- Each section: what the text holds where it names the section, else the old one
 
@@ -46,12 +45,12 @@ fn regions_over(s: &[u8], at: usize, old: Regions) -> Regions
     old
 }
 
-fn airports_over(s: &[u8], p: Lists, old: Airports) -> Airports
-    requires { ⌜ ListsStand (now s) p ⌝ }
+fn airports_over(s: &[u8], at: usize, old: Airports) -> Airports
+    requires { ⌜ Stands (now s) 3 at ⌝ }
     ensures { λ r. ⌜ r ≡ airportsFrom (heldOver (now (s .entry)) 3 (airportsHold old)) ⌝ }
 {
     if is_named(s, 3) {
-        return airports_at(s, p);
+        return airports_at(s, lists_at(s, at));
     }
     old
 }
@@ -99,23 +98,21 @@ fn hours_over(s: &[u8], at: usize, old: Hours) -> Hours
 }
 
 // Flags, and the sections of an accepted text over those of other settings. The record is put together once.
-pub fn settings_over(x: Settings, flags: [u8; 7], s: &[u8]) -> Settings
-    requires { ⌜ checkCommand (now s) ≡ Fine ⌝ }
+pub fn settings_over(x: Settings, flags: [u8; 7], s: &[u8], places: [usize; 10]) -> Settings
+    requires { ⌜ (checkCommand (now s) ≡ Fine) × Noted (now s) places ⌝ }
     ensures { λ r. ⌜
         r ≡ settingsFrom flags (λ (k : ℕ). cond (isNamed (now (s .entry)) k) (heldIn (now (s .entry)) k) (contentsOf x k))
         ⌝ }
 {
-    let p = places_of(s);
-    let lists = p.airports;
     Settings {
         flags,
-        regions: regions_over(s, p.regions, x.regions),
-        airports: airports_over(s, lists, x.airports),
-        enroute: enroute_over(s, p.enroute, x.enroute),
-        ascent: ascent_over(s, p.ascent, x.ascent),
-        routine6: digit_over(s, 6, p.routine6, x.routine6),
-        routine8: digit_over(s, 8, p.routine8, x.routine8),
-        hours: hours_over(s, p.hours, x.hours),
+        regions: regions_over(s, places[2], x.regions),
+        airports: airports_over(s, places[3], x.airports),
+        enroute: enroute_over(s, places[4], x.enroute),
+        ascent: ascent_over(s, places[5], x.ascent),
+        routine6: digit_over(s, 6, places[6], x.routine6),
+        routine8: digit_over(s, 8, places[8], x.routine8),
+        hours: hours_over(s, places[9], x.hours),
     }
 }
 
@@ -268,14 +265,14 @@ fn regions_in(s: &[u8], at: usize) -> Regions
     regions_at(s, at)
 }
 
-fn airports_in(s: &[u8], p: Lists) -> Airports
-    requires { ⌜ ListsStand (now s) p ⌝ }
+fn airports_in(s: &[u8], at: usize) -> Airports
+    requires { ⌜ Stands (now s) 3 at ⌝ }
     ensures { λ r. ⌜ r ≡ airportsFrom (heldIn (now (s .entry)) 3) ⌝ }
 {
     if !is_named(s, 3) {
         return no_airports();
     }
-    airports_at(s, p)
+    airports_at(s, lists_at(s, at))
 }
 
 fn ascent_in(s: &[u8], at: usize) -> Ascent
@@ -289,12 +286,10 @@ fn ascent_in(s: &[u8], at: usize) -> Ascent
 }
 
 // Flags and sections of an accepted text: those that aren't named are zero.
-fn settings_of(s: &[u8]) -> Settings
-    requires { ⌜ checkCommand (now s) ≡ Fine ⌝ }
+fn settings_of(s: &[u8], places: [usize; 10]) -> Settings
+    requires { ⌜ (checkCommand (now s) ≡ Fine) × Noted (now s) places ⌝ }
     ensures { λ r. ⌜ r ≡ settingsFrom (flagsOf (now (s .entry))) (heldIn (now (s .entry))) ⌝ }
 {
-    let p = places_of(s);
-    let lists = p.airports;
     let enroute = Enroute {
         interval: 0,
         wind: 0,
@@ -302,13 +297,13 @@ fn settings_of(s: &[u8]) -> Settings
     let hours = Hours { start: 0, end: 0 };
     Settings {
         flags: flags_of(s),
-        regions: regions_in(s, p.regions),
-        airports: airports_in(s, lists),
-        enroute: enroute_over(s, p.enroute, enroute),
-        ascent: ascent_in(s, p.ascent),
-        routine6: digit_over(s, 6, p.routine6, 0),
-        routine8: digit_over(s, 8, p.routine8, 0),
-        hours: hours_over(s, p.hours, hours),
+        regions: regions_in(s, places[2]),
+        airports: airports_in(s, places[3]),
+        enroute: enroute_over(s, places[4], enroute),
+        ascent: ascent_in(s, places[5]),
+        routine6: digit_over(s, 6, places[6], 0),
+        routine8: digit_over(s, 8, places[8], 0),
+        hours: hours_over(s, places[9], hours),
     }
 }
 
@@ -343,12 +338,12 @@ pub fn head_of(s: &[u8]) -> Command
 }
 
 // An accepted text's command.
-pub fn command_of(s: &[u8]) -> Command
-    requires { ⌜ checkCommand (now s) ≡ Fine ⌝ }
+pub fn command_of(s: &[u8], places: [usize; 10]) -> Command
+    requires { ⌜ (checkCommand (now s) ≡ Fine) × Noted (now s) places ⌝ }
     ensures { λ r. ⌜ r ≡ commandOf (now (s .entry)) ⌝ }
 {
     Command {
-        settings: settings_of(s),
+        settings: settings_of(s, places),
         downlink: downlink_of(s),
         named: named_of(s),
     }

@@ -2,7 +2,7 @@
 use crate::Applied;
 use crate::flags::are_valid;
 use crate::flags::new_flags;
-use command::check::check;
+use command::check::walk;
 use command::read::downlink_of;
 use command::read::flags_of;
 use command::read::no_airports;
@@ -26,6 +26,7 @@ ghost use Rattle.text.specs.Checks.{isFine};
 ghost use Rattle.text.specs.declared.Seen.the-variants.{Fine};
 ghost use Rattle.section.specs.Settings.{ascentFrom};
 ghost use Rattle.command.specs.Text.{checkCommand};
+ghost use Rattle.command.specs.Steps.{Noted};
 ghost use Rattle.config.specs.Config.{resetHolds, reset, sectionsValid, valid, applyTo, refused, applied};
 
 // ---- Reset
@@ -111,13 +112,13 @@ fn refuse(code: u8, place: usize) -> Applied
 }
 
 // Every flag that isn't 9 is set and each named section replaced whole; nothing else changes.
-fn apply_text(x: Settings, s: &[u8]) -> Settings
-    requires { ⌜ checkCommand (now s) ≡ Fine ⌝ }
+fn apply_text(x: Settings, s: &[u8], places: [usize; 10]) -> Settings
+    requires { ⌜ (checkCommand (now s) ≡ Fine) × Noted (now s) places ⌝ }
     ensures { λ r. ⌜ r ≡ applyTo x (now (s .entry)) ⌝ }
 {
     let old = x.flags;
     let flags = new_flags(old, flags_of(s));
-    settings_over(x, flags, s)
+    settings_over(x, flags, s, places)
 }
 
 // A configuration that isn't valid is 12; then the command's own refusals.
@@ -127,10 +128,11 @@ pub fn apply(x: Settings, s: &[u8]) -> Applied
     if !is_valid(x) {
         return refuse(12, 0);
     }
-    match check(s) {
+    let mut places: [usize; 10] = [0; 10];
+    match walk(s, &mut places) {
         Seen::Bad(code, place) => refuse(code, place),
         Seen::Fine => {
-            let after = apply_text(x, s);
+            let after = apply_text(x, s, places);
             Applied {
                 code: 0,
                 place: 0,

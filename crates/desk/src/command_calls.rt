@@ -7,6 +7,7 @@ use crate::answers::numbers;
 use command::Command;
 use command::Wrote;
 use command::check::check;
+use command::check::walk;
 use command::read::command_of;
 use command::read::head_of;
 use command::read::names_any;
@@ -34,7 +35,8 @@ pub extern "C" fn esk_command_check(text: &[u8]) -> Answer
 pub extern "C" fn esk_command_read(text: &[u8]) -> CommandAnswer
     ensures { λ r. ⌜ r ≡ commandNumbers (readCommand (now (text .entry))) ⌝ }
 {
-    match check(text) {
+    let mut places: [usize; 10] = [0; 10];
+    match walk(text, &mut places) {
         Seen::Bad(code, place) => CommandAnswer {
             answer: answer_of(code, place),
             command: no_command(),
@@ -48,7 +50,7 @@ pub extern "C" fn esk_command_read(text: &[u8]) -> CommandAnswer
             }
             CommandAnswer {
                 answer: answer_of(0, 0),
-                command: command_of(text),
+                command: command_of(text, places),
             }
         }
     }

@@ -1,47 +1,64 @@
 -- `command::read::settings_of` meets its contract: the record section by section.
-use mathlib.Core.Path.{refl, ap}
+use borrow.Author.Needs.{needs}
+use mathlib.Core.Path.{refl}
 use mathlib.Core.List.{[]}
 use Rattle.section.specs.Layout.{layoutOf}
 use Rattle.section.specs.Settings.{amountIn, enrouteHold, enrouteFrom, digitHold, hoursHold, hoursFrom, settingsFrom}
-use Rattle.command.specs.declared.places.Places.{Places}
-use Rattle.command.proofs.Placed.{over-zero, lists-stand}
-use borrow.Author.Needs.{needs}
+use Rattle.command.proofs.Placed.{over-zero, noted-stands}
 use Rattle.command.proofs.read.settings_of.Statement.{statement}
 use Rattle.command.proofs.read.settings_of.Tie as tie
-
-places-of-requires : tie.Need-places-of-requires
-places-of-requires c κs = search needs
 
 flags-of-requires : tie.Need-flags-of-requires
 flags-of-requires c κs = search needs
 
+array-read-regions-in : tie.Need-array-read-regions-in
+array-read-regions-in c = search needs
+
 regions-in-requires : tie.Need-regions-in-requires
-regions-in-requires c κs = record { fine = c .before .before .before .before .pre; number = refl; place = ap (λ (p : Places). p .regions) (c .before .before .places-of .ensures) }
+regions-in-requires c κs = noted-stands (c .before .before .pre .0) (c .before .before .pre .1) 2 refl
+
+array-read-airports-in : tie.Need-array-read-airports-in
+array-read-airports-in c = search needs
 
 airports-in-requires : tie.Need-airports-in-requires
-airports-in-requires c κs = lists-stand (c .before .before .before .before .before .pre) (ap (λ (p : Places). p .airports) (c .before .before .before .places-of .ensures))
+airports-in-requires c κs = noted-stands (c .before .before .before .pre .0) (c .before .before .before .pre .1) 3 refl
+
+array-read-enroute-over : tie.Need-array-read-enroute-over
+array-read-enroute-over c = search needs
 
 enroute-over-requires : tie.Need-enroute-over-requires
-enroute-over-requires c κs = record { fine = c .before .before .before .before .before .before .pre; number = refl; place = ap (λ (p : Places). p .enroute) (c .before .before .before .before .places-of .ensures) }
+enroute-over-requires c κs = noted-stands (c .before .before .before .before .pre .0) (c .before .before .before .before .pre .1) 4 refl
+
+array-read-ascent-in : tie.Need-array-read-ascent-in
+array-read-ascent-in c = search needs
 
 ascent-in-requires : tie.Need-ascent-in-requires
-ascent-in-requires c κs = record { fine = c .before .before .before .before .before .before .before .pre; number = refl; place = ap (λ (p : Places). p .ascent) (c .before .before .before .before .before .places-of .ensures) }
+ascent-in-requires c κs = noted-stands (c .before .before .before .before .before .pre .0) (c .before .before .before .before .before .pre .1) 5 refl
+
+array-read-digit-over : tie.Need-array-read-digit-over
+array-read-digit-over c = search needs
 
 digit-over-requires : tie.Need-digit-over-requires
 unfolding layoutOf
-digit-over-requires c κs = (record { fine = c .before .before .before .before .before .before .before .before .pre; number = refl; place = ap (λ (p : Places). p .routine6) (c .before .before .before .before .before .before .places-of .ensures) }, refl)
+digit-over-requires c κs = (noted-stands (c .before .before .before .before .before .before .pre .0) (c .before .before .before .before .before .before .pre .1) 6 refl, refl)
+
+array-read-digit-over-2 : tie.Need-array-read-digit-over-2
+array-read-digit-over-2 c = search needs
 
 digit-over-requires-2 : tie.Need-digit-over-requires-2
 unfolding layoutOf
-digit-over-requires-2 c κs = (record { fine = c .before .before .before .before .before .before .before .before .before .pre; number = refl; place = ap (λ (p : Places). p .routine8) (c .before .before .before .before .before .before .before .places-of .ensures) }, refl)
+digit-over-requires-2 c κs = (noted-stands (c .before .before .before .before .before .before .before .pre .0) (c .before .before .before .before .before .before .before .pre .1) 8 refl, refl)
+
+array-read-hours-over : tie.Need-array-read-hours-over
+array-read-hours-over c = search needs
 
 hours-over-requires : tie.Need-hours-over-requires
-hours-over-requires c κs = record { fine = c .before .before .before .before .before .before .before .before .before .before .pre; number = refl; place = ap (λ (p : Places). p .hours) (c .before .before .before .before .before .before .before .before .places-of .ensures) }
+hours-over-requires c κs = noted-stands (c .before .before .before .before .before .before .before .before .pre .0) (c .before .before .before .before .before .before .before .before .pre .1) 9 refl
 
 returns : tie.Need-returns
 unfolding settingsFrom enrouteFrom hoursFrom
 returns c =
-    let s = c .before .before .before .before .before .before .before .before .before .before .before .args .s .now in
+    let s = c .before .before .before .before .before .before .before .before .before .args .s .now in
     rw (
       c .hours-over .ensures,
       over-zero s hoursFrom 9 (hoursHold (hoursFrom [])) refl,
@@ -61,13 +78,19 @@ pub settings-of-spec : {M : Type 1} → statement M
 settings-of-spec =
     tie.close
     (tie.spec
-    places-of-requires
     flags-of-requires
+    array-read-regions-in
     regions-in-requires
+    array-read-airports-in
     airports-in-requires
+    array-read-enroute-over
     enroute-over-requires
+    array-read-ascent-in
     ascent-in-requires
+    array-read-digit-over
     digit-over-requires
+    array-read-digit-over-2
     digit-over-requires-2
+    array-read-hours-over
     hours-over-requires
     returns)

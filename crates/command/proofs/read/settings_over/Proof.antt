@@ -1,38 +1,55 @@
 -- `command::read::settings_over` meets its contract: the record section by section.
 use borrow.Author.Needs.{needs}
-use Rattle.command.proofs.read.settings_over.Statement.{statement}
-use Rattle.command.proofs.read.settings_over.Tie as tie
-use mathlib.Core.Path.{refl, ap}
+use mathlib.Core.Path.{refl}
 use Rattle.section.specs.Layout.{layoutOf}
 use Rattle.section.specs.Settings.{contentsOf, settingsFrom}
-use Rattle.command.specs.declared.places.Places.{Places}
-use Rattle.command.proofs.Placed.{lists-stand}
+use Rattle.command.proofs.Placed.{noted-stands}
+use Rattle.command.proofs.read.settings_over.Statement.{statement}
+use Rattle.command.proofs.read.settings_over.Tie as tie
 
-places-of-requires : tie.Need-places-of-requires
-places-of-requires c κs = search needs
+array-read-regions-over : tie.Need-array-read-regions-over
+array-read-regions-over c = search needs
 
 regions-over-requires : tie.Need-regions-over-requires
-regions-over-requires c κs = record { fine = c .before .before .before .pre; number = refl; place = ap (λ (p : Places). p .regions) (c .before .places-of .ensures) }
+regions-over-requires c κs = noted-stands (c .before .pre .0) (c .before .pre .1) 2 refl
+
+array-read-airports-over : tie.Need-array-read-airports-over
+array-read-airports-over c = search needs
 
 airports-over-requires : tie.Need-airports-over-requires
-airports-over-requires c κs = lists-stand (c .before .before .before .before .pre) (ap (λ (p : Places). p .airports) (c .before .before .places-of .ensures))
+airports-over-requires c κs = noted-stands (c .before .before .pre .0) (c .before .before .pre .1) 3 refl
+
+array-read-enroute-over : tie.Need-array-read-enroute-over
+array-read-enroute-over c = search needs
 
 enroute-over-requires : tie.Need-enroute-over-requires
-enroute-over-requires c κs = record { fine = c .before .before .before .before .before .pre; number = refl; place = ap (λ (p : Places). p .enroute) (c .before .before .before .places-of .ensures) }
+enroute-over-requires c κs = noted-stands (c .before .before .before .pre .0) (c .before .before .before .pre .1) 4 refl
+
+array-read-ascent-over : tie.Need-array-read-ascent-over
+array-read-ascent-over c = search needs
 
 ascent-over-requires : tie.Need-ascent-over-requires
-ascent-over-requires c κs = record { fine = c .before .before .before .before .before .before .pre; number = refl; place = ap (λ (p : Places). p .ascent) (c .before .before .before .before .places-of .ensures) }
+ascent-over-requires c κs = noted-stands (c .before .before .before .before .pre .0) (c .before .before .before .before .pre .1) 5 refl
+
+array-read-digit-over : tie.Need-array-read-digit-over
+array-read-digit-over c = search needs
 
 digit-over-requires : tie.Need-digit-over-requires
 unfolding layoutOf
-digit-over-requires c κs = (record { fine = c .before .before .before .before .before .before .before .pre; number = refl; place = ap (λ (p : Places). p .routine6) (c .before .before .before .before .before .places-of .ensures) }, refl)
+digit-over-requires c κs = (noted-stands (c .before .before .before .before .before .pre .0) (c .before .before .before .before .before .pre .1) 6 refl, refl)
+
+array-read-digit-over-2 : tie.Need-array-read-digit-over-2
+array-read-digit-over-2 c = search needs
 
 digit-over-requires-2 : tie.Need-digit-over-requires-2
 unfolding layoutOf
-digit-over-requires-2 c κs = (record { fine = c .before .before .before .before .before .before .before .before .pre; number = refl; place = ap (λ (p : Places). p .routine8) (c .before .before .before .before .before .before .places-of .ensures) }, refl)
+digit-over-requires-2 c κs = (noted-stands (c .before .before .before .before .before .before .pre .0) (c .before .before .before .before .before .before .pre .1) 8 refl, refl)
+
+array-read-hours-over : tie.Need-array-read-hours-over
+array-read-hours-over c = search needs
 
 hours-over-requires : tie.Need-hours-over-requires
-hours-over-requires c κs = record { fine = c .before .before .before .before .before .before .before .before .before .pre; number = refl; place = ap (λ (p : Places). p .hours) (c .before .before .before .before .before .before .before .places-of .ensures) }
+hours-over-requires c κs = noted-stands (c .before .before .before .before .before .before .before .pre .0) (c .before .before .before .before .before .before .before .pre .1) 9 refl
 
 returns : tie.Need-returns
 unfolding settingsFrom contentsOf
@@ -42,12 +59,18 @@ pub settings-over-spec : {M : Type 1} → statement M
 settings-over-spec =
     tie.close
     (tie.spec
-    places-of-requires
+    array-read-regions-over
     regions-over-requires
+    array-read-airports-over
     airports-over-requires
+    array-read-enroute-over
     enroute-over-requires
+    array-read-ascent-over
     ascent-over-requires
+    array-read-digit-over
     digit-over-requires
+    array-read-digit-over-2
     digit-over-requires-2
+    array-read-hours-over
     hours-over-requires
     returns)

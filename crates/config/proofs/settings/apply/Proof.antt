@@ -1,7 +1,5 @@
 -- `config::settings::apply` meets its contract: the configuration first, then the text.
 use borrow.Author.Needs.{needs}
-use Rattle.config.proofs.settings.apply.Statement.{statement}
-use Rattle.config.proofs.settings.apply.Tie as tie
 use mathlib.Core.Path.{_≡_, sym, ap₂, _∙_}
 use mathlib.Core.Bool.{true}
 use Prim.Native.Nat.{ℕ}
@@ -9,6 +7,8 @@ use borrow.Author.Tests.{not-true, not-false}
 use Rattle.section.specs.declared.Settings.{Settings}
 use Rattle.config.specs.Config.{valid, applied}
 use Rattle.config.specs.declared.Applied.{Applied}
+use Rattle.config.proofs.settings.apply.Statement.{statement}
+use Rattle.config.proofs.settings.apply.Tie as tie
 
 -- the configuration was valid
 valid-given : (c : tie.Else1) → valid (c .before .before .before .args .x) ≡ true
@@ -27,8 +27,11 @@ returns : tie.Need-returns
 unfolding applied
 returns c = rw (c .refuse .ensures, sym (c .before .before .is-valid .ensures) ∙ not-true (c .before .before .is-valid .result) (c .before .if1 .taken))
 
-check-requires : tie.Need-check-requires
-check-requires c κs = search needs
+slice-aggregate-walk : tie.Need-slice-aggregate-walk
+slice-aggregate-walk c = search needs
+
+walk-requires : tie.Need-walk-requires
+walk-requires c κs = search needs
 
 enum-known-code : tie.Need-enum-known-code
 enum-known-code c = search needs
@@ -40,24 +43,29 @@ enum-told : tie.Need-enum-told
 enum-told c = search needs
 
 apply-text-requires : tie.Need-apply-text-requires
-apply-text-requires c κs = sym (c .before .before .check .ensures) ∙ c .enum-told .given .1
+apply-text-requires c κs =
+    let walked = c .before .before .before .walk .ensures in
+    (sym (walked .0) ∙ c .enum-told .given .1, walked .1 (c .enum-told .given .1))
 
 downlink-of-requires : tie.Need-downlink-of-requires
-downlink-of-requires c κs = sym (c .before .before .before .check .ensures) ∙ c .before .enum-told .given .1
+downlink-of-requires c κs = sym (c .before .before .before .before .walk .ensures .0) ∙ c .before .enum-told .given .1
 
 returns-2 : tie.Need-returns-2
 unfolding applied
 returns-2 c =
     rw (
       c .refuse2 .ensures,
-      valid-given (c .before .before .before .before .before),
-      sym (c .before .before .before .before .check .ensures) ∙ c .before .before .code .given .1,
+      valid-given (c .before .before .before .before .before .before .before),
+      sym (c .before .before .before .before .before .walk .ensures .0) ∙ c .before .before .code .given .1,
     )
 
 returns-3 : tie.Need-returns-3
 unfolding applied
 returns-3 c =
-    rw (valid-given (c .before .before .before .before .before), sym (c .before .before .before .before .check .ensures) ∙ c .before .before .enum-told .given .1)
+    rw (
+      valid-given (c .before .before .before .before .before .before .before),
+      sym (c .before .before .before .before .before .walk .ensures .0) ∙ c .before .before .enum-told .given .1,
+    )
     (ap₂ accepted (c .downlink-of .ensures) (c .before .apply-text .ensures))
 
 pub apply-spec : {M : Type 1} → statement M
@@ -67,7 +75,8 @@ apply-spec =
     is-valid-requires
     refuse-requires
     returns
-    check-requires
+    slice-aggregate-walk
+    walk-requires
     enum-known-code
     refuse-requires-2
     enum-told

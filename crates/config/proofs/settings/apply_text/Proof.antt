@@ -1,8 +1,8 @@
 -- `config::settings::apply_text` meets its contract.
+use Rattle.config.specs.Config.{applyTo}
 use borrow.Author.Needs.{needs}
 use Rattle.config.proofs.settings.apply_text.Statement.{statement}
 use Rattle.config.proofs.settings.apply_text.Tie as tie
-use Rattle.config.specs.Config.{applyTo}
 
 flags-of-requires : tie.Need-flags-of-requires
 flags-of-requires c κs = search needs

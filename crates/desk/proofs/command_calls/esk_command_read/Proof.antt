@@ -1,14 +1,21 @@
--- `desk::command_calls::esk_command_read` meets its contract: by the check's answer.
+-- `desk::command_calls::esk_command_read` meets its contract: by the walk's answer.
 use borrow.Author.Needs.{needs}
-use Rattle.desk.proofs.command_calls.esk_command_read.Statement.{statement}
-use Rattle.desk.proofs.command_calls.esk_command_read.Tie as tie
-use mathlib.Core.Path.{sym, _∙_}
+use mathlib.Core.Path.{_≡_, sym, _∙_}
+use denote.Ref.{now}
 use borrow.Author.Tests.{not-true}
+use Rattle.text.specs.declared.Seen.the-variants.{Fine}
+use Rattle.command.specs.Text.{checkCommand}
+use Rattle.command.specs.Steps.{Noted}
 use Rattle.command.specs.Record.{readCommand}
 use Rattle.desk.specs.Commands.{commandNumbers}
+use Rattle.desk.proofs.command_calls.esk_command_read.Statement.{statement}
+use Rattle.desk.proofs.command_calls.esk_command_read.Tie as tie
 
-check-requires : tie.Need-check-requires
-check-requires c κs = search needs
+slice-aggregate-walk : tie.Need-slice-aggregate-walk
+slice-aggregate-walk c = search needs
+
+walk-requires : tie.Need-walk-requires
+walk-requires c κs = search needs
 
 enum-known-code : tie.Need-enum-known-code
 enum-known-code c = search needs
@@ -22,47 +29,53 @@ no-command-requires c κs = search needs
 enum-told : tie.Need-enum-told
 enum-told c = search needs
 
+-- the text was accepted, and its sections' places are noted
+accepted : (c : tie.After-enum-told)
+    → let a = c .before .before .before .before .before .before .args in
+    (checkCommand (now (a .text)) ≡ Fine) × Noted (now (a .text)) (c .before .before .before .walk .last .1 .0)
+accepted c =
+    let walked = c .before .before .before .walk .ensures in
+    (sym (walked .0) ∙ c .enum-told .given .1, walked .1 (c .enum-told .given .1))
+
 names-any-requires : tie.Need-names-any-requires
-names-any-requires c κs = sym (c .before .before .check .ensures) ∙ c .enum-told .given .1
+names-any-requires c κs = accepted c .0
 
 answer-of-requires-2 : tie.Need-answer-of-requires-2
 answer-of-requires-2 c κs = search needs
 
 head-of-requires : tie.Need-head-of-requires
 head-of-requires c κs =
-    let told = c .before .before .before in
-    (sym (told .before .before .check .ensures) ∙ told .enum-told .given .1, sym (c .before .before .names-any .ensures) ∙ not-true _ (c .before .if1 .taken))
+    (accepted (c .before .before .before) .0, sym (c .before .before .names-any .ensures) ∙ not-true _ (c .before .if1 .taken))
 
 returns : tie.Need-returns
 unfolding commandNumbers readCommand
-returns c =
-    let told = c .before .before .before .before in
-    rw (c .head-of .ensures, c .before .answer-of2 .ensures, sym (told .before .before .check .ensures) ∙ told .enum-told .given .1)
+returns c = rw (c .head-of .ensures, c .before .answer-of2 .ensures, accepted (c .before .before .before .before) .0)
 
 answer-of-requires-3 : tie.Need-answer-of-requires-3
 answer-of-requires-3 c κs = search needs
 
 command-of-requires : tie.Need-command-of-requires
-command-of-requires c κs =
-    let told = c .before .before .before in
-    sym (told .before .before .check .ensures) ∙ told .enum-told .given .1
+command-of-requires c κs = accepted (c .before .before .before)
 
 returns-2 : tie.Need-returns-2
 unfolding commandNumbers readCommand
 returns-2 c =
-    rw (c .no-command .ensures, c .before .answer-of .ensures, sym (c .before .before .before .before .before .check .ensures) ∙ c .before .before .before .code .given .1)
+    rw (
+      c .no-command .ensures,
+      c .before .answer-of .ensures,
+      sym (c .before .before .before .before .before .before .walk .ensures .0) ∙ c .before .before .before .code .given .1,
+    )
 
 returns-3 : tie.Need-returns-3
 unfolding commandNumbers readCommand
-returns-3 c =
-    let told = c .before .before .before .before in
-    rw (c .command-of .ensures, c .before .answer-of3 .ensures, sym (told .before .before .check .ensures) ∙ told .enum-told .given .1)
+returns-3 c = rw (c .command-of .ensures, c .before .answer-of3 .ensures, accepted (c .before .before .before .before) .0)
 
 pub esk-command-read-spec : {M : Type 1} → statement M
 esk-command-read-spec =
     tie.close
     (tie.spec
-    check-requires
+    slice-aggregate-walk
+    walk-requires
     enum-known-code
     answer-of-requires
     no-command-requires
