@@ -7,6 +7,7 @@ pub mod Marks
 pub mod Accepted
 pub mod Written
 pub mod Checking
+pub mod Columns
 pub mod Placed
 pub mod Codes
 pub mod Writing

@@ -17,6 +17,10 @@ use Rattle.command.specs.Record.{heldIn}
 abbrev pub headTest : ℕ → ℕ → Bool
 headTest i b = cond (ltb i 7) (isFlag b) (cond (eqb i 7) (isDownlink b) (isIndicator (i - 6) b))
 
+-- 0 or one of four other bytes
+abbrev pub isAmong : ℕ → ℕ → ℕ → ℕ → ℕ → Bool
+isAmong b one two nine own = eqb b 48 || eqb b one || eqb b two || eqb b nine || eqb b own
+
 -- a section, where it is named
 abbrev pub sectionSeen : List ℕ → ℕ → ℕ → Step
 sectionSeen s k at = cond (isNamed s k) (checkSection k s at) (Next at)

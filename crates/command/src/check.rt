@@ -1,6 +1,7 @@
 // Checking a command's text: code and place, and no record built.
 use field::Step;
 use field::check::delimiter;
+use field::digits::is_digit;
 use field::record::wide;
 use section::check::check_section;
 use text::Seen;
@@ -15,7 +16,7 @@ ghost use Rattle.command.specs.Text.{awr04, isFlag, isDownlink, isIndica
 ghost use Rattle.field.specs.Fields.{after, checkDelimiter};
 ghost use Rattle.field.specs.declared.Step.the-variants.{Next};
 ghost use Rattle.text.specs.declared.Seen.the-variants.{Fine};
-ghost use Rattle.command.specs.Steps.{headTest, sectionSeen, Noted};
+ghost use Rattle.command.specs.Steps.{headTest, isAmong, sectionSeen, Noted};
 
 fn is_awr04(s: &[u8]) -> bool
     requires { ⌜ 5 ≤ length (now s) ⌝ }
@@ -125,15 +126,28 @@ fn check_rest(s: &[u8]) -> Step
     }
 }
 
-// Whether flags, downlink digit and indicators are all allowed. The answers are gathered, without a way out for each byte.
+// Whether a byte is 0 or one of four others.
+fn is_among(b: u8, one: u8, two: u8, nine: u8, own: u8) -> bool
+    ensures { λ r. ⌜ r ≡ isAmong b one two nine own ⌝ }
+{
+    (b == b'0') | (b == one) | (b == two) | (b == nine) | (b == own)
+}
+
+// Whether flags, downlink digit and indicators are all allowed: what may stand at each place beside 0, where there is anything. All
+// sixteen are looked at in one step; without the digit's test they would be taken apart into steps of their own.
 fn bytes_fine(s: &[u8]) -> bool
     requires { ⌜ 22 ≤ length (now s) ⌝ }
     ensures { λ r. ⌜ (r ≡ true → checkEach headBytes (now (s .entry)) 5 ≡ Next 21) ⌝ }
 {
+    let one: [u8; 16] = *b"1111111100000000";
+    let two: [u8; 16] = *b"0000000200000000";
+    let nine: [u8; 16] = *b"9999999000000000";
+    let own: [u8; 16] = *b"0000000023456089";
     let mut fine = true;
     let mut i: usize = 0;
     while i < 16 {
-        fine = fine & is_head_byte(i, s[5 + i]);
+        let b = s[5 + i];
+        fine = fine & is_digit(b) & is_among(b, one[i], two[i], nine[i], own[i]);
         i += 1;
     }
     fine

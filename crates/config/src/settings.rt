@@ -121,15 +121,17 @@ fn apply_text(x: Settings, s: &[u8], places: [usize; 10]) -> Settings
     settings_over(x, flags, s, places)
 }
 
-// A configuration that isn't valid is 12; then the command's own refusals.
+// A configuration that isn't valid is 12; then the command's own refusals. The text is gone through first: by then the copy
+// of the configuration that this call was handed lies ready.
 pub fn apply(x: Settings, s: &[u8]) -> Applied
     ensures { λ r. ⌜ r ≡ applied x (now (s .entry)) ⌝ }
 {
+    let mut places: [usize; 10] = [0; 10];
+    let seen = walk(s, &mut places);
     if !is_valid(x) {
         return refuse(12, 0);
     }
-    let mut places: [usize; 10] = [0; 10];
-    match walk(s, &mut places) {
+    match seen {
         Seen::Bad(code, place) => refuse(code, place),
         Seen::Fine => {
             let after = apply_text(x, s, places);

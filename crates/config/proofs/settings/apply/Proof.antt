@@ -11,11 +11,17 @@ use Rattle.config.proofs.settings.apply.Statement.{statement}
 use Rattle.config.proofs.settings.apply.Tie as tie
 
 -- the configuration was valid
-valid-given : (c : tie.Else1) → valid (c .before .before .before .args .x) ≡ true
+valid-given : (c : tie.Else1) → valid (c .before .before .before .before .before .before .args .x) ≡ true
 valid-given c = sym (c .before .is-valid .ensures) ∙ not-false (c .before .is-valid .result) (c .if1 .left)
 
 abbrev accepted : ℕ → Settings → Applied
 accepted d y = record { code = 0; place = 0; downlink = d; settings = y }
+
+slice-aggregate-walk : tie.Need-slice-aggregate-walk
+slice-aggregate-walk c = search needs
+
+walk-requires : tie.Need-walk-requires
+walk-requires c κs = search needs
 
 is-valid-requires : tie.Need-is-valid-requires
 is-valid-requires c κs = search needs
@@ -27,14 +33,8 @@ returns : tie.Need-returns
 unfolding applied
 returns c = rw (c .refuse .ensures, sym (c .before .before .is-valid .ensures) ∙ not-true (c .before .before .is-valid .result) (c .before .if1 .taken))
 
-slice-aggregate-walk : tie.Need-slice-aggregate-walk
-slice-aggregate-walk c = search needs
-
-walk-requires : tie.Need-walk-requires
-walk-requires c κs = search needs
-
-enum-known-code : tie.Need-enum-known-code
-enum-known-code c = search needs
+enum-known-seen : tie.Need-enum-known-seen
+enum-known-seen c = search needs
 
 refuse-requires-2 : tie.Need-refuse-requires-2
 refuse-requires-2 c κs = search needs
@@ -44,40 +44,37 @@ enum-told c = search needs
 
 apply-text-requires : tie.Need-apply-text-requires
 apply-text-requires c κs =
-    let walked = c .before .before .before .walk .ensures in
+    let walked = c .before .before .before .before .before .walk .ensures in
     (sym (walked .0) ∙ c .enum-told .given .1, walked .1 (c .enum-told .given .1))
 
 downlink-of-requires : tie.Need-downlink-of-requires
-downlink-of-requires c κs = sym (c .before .before .before .before .walk .ensures .0) ∙ c .before .enum-told .given .1
+downlink-of-requires c κs = sym (c .before .before .before .before .before .before .walk .ensures .0) ∙ c .before .enum-told .given .1
 
 returns-2 : tie.Need-returns-2
 unfolding applied
 returns-2 c =
     rw (
       c .refuse2 .ensures,
-      valid-given (c .before .before .before .before .before .before .before),
-      sym (c .before .before .before .before .before .walk .ensures .0) ∙ c .before .before .code .given .1,
+      valid-given (c .before .before .before .before),
+      sym (c .before .before .before .before .before .before .before .walk .ensures .0) ∙ c .before .before .seen .given .1,
     )
 
 returns-3 : tie.Need-returns-3
 unfolding applied
 returns-3 c =
-    rw (
-      valid-given (c .before .before .before .before .before .before .before),
-      sym (c .before .before .before .before .before .walk .ensures .0) ∙ c .before .before .enum-told .given .1,
-    )
+    rw (valid-given (c .before .before .before .before), sym (c .before .before .before .before .before .before .before .walk .ensures .0) ∙ c .before .before .enum-told .given .1)
     (ap₂ accepted (c .downlink-of .ensures) (c .before .apply-text .ensures))
 
 pub apply-spec : {M : Type 1} → statement M
 apply-spec =
     tie.close
     (tie.spec
+    slice-aggregate-walk
+    walk-requires
     is-valid-requires
     refuse-requires
     returns
-    slice-aggregate-walk
-    walk-requires
-    enum-known-code
+    enum-known-seen
     refuse-requires-2
     enum-told
     apply-text-requires
