@@ -13,11 +13,10 @@ use Rattle.field.specs.declared.Step.the-variants.{Next}
 use Rattle.field.proofs.Local.{after-cases}
 use Rattle.section.specs.Layout.{layoutOf, isEmpty, checkSection, itemsSize, Accepted}
 use Rattle.section.specs.Contents.{Content, contentsAt}
-use Rattle.section.specs.Settings.{settingsFrom}
 use Rattle.section.proofs.Own.{cut-end}
 use Rattle.command.specs.Text.{isFlag, isIndicator, numbers, isNamed, checkFrom, checkCommand}
 use Rattle.command.specs.Record.{held, heldIn}
-use Rattle.command.specs.Steps.{isOneOf, placeFrom, Stands, Noted, heldOver, namesAny}
+use Rattle.command.specs.Steps.{isOneOf, placeFrom, Stands, Noted, heldOver}
 use Rattle.command.proofs.Each.{Each, each-map, each-with}
 use Rattle.command.proofs.Accepted.{accepted, flag-byte, downlink-byte, indicators-are}
 
@@ -167,33 +166,13 @@ module _ (s : List ℕ) where
   pub not-held : (k : ℕ) → isNamed s k ≡ false → heldIn s k ≡ []
   not-held k n = held-none numbers s 22 k n
 
--- ---- A text that names no section
+-- ---- A text that names no section of lists
 
-neither-left : (t u : Bool) → (t || u) ≡ false → t ≡ false
+pub neither-left : (t u : Bool) → (t || u) ≡ false → t ≡ false
 neither-left true u e = e
 neither-left false u e = refl
 
-neither-right : (t u : Bool) → (t || u) ≡ false → u ≡ false
+pub neither-right : (t u : Bool) → (t || u) ≡ false → u ≡ false
 neither-right true true e = e
 neither-right true false e = refl
 neither-right false u e = e
-
-module _ (s : List ℕ) (none : namesAny s ≡ false) where
-  -- it holds its flags alone
-  pub flags-alone : (flags : List ℕ) → settingsFrom flags (heldIn s) ≡ settingsFrom flags (λ (k : ℕ). [])
-  unfolding settingsFrom
-  flags-alone flags =
-      let to-8 : (isNamed s 2 || isNamed s 3 || isNamed s 4 || isNamed s 5 || isNamed s 6 || isNamed s 8) ≡ false = neither-left (isNamed s 2 || isNamed s 3 || isNamed s 4 || isNamed s 5 || isNamed s 6 || isNamed s 8) (isNamed s 9) none in
-      let to-6 : (isNamed s 2 || isNamed s 3 || isNamed s 4 || isNamed s 5 || isNamed s 6) ≡ false = neither-left (isNamed s 2 || isNamed s 3 || isNamed s 4 || isNamed s 5 || isNamed s 6) (isNamed s 8) to-8 in
-      let to-5 : (isNamed s 2 || isNamed s 3 || isNamed s 4 || isNamed s 5) ≡ false = neither-left (isNamed s 2 || isNamed s 3 || isNamed s 4 || isNamed s 5) (isNamed s 6) to-6 in
-      let to-4 : (isNamed s 2 || isNamed s 3 || isNamed s 4) ≡ false = neither-left (isNamed s 2 || isNamed s 3 || isNamed s 4) (isNamed s 5) to-5 in
-      let to-3 : (isNamed s 2 || isNamed s 3) ≡ false = neither-left (isNamed s 2 || isNamed s 3) (isNamed s 4) to-4 in
-      rw (
-        not-held s 2 (neither-left (isNamed s 2) (isNamed s 3) to-3),
-        not-held s 3 (neither-right (isNamed s 2) (isNamed s 3) to-3),
-        not-held s 4 (neither-right (isNamed s 2 || isNamed s 3) (isNamed s 4) to-4),
-        not-held s 5 (neither-right (isNamed s 2 || isNamed s 3 || isNamed s 4) (isNamed s 5) to-5),
-        not-held s 6 (neither-right (isNamed s 2 || isNamed s 3 || isNamed s 4 || isNamed s 5) (isNamed s 6) to-6),
-        not-held s 8 (neither-right (isNamed s 2 || isNamed s 3 || isNamed s 4 || isNamed s 5 || isNamed s 6) (isNamed s 8) to-8),
-        not-held s 9 (neither-right (isNamed s 2 || isNamed s 3 || isNamed s 4 || isNamed s 5 || isNamed s 6 || isNamed s 8) (isNamed s 9) none),
-      )

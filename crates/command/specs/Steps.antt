@@ -58,7 +58,6 @@ pub record Stands (s : List ℕ) (k at : ℕ) : Type 0 where
 abbrev pub heldOver : List ℕ → ℕ → List Content → List Content
 heldOver s k old = cond (isNamed s k) (heldIn s k) old
 
--- whether a text names a section at all
-abbrev pub namesAny : List ℕ → Bool
-namesAny s =
-    isNamed s 2 || isNamed s 3 || isNamed s 4 || isNamed s 5 || isNamed s 6 || isNamed s 8 || isNamed s 9
+-- whether a text names a section of lists
+abbrev pub namesLists : List ℕ → Bool
+namesLists s = isNamed s 2 || isNamed s 3

@@ -31,7 +31,7 @@ ghost use Rattle.section.specs.Layout.{layoutOf};
 ghost use Rattle.section.specs.Settings.{regionsHold, airportsHold, enrouteHold, ascentHold, digitHold, hoursHold, contentsOf, amountIn, byPhase, regionsFrom, airportsFrom, enrouteFrom, ascentFrom, hoursFrom, settingsFrom};
 ghost use Rattle.command.specs.Text.{isNamed, checkCommand};
 ghost use Rattle.command.specs.Record.{heldIn, digitsOf, flagsOf, downlinkOf, commandOf, noCommand};
-ghost use Rattle.command.specs.Steps.{Stands, Noted, heldOver, namesAny};
+ghost use Rattle.command.specs.Steps.{Stands, Noted, heldOver, namesLists};
 
 // ---- Each section: what the text holds where it names the section, else the old one
 
@@ -307,31 +307,44 @@ fn settings_of(s: &[u8], places: [usize; 10]) -> Settings
     }
 }
 
-// Whether a text names a section at all.
-pub fn names_any(s: &[u8]) -> bool
+// Whether a text names a section of lists.
+pub fn names_lists(s: &[u8]) -> bool
     requires { ⌜ checkCommand (now s) ≡ Fine ⌝ }
-    ensures { λ r. ⌜ r ≡ namesAny (now (s .entry)) ⌝ }
+    ensures { λ r. ⌜ r ≡ namesLists (now (s .entry)) ⌝ }
 {
-    is_named(s, 2)
-        | is_named(s, 3)
-        | is_named(s, 4)
-        | is_named(s, 5)
-        | is_named(s, 6)
-        | is_named(s, 8)
-        | is_named(s, 9)
+    is_named(s, 2) | is_named(s, 3)
 }
 
-// The command of an accepted text that names none: its first digits, and zeros.
-pub fn head_of(s: &[u8]) -> Command
-    requires { ⌜ checkCommand (now s) ≡ Fine ⌝ }
-    requires { ⌜ namesAny (now s) ≡ false ⌝ }
+// The command of an accepted text that names none: its digits and numbers, all read before the first zero of the record is written.
+pub fn short_of(s: &[u8], places: [usize; 10]) -> Command
+    requires { ⌜ (checkCommand (now s) ≡ Fine) × Noted (now s) places ⌝ }
+    requires { ⌜ namesLists (now s) ≡ false ⌝ }
     ensures { λ r. ⌜ r ≡ commandOf (now (s .entry)) ⌝ }
 {
     let flags = flags_of(s);
     let downlink = downlink_of(s);
     let named = named_of(s);
+    let none = Enroute {
+        interval: 0,
+        wind: 0,
+    };
+    let never = Hours { start: 0, end: 0 };
+    let enroute = enroute_over(s, places[4], none);
+    let ascent = ascent_in(s, places[5]);
+    let routine6 = digit_over(s, 6, places[6], 0);
+    let routine8 = digit_over(s, 8, places[8], 0);
+    let hours = hours_over(s, places[9], never);
     Command {
-        settings: only_flags(flags),
+        settings: Settings {
+            flags,
+            regions: no_regions(),
+            airports: no_airports(),
+            enroute,
+            ascent,
+            routine6,
+            routine8,
+            hours,
+        },
         downlink,
         named,
     }

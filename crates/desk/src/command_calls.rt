@@ -9,9 +9,9 @@ use command::Wrote;
 use command::check::check;
 use command::check::walk;
 use command::read::command_of;
-use command::read::head_of;
-use command::read::names_any;
+use command::read::names_lists;
 use command::read::no_command;
+use command::read::short_of;
 use command::write::write;
 use text::Seen;
 ghost use mathlib.Core.Path.{_≡_};
@@ -30,7 +30,7 @@ pub extern "C" fn esk_command_check(text: &[u8]) -> Answer
     numbers(check(text), 0)
 }
 
-// A text that names no section has a way of its own: its digits are read first, and then all else of the answer is zero.
+// A text that names no section of lists has a way of its own: what it holds is read first, and then all else of the answer is zero.
 #[no_mangle]
 pub extern "C" fn esk_command_read(text: &[u8]) -> CommandAnswer
     ensures { λ r. ⌜ r ≡ commandNumbers (readCommand (now (text .entry))) ⌝ }
@@ -42,10 +42,10 @@ pub extern "C" fn esk_command_read(text: &[u8]) -> CommandAnswer
             command: no_command(),
         },
         Seen::Fine => {
-            if !names_any(text) {
+            if !names_lists(text) {
                 return CommandAnswer {
                     answer: answer_of(0, 0),
-                    command: head_of(text),
+                    command: short_of(text, places),
                 };
             }
             CommandAnswer {

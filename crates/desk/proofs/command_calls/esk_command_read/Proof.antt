@@ -37,19 +37,19 @@ accepted c =
     let walked = c .before .before .before .walk .ensures in
     (sym (walked .0) ∙ c .enum-told .given .1, walked .1 (c .enum-told .given .1))
 
-names-any-requires : tie.Need-names-any-requires
-names-any-requires c κs = accepted c .0
+names-lists-requires : tie.Need-names-lists-requires
+names-lists-requires c κs = accepted c .0
 
 answer-of-requires-2 : tie.Need-answer-of-requires-2
 answer-of-requires-2 c κs = search needs
 
-head-of-requires : tie.Need-head-of-requires
-head-of-requires c κs =
-    (accepted (c .before .before .before) .0, sym (c .before .before .names-any .ensures) ∙ not-true _ (c .before .if1 .taken))
+short-of-requires : tie.Need-short-of-requires
+short-of-requires c κs =
+    (accepted (c .before .before .before), sym (c .before .before .names-lists .ensures) ∙ not-true _ (c .before .if1 .taken))
 
 returns : tie.Need-returns
 unfolding commandNumbers readCommand
-returns c = rw (c .head-of .ensures, c .before .answer-of2 .ensures, accepted (c .before .before .before .before) .0)
+returns c = rw (c .short-of .ensures, c .before .answer-of2 .ensures, accepted (c .before .before .before .before) .0)
 
 answer-of-requires-3 : tie.Need-answer-of-requires-3
 answer-of-requires-3 c κs = search needs
@@ -80,9 +80,9 @@ esk-command-read-spec =
     answer-of-requires
     no-command-requires
     enum-told
-    names-any-requires
+    names-lists-requires
     answer-of-requires-2
-    head-of-requires
+    short-of-requires
     returns
     answer-of-requires-3
     command-of-requires
