@@ -9,6 +9,7 @@ pub mod Written
 pub mod Checking
 pub mod Columns
 pub mod Placed
+pub mod Reached
 pub mod Codes
 pub mod Writing
 pub mod ReadBack

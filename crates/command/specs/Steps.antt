@@ -2,15 +2,15 @@
 use mathlib.Core.Path.{_≡_}
 use mathlib.Core.Bool.{Bool, true, false, cond, _||_}
 use mathlib.Core.List.{List, [], _∷_}
-use Prim.Native.Nat.{ℕ, _+_, _-_}
+use Prim.Native.Nat.{ℕ, _+_, _-_, _≤_, _<_}
 use lib.Dec.{ltb, eqb}
-use lib.ListN.{getD}
+use lib.ListN.{length, drop, getD}
 use Rattle.text.specs.declared.Seen.the-variants.{Fine}
 use Rattle.section.specs.Layout.{layoutOf, checkSection, itemsSize}
 use Rattle.section.specs.Contents.{Content}
 use Rattle.field.specs.declared.Step.{Step}
 use Rattle.field.specs.declared.Step.the-variants.{Next}
-use Rattle.command.specs.Text.{isFlag, isDownlink, isIndicator, isNamed, numbers, checkCommand}
+use Rattle.command.specs.Text.{isFlag, isDownlink, isIndicator, isNamed, numbers, checkFrom, checkCommand}
 use Rattle.command.specs.Record.{heldIn}
 
 -- the test of the byte i bytes behind the first flag
@@ -43,6 +43,15 @@ placeFrom (k ∷ ks) s at j = cond (eqb j k) at (placeFrom ks s (past s k at) j)
 
 abbrev pub placeOf : List ℕ → ℕ → ℕ
 placeOf s k = placeFrom numbers s 22 k
+
+-- the sections before k are passed, and their places noted under their numbers: what stands at a place decides of the others, and each
+-- of them is found from there
+pub record Reached (s : List ℕ) (k at : ℕ) (places : List ℕ) : Type 0 where
+  pub inside : at ≤ length s
+  pub decides : checkFrom numbers s 22 ≡ checkFrom (drop (k - 2) numbers) s at
+  pub room : length places ≡ 10
+  pub later : (j : ℕ) → k ≤ j → placeOf s j ≡ placeFrom (drop (k - 2) numbers) s at j
+  pub noted : (j : ℕ) → 2 ≤ j → j < k → getD places j 0 ≡ placeOf s j
 
 -- the places of the sections, each under its number
 pub record Noted (s places : List ℕ) : Type 0 where

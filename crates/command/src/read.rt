@@ -13,6 +13,7 @@ use section::Regions;
 use section::Settings;
 use section::read::airports_at;
 use section::read::ascent_at;
+use section::read::both_lists_at;
 use section::read::digit_at;
 use section::read::enroute_at;
 use section::read::hours_at;
@@ -262,7 +263,7 @@ fn regions_in(s: &[u8], at: usize) -> Regions
     if !is_named(s, 2) {
         return no_regions();
     }
-    regions_at(s, at)
+    both_lists_at(s, at)
 }
 
 fn airports_in(s: &[u8], at: usize) -> Airports
@@ -285,7 +286,8 @@ fn ascent_in(s: &[u8], at: usize) -> Ascent
     ascent_at(s, at)
 }
 
-// Flags and sections of an accepted text: those that aren't named are zero.
+// Flags and sections of an accepted text: those that aren't named are zero. The airports are read first: each of their lists is found
+// behind the one before it, and meanwhile the rest goes on.
 fn settings_of(s: &[u8], places: [usize; 10]) -> Settings
     requires { ⌜ (checkCommand (now s) ≡ Fine) × Noted (now s) places ⌝ }
     ensures { λ r. ⌜ r ≡ settingsFrom (flagsOf (now (s .entry))) (heldIn (now (s .entry))) ⌝ }
@@ -295,10 +297,12 @@ fn settings_of(s: &[u8], places: [usize; 10]) -> Settings
         wind: 0,
     };
     let hours = Hours { start: 0, end: 0 };
+    let airports = airports_in(s, places[3]);
+    let regions = regions_in(s, places[2]);
     Settings {
         flags: flags_of(s),
-        regions: regions_in(s, places[2]),
-        airports: airports_in(s, places[3]),
+        regions,
+        airports,
         enroute: enroute_over(s, places[4], enroute),
         ascent: ascent_in(s, places[5]),
         routine6: digit_over(s, 6, places[6], 0),

@@ -59,7 +59,7 @@ pub fn value_at(s: &[u8], at: usize, w: usize) -> usize
     n
 }
 
-// The same for a number that a byte holds.
+// The same for a number that a byte holds. The bytes are summed up as they stand and the zeros taken off at the end: fewer steps.
 pub fn small_at(s: &[u8], at: usize, w: usize) -> u8
     requires { ⌜ at + w ≤ length (now s) ⌝ }
     requires { ⌜ w ≤ 3 ⌝ }
@@ -67,5 +67,13 @@ pub fn small_at(s: &[u8], at: usize, w: usize) -> u8
     requires { ⌜ value (part at w (now s)) < 256 ⌝ }
     ensures { λ r. ⌜ r ≡ value (part at w (now (s .entry))) ⌝ }
 {
-    value_at(s, at, w) as u8
+    let mut bytes: usize = 0;
+    let mut zeros: usize = 0;
+    let mut i = 0;
+    while i < w {
+        bytes = bytes * 10 + (s[at + i] as usize);
+        zeros = zeros * 10 + 48;
+        i += 1;
+    }
+    (bytes - zeros) as u8
 }

@@ -42,7 +42,7 @@ pub fn airfields_at(s: &[u8], at: usize) -> Airfields
 }
 
 // n boxes, and zeros behind them.
-fn regions_of(s: &[u8], from: usize, n: usize) -> [Region; 16]
+pub fn regions_of(s: &[u8], from: usize, n: usize) -> [Region; 16]
     requires { ⌜ n ≤ 16 ⌝ }
     requires { ⌜ repeat (checkBox (now s)) n from ≡ Next (from + 14 * n) ⌝ }
     ensures { λ r. ⌜ r ≡ regionsAt n (now (s .entry)) from ++ replicate (16 - n) noRegion ⌝ }

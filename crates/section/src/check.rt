@@ -167,14 +167,27 @@ fn hours(s: &[u8], at: usize) -> Step
     }
 }
 
-// Section k. Any other number has no fields, only the `/`.
-pub fn check_section(s: &[u8], at: usize, k: usize) -> Step
+// Each section number has its own length and its own limits. First the numbers of sections made of lists, as long as their counts say;
+// any other below 4 has no fields, only the `/`.
+pub fn check_lists(s: &[u8], at: usize, k: usize) -> Step
     requires { ⌜ at ≤ length (now s) ⌝ }
+    requires { ⌜ k ≤ 3 ⌝ }
     ensures { λ r. ⌜ r ≡ checkSection k (now (s .entry)) at ⌝ }
 {
     match k {
         2 => regions(s, at),
         3 => airports(s, at),
+        _ => delimiter(s, at),
+    }
+}
+
+// Then the numbers of sections of one length; any other from 4 on has only the `/`.
+pub fn check_fixed(s: &[u8], at: usize, k: usize) -> Step
+    requires { ⌜ at ≤ length (now s) ⌝ }
+    requires { ⌜ 4 ≤ k ⌝ }
+    ensures { λ r. ⌜ r ≡ checkSection k (now (s .entry)) at ⌝ }
+{
+    match k {
         4 => enroute(s, at),
         5 => ascent(s, at),
         6 | 8 => last_number(s, at, 1, 0, 1),

@@ -9,8 +9,10 @@ use crate::size::Lists;
 use crate::size::list_end;
 use field::digits::small_at;
 use field::digits::value_at;
+use lists::Boxes;
 use lists::read::airfields_at;
 use lists::read::boxes_at;
+use lists::read::regions_of;
 ghost use mathlib.Core.Path.{_≡_};
 ghost use mathlib.Core.Bool.{true};
 ghost use Prim.Native.Nat.{_+_, _-_, _*_, _≤_, _<_};
@@ -33,6 +35,29 @@ pub fn regions_at(s: &[u8], at: usize) -> Regions
     Regions {
         reporting: boxes_at(s, at),
         inhibiting: boxes_at(s, second),
+    }
+}
+
+// The same for a whole command's reader, both counts known before the first box is read. It has no other caller: what several call is
+// taken into none of them, and its answer copied.
+pub fn both_lists_at(s: &[u8], at: usize) -> Regions
+    requires { ⌜ Accepted 2 (now s) at ⌝ }
+    ensures { λ r. ⌜ r ≡ regionsFrom (contentsAt (layoutOf 2) (now (s .entry)) at) ⌝ }
+{
+    let n = value_at(s, at, 2);
+    let second = list_end(s, at, 14);
+    let m = value_at(s, second, 2);
+    let reporting = regions_of(s, at + 2, n);
+    let inhibiting = regions_of(s, second + 2, m);
+    Regions {
+        reporting: Boxes {
+            count: n as u8,
+            regions: reporting,
+        },
+        inhibiting: Boxes {
+            count: m as u8,
+            regions: inhibiting,
+        },
     }
 }
 

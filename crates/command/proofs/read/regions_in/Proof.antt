@@ -17,15 +17,15 @@ no-regions-requires c κs = search needs
 returns : tie.Need-returns
 returns c = c .no-regions .ensures ∙ sym (ap regionsFrom (not-held _ 2 (sym (c .before .before .is-named .ensures) ∙ not-true _ (c .before .if1 .taken))))
 
-regions-at-requires : tie.Need-regions-at-requires
-regions-at-requires c κs = stands-accepted (c .before .before .before .pre) (sym (c .before .is-named .ensures) ∙ not-false _ (c .if1 .left))
+both-lists-at-requires : tie.Need-both-lists-at-requires
+both-lists-at-requires c κs = stands-accepted (c .before .before .before .pre) (sym (c .before .is-named .ensures) ∙ not-false _ (c .if1 .left))
 
 returns-2 : tie.Need-returns-2
 returns-2 c =
     let named = sym (c .before .before .is-named .ensures) ∙ not-false _ (c .before .if1 .left) in
-    c .regions-at .ensures ∙ ap regionsFrom (stands-held (c .before .before .before .before .pre) named)
+    c .both-lists-at .ensures ∙ ap regionsFrom (stands-held (c .before .before .before .before .pre) named)
 
 pub regions-in-spec : {M : Type 1} → statement M
 regions-in-spec =
     tie.close
-    (tie.spec is-named-requires no-regions-requires returns regions-at-requires returns-2)
+    (tie.spec is-named-requires no-regions-requires returns both-lists-at-requires returns-2)

@@ -8,8 +8,11 @@ use Rattle.command.proofs.Placed.{over-zero, noted-stands}
 use Rattle.command.proofs.read.settings_of.Statement.{statement}
 use Rattle.command.proofs.read.settings_of.Tie as tie
 
-flags-of-requires : tie.Need-flags-of-requires
-flags-of-requires c κs = search needs
+array-read-airports-in : tie.Need-array-read-airports-in
+array-read-airports-in c = search needs
+
+airports-in-requires : tie.Need-airports-in-requires
+airports-in-requires c κs = noted-stands (c .before .pre .0) (c .before .pre .1) 3 refl
 
 array-read-regions-in : tie.Need-array-read-regions-in
 array-read-regions-in c = search needs
@@ -17,11 +20,8 @@ array-read-regions-in c = search needs
 regions-in-requires : tie.Need-regions-in-requires
 regions-in-requires c κs = noted-stands (c .before .before .pre .0) (c .before .before .pre .1) 2 refl
 
-array-read-airports-in : tie.Need-array-read-airports-in
-array-read-airports-in c = search needs
-
-airports-in-requires : tie.Need-airports-in-requires
-airports-in-requires c κs = noted-stands (c .before .before .before .pre .0) (c .before .before .before .pre .1) 3 refl
+flags-of-requires : tie.Need-flags-of-requires
+flags-of-requires c κs = search needs
 
 array-read-enroute-over : tie.Need-array-read-enroute-over
 array-read-enroute-over c = search needs
@@ -69,20 +69,20 @@ returns c =
       c .before .before .before .ascent-in .ensures,
       c .before .before .before .before .enroute-over .ensures,
       over-zero s enrouteFrom 4 (enrouteHold (enrouteFrom [])) refl,
-      c .before .before .before .before .before .airports-in .ensures,
+      c .before .before .before .before .before .flags-of .ensures,
       c .before .before .before .before .before .before .regions-in .ensures,
-      c .before .before .before .before .before .before .before .flags-of .ensures,
+      c .before .before .before .before .before .before .before .airports-in .ensures,
     )
 
 pub settings-of-spec : {M : Type 1} → statement M
 settings-of-spec =
     tie.close
     (tie.spec
-    flags-of-requires
-    array-read-regions-in
-    regions-in-requires
     array-read-airports-in
     airports-in-requires
+    array-read-regions-in
+    regions-in-requires
+    flags-of-requires
     array-read-enroute-over
     enroute-over-requires
     array-read-ascent-in

@@ -1,16 +1,13 @@
--- `section::check::check_section` meets its contract: by the number.
+-- `section::check::check_fixed` meets its contract: by the number.
 use borrow.Author.Needs.{needs}
-use Rattle.section.proofs.check.check_section.Statement.{statement}
-use Rattle.section.proofs.check.check_section.Tie as tie
+use Rattle.section.proofs.check.check_fixed.Statement.{statement}
+use Rattle.section.proofs.check.check_fixed.Tie as tie
+use native.Mathlib.Omega.{arith}
 use mathlib.Core.Logic.{⊎-elim, inl, inr}
+use mathlib.Core.Path.{_≡_}
+use Prim.Native.Nat.{ℕ}
 use borrow.Author.Tests.{ne-eqb}
 use Rattle.section.specs.Layout.{layoutOf, checkItems}
-
-regions-requires : tie.Need-regions-requires
-regions-requires c κs = search needs
-
-airports-requires : tie.Need-airports-requires
-airports-requires c κs = search needs
 
 enroute-requires : tie.Need-enroute-requires
 enroute-requires c κs = search needs
@@ -28,32 +25,28 @@ delimiter-requires : tie.Need-delimiter-requires
 delimiter-requires c κs = search needs
 
 returns : tie.Need-returns
-returns c = rw (c .before .match .keys1) (c .regions .ensures)
+returns c = rw (c .before .match .keys1) (c .enroute .ensures)
 
 returns-2 : tie.Need-returns-2
-returns-2 c = rw (c .before .match .keys2) (c .airports .ensures)
+returns-2 c = rw (c .before .match .keys2) (c .ascent .ensures)
 
 returns-3 : tie.Need-returns-3
-returns-3 c = rw (c .before .match .keys3) (c .enroute .ensures)
+unfolding layoutOf
+returns-3 c = ⊎-elim (λ e. rw e (c .last-number .ensures)) (λ e. rw e (c .last-number .ensures)) (c .before .match .keys3)
 
 returns-4 : tie.Need-returns-4
-returns-4 c = rw (c .before .match .keys4) (c .ascent .ensures)
+returns-4 c = rw (c .before .match .keys4) (c .hours .ensures)
 
 returns-5 : tie.Need-returns-5
-unfolding layoutOf
-returns-5 c = ⊎-elim (λ e. rw e (c .last-number .ensures)) (λ e. rw e (c .last-number .ensures)) (c .before .match .keys5)
-
-returns-6 : tie.Need-returns-6
-returns-6 c = rw (c .before .match .keys6) (c .hours .ensures)
-
-returns-7 : tie.Need-returns-7
 unfolding layoutOf checkItems
-returns-7 c =
-    let k = c .before .before .before .args .k in
+returns-5 c =
+    let start = c .before .before .before in
+    let k : ℕ = start .args .k in
     let n = c .before .match .rest in
+    let large = start .pre .1 in
     rw (
-      ne-eqb k 2 (n .0 .0 .0 .0 .0 .1),
-      ne-eqb k 3 (n .0 .0 .0 .0 .1),
+      ne-eqb k 2 (λ (e : k ≡ 2). omega (arith, large)),
+      ne-eqb k 3 (λ (e : k ≡ 3). omega (arith, large)),
       ne-eqb k 4 (n .0 .0 .0 .1),
       ne-eqb k 5 (n .0 .0 .1),
       ne-eqb k 6 (λ e. n .0 .1 (inl e)),
@@ -62,12 +55,10 @@ returns-7 c =
     )
     (c .delimiter .ensures)
 
-pub check-section-spec : {M : Type 1} → statement M
-check-section-spec =
+pub check-fixed-spec : {M : Type 1} → statement M
+check-fixed-spec =
     tie.close
     (tie.spec
-    regions-requires
-    airports-requires
     enroute-requires
     ascent-requires
     last-number-requires
@@ -77,6 +68,4 @@ check-section-spec =
     returns-2
     returns-3
     returns-4
-    returns-5
-    returns-6
-    returns-7)
+    returns-5)
