@@ -11,6 +11,3 @@ pub mod Columns
 pub mod Placed
 pub mod Reached
 pub mod Codes
-pub mod Writing
-pub mod ReadBack
-pub mod RoundTrip

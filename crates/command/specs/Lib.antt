@@ -1,4 +1,3 @@
 pub mod Record
 pub mod Steps
 pub mod Text
-pub mod Writing

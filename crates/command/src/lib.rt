@@ -1,8 +1,6 @@
 // The uplink command of document 01, 22 to 835 bytes.
 pub mod check;
 pub mod read;
-pub mod record;
-pub mod write;
 
 use section::Settings;
 
@@ -20,11 +18,4 @@ pub struct Got {
     pub code: u8,
     pub place: usize,
     pub command: Command,
-}
-
-// What writing gives: the length of the text that was written, or the refusal's code and place and no length.
-pub struct Wrote {
-    pub code: u8,
-    pub place: usize,
-    pub length: usize,
 }

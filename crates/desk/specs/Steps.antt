@@ -1,6 +1,6 @@
 -- What the inner functions answer. No promise to a caller rests on these names.
 use Prim.Native.Nat.{ℕ}
-use Rattle.command.specs.declared.Wrote.{Wrote}
+use Rattle.command_write.specs.declared.Wrote.{Wrote}
 use Rattle.join.specs.declared.Told.{Told}
 use Rattle.join.specs.declared.Told.the-variants.{Text, Refused}
 use Rattle.desk.specs.Numbers.{accepted}

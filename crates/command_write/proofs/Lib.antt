@@ -1,0 +1,4 @@
+-- The laws that the layers above cite.
+pub mod Writing
+pub mod ReadBack
+pub mod RoundTrip

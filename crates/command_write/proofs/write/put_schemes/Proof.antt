@@ -1,0 +1,107 @@
+use borrow.Author.Needs.{needs}
+use Rattle.command_write.proofs.write.put_schemes.Statement.{statement}
+use Rattle.command_write.proofs.write.put_schemes.Tie as tie
+use native.Mathlib.Omega.{arith}
+use mathlib.Core.Path.{_≡_, sym, ap, _∙_}
+use mathlib.Core.List.{List, [], _∷_, _++_}
+use Prim.Native.Nat.{ℕ, _+_, _≤_}
+use lib.Dec.{eqb}
+use lib.ListN.{length, getD, length-append}
+use denote.Ref.{now}
+use Rattle.text.specs.Over.{over}
+use Rattle.section.specs.Settings.{contentsOf, enrouteHold, ascentHold}
+use Rattle.command.specs.Record.{sectionsText}
+use Rattle.command_write.specs.Writing.{textIf}
+use Rattle.command.specs.declared.Command.{Command}
+use Rattle.command_write.proofs.Writing.{rest-start, rest-room, rest-written, text-two}
+
+-- the first text and the second
+abbrev one : Command → List ℕ
+one x = textIf (eqb (getD (x .named) 2 0) 4) 4 (enrouteHold (x .settings .enroute))
+
+abbrev two : Command → List ℕ
+two x = textIf (eqb (getD (x .named) 3 0) 5) 5 (ascentHold (x .settings .ascent))
+
+whole : (x : Command) → sectionsText (4 ∷ 5 ∷ []) x ≡ one x ++ two x
+unfolding contentsOf
+whole x = text-two 4 5 x
+
+room : (s : tie.Start) → length (one (s .args .c)) + length (two (s .args .c)) ≤ length (now (s .args .d))
+room s = omega (arith, s .pre .1, ap length (whole (s .args .c)), length-append (one (s .args .c)) (two (s .args .c)))
+
+array-read-put-named-enroute : tie.Need-array-read-put-named-enroute
+array-read-put-named-enroute c = search needs
+
+put-named-enroute-requires : tie.Need-put-named-enroute-requires
+unfolding contentsOf
+put-named-enroute-requires c κs =
+    let s = c .before .before .before .before .before .before in
+    let h : length (one (s .args .c)) ≤ length (now (s .args .d)) = omega (arith, room s) in
+    (s .pre .0 .0, h)
+
+array-read-put-named-ascent : tie.Need-array-read-put-named-ascent
+array-read-put-named-ascent c = search needs
+
+sub-put-named-ascent : tie.Need-sub-put-named-ascent
+unfolding contentsOf
+sub-put-named-ascent c =
+    let f = c .before .before .put-named-enroute in
+    let s = c .before .before .before .before .before .before .before .before .before in
+    rest-start (now (s .args .d)) (f .last .1 .1 .0) (one (s .args .c)) (f .result) (f .ensures .1) (f .ensures .0) (length (two (s .args .c))) (omega (arith, room s, f .ensures .0))
+
+part-put-named-ascent-start : tie.Need-part-put-named-ascent-start
+unfolding contentsOf
+part-put-named-ascent-start c =
+    let f = c .before .before .put-named-enroute in
+    let s = c .before .before .before .before .before .before .before .before .before in
+    let h : f .result ≤ length (f .last .1 .1 .0) = rest-start (now (s .args .d)) (f .last .1 .1 .0) (one (s .args .c)) (f .result) (f .ensures .1) (f .ensures .0) (length (two (s .args .c))) (omega (arith, room s, f .ensures .0)) in
+    h
+
+part-put-named-ascent-end : tie.Need-part-put-named-ascent-end
+part-put-named-ascent-end c = search needs
+
+put-named-ascent-requires : tie.Need-put-named-ascent-requires
+unfolding contentsOf
+put-named-ascent-requires c κs =
+    let f = c .before .before .before .put-named-enroute in
+    let s = c .before .before .before .before .before .before .before .before .before .before in
+    (s .pre .0 .1 .0, rest-room (now (s .args .d)) (f .last .1 .1 .0) (one (s .args .c)) (f .result) (f .ensures .1) (f .ensures .0) (length (two (s .args .c))) (omega (arith, room s, f .ensures .0)))
+
+add-result : tie.Need-add-result
+unfolding contentsOf
+add-result c =
+    let f = c .before .before .before .before .before .before .put-named-enroute in
+    let g = c .before .before .put-named-ascent in
+    let s = c .before .before .before .before .before .before .before .before .before .before .before .before .before in
+    let h : f .result + g .result ≤ length (now (s .args .d)) = omega (arith, room s, f .ensures .0, g .ensures .0) in
+    search needs
+
+same-length : tie.Need-same-length
+same-length c = search needs
+
+returns : tie.Need-returns
+unfolding contentsOf
+returns c =
+    let f = c .before .before .before .before .before .before .put-named-enroute in
+    let g = c .before .before .put-named-ascent in
+    let s = c .before .before .before .before .before .before .before .before .before .before .before .before .before in
+    let x = s .args .c in (
+      omega (arith, f .ensures .0, g .ensures .0, ap length (whole x), length-append (one x) (two x)),
+      rest-written (now (s .args .d)) (f .last .1 .1 .0) (one x) (f .result) (f .ensures .1) (f .ensures .0) (g .last .1 .1 .0) (two x) (omega (arith, room s, f .ensures .0)) (g .ensures .1)
+          ∙ ap (over (now (s .args .d)) 0) (sym (whole x)),
+    )
+
+pub put-schemes-spec : {M : Type 1} → statement M
+put-schemes-spec =
+    tie.close
+    (tie.spec
+    array-read-put-named-enroute
+    put-named-enroute-requires
+    array-read-put-named-ascent
+    sub-put-named-ascent
+    part-put-named-ascent-start
+    part-put-named-ascent-end
+    put-named-ascent-requires
+    add-result
+    same-length
+    returns)
