@@ -12,10 +12,7 @@ use Rattle.command.specs.Steps.{sectionSeen, placeOf, Reached, Noted}
 use Rattle.command.proofs.Checking.{section-stop, section-on, section-inside, sections-end, place-here, place-on}
 use Rattle.command.proofs.Placed.{one-least, one-most}
 
--- a refusal is no place to go on
-pub stops : (c q p : ℕ) → Stop c q ≡ Next p → ⊥
-stops c q p e = let z : _≡_ {A = ℕ} 0 1 = cc in omega arith
-
+-- the place that a step goes on from
 pub same-place : (p q : ℕ) → Next p ≡ Next q → p ≡ q
 same-place p q e = cc
 

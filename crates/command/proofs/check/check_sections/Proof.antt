@@ -1,7 +1,7 @@
 -- `command::check::check_sections` meets its contract.
 use mathlib.Core.Path.{_≡_, sym, _∙_}
 use borrow.Author.Needs.{needs}
-use Rattle.command.proofs.Reached.{stops}
+use Rattle.field.proofs.Accepted.{stop-next}
 use Rattle.command.proofs.check.check_sections.Statement.{statement}
 use Rattle.command.proofs.check.check_sections.Tie as tie
 
@@ -24,7 +24,7 @@ same-length c = search needs
 returns : tie.Need-returns
 returns c =
     let met = c .before .before .before .before .before .list-sections .ensures in
-    (sym (met .0 _ _ (c .before .code .given .1)), λ p e. absurd (stops _ _ _ e))
+    (sym (met .0 _ _ (c .before .code .given .1)), λ p e. stop-next _ _ _ e)
 
 same-length-2 : tie.Need-same-length-2
 same-length-2 c = search needs

@@ -5,8 +5,9 @@ use native.Mathlib.Omega.{arith}
 use mathlib.Core.Path.{_≡_, refl, sym, _∙_}
 use Prim.Native.Nat.{ℕ, _-_, _≤_, _<_}
 use lib.ListN.{length-set}
+use Rattle.field.proofs.Accepted.{stop-next}
 use Rattle.command.specs.Steps.{Reached}
-use Rattle.command.proofs.Reached.{stops, reached-stop, reached-on, reached-end, reached-noted}
+use Rattle.command.proofs.Reached.{reached-stop, reached-on, reached-end, reached-noted}
 use borrow.Author.Needs.{needs}
 
 abbrev Inv-loop : tie.InvT-loop
@@ -42,7 +43,7 @@ returns c =
     let l = i .before in
     let seen = sym (c .before .before .before .fixed-seen .ensures) ∙ c .before .code .given .1 in (
       sym (reached-stop _ (l .loop .k) (l .loop .at) _ (omega (arith, l .loop .inv .0)) (i .loop-test .taken) (l .loop .inv .2) _ _ seen),
-      λ p e. absurd (stops _ _ _ e),
+      λ p e. stop-next _ _ _ e,
     )
 
 enum-known-p : tie.Need-enum-known-p Inv-loop μ-loop

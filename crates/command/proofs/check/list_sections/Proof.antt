@@ -5,8 +5,9 @@ use native.Mathlib.Omega.{arith}
 use mathlib.Core.Path.{_≡_, refl, sym, _∙_}
 use Prim.Native.Nat.{ℕ, _-_, _≤_, _<_}
 use lib.ListN.{length-set}
+use Rattle.field.proofs.Accepted.{stop-next}
 use Rattle.command.specs.Steps.{Reached}
-use Rattle.command.proofs.Reached.{stops, same-place, reached-first, reached-stop, reached-on}
+use Rattle.command.proofs.Reached.{same-place, reached-first, reached-stop, reached-on}
 use borrow.Author.Needs.{needs}
 
 abbrev Inv-loop : tie.InvT-loop
@@ -40,7 +41,7 @@ returns c =
     let i = c .before .before .before .before in
     let l = i .before in (
       λ d q e. reached-stop _ (l .loop .k) (l .loop .at) _ (l .loop .inv .0) (omega arith) (l .loop .inv .2) _ _ (sym (c .before .before .before .list-seen .ensures) ∙ c .before .code .given .1) ∙ e,
-      λ p e. absurd (stops _ _ _ e),
+      λ p e. stop-next _ _ _ e,
     )
 
 enum-known-p : tie.Need-enum-known-p Inv-loop μ-loop
@@ -66,7 +67,7 @@ returns-2 : tie.Need-returns-2 Inv-loop μ-loop
 returns-2 c =
     let l = c .before in
     let four : l .loop .k ≡ 4 = omega (arith, c .loop-test .left) in (
-      λ d q e. absurd (stops _ _ _ (sym e)),
+      λ d q e. stop-next _ _ _ (sym e),
       λ p e. rw (← four, ← same-place (l .loop .at) p e) (l .loop .inv .2),
     )
 
