@@ -11,7 +11,11 @@ decisionNumber Silent = 0
 decisionNumber Routine = 1
 decisionNumber Scheme = 2
 
--- a refusal carries nothing but its code
+-- the place is always 0
+abbrev pub hostDecided : ℕ → ℕ → HostDecided
+hostDecided code decision = record { place = 0; code = code; decision = decision; spare = 0; rest = 0 }
+
+-- a refusal carries nothing but its code and place
 abbrev pub decidedNumbers : Decided → HostDecided
-decidedNumbers (Is d) = record { code = 0; decision = decisionNumber d }
-decidedNumbers (Refused code) = record { code = code; decision = 0 }
+decidedNumbers (Is d) = hostDecided 0 (decisionNumber d)
+decidedNumbers (Refused code) = hostDecided code 0

@@ -3,6 +3,6 @@ pub mod Decisions
 pub mod Joins
 pub mod Numbers
 pub mod Outcomes
-pub mod Records
+pub mod Reports
 pub mod Steps
 pub mod Waiting

@@ -10,7 +10,6 @@ use Rattle.packed.specs.declared.Figure.the-variants.{Given, Missing}
 use Rattle.packed.specs.declared.Packed.{Packed}
 use Rattle.packed.specs.declared.Packed.the-variants.{Is, Refused}
 use Rattle.desk.specs.declared.Answer.{Answer}
-use Rattle.desk.specs.declared.HostFigure.{HostFigure}
 use Rattle.desk.specs.declared.PackedAnswer.{PackedAnswer}
 
 -- ---- Answers that carry a code, a place and a length
@@ -33,14 +32,6 @@ writeNumbers Fine n = accepted n
 writeNumbers (Bad c p) n = answerOf c p
 
 -- ---- Packed figures
-
--- a figure from C: any other `given` than 0 is given
-abbrev pub figureOf : HostFigure → Figure
-figureOf f = cond (eqb (f .given) 0) Missing (Given (f .number))
-
-abbrev pub hostFigure : Figure → HostFigure
-hostFigure (Given x) = record { number = x; given = 1 }
-hostFigure Missing = record { number = pos 0; given = 0 }
 
 abbrev pub packedNumbers : Packed → PackedAnswer
 packedNumbers (Is (Given x)) = record { number = x; place = 0; code = 0; given = 1 }

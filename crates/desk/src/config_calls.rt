@@ -1,13 +1,14 @@
 // The configuration: after reset, whether it is valid, and a command applied to it in place.
+use crate::Answer;
 use crate::HostApplied;
+use crate::answers::answer_of;
 use config::settings::after_reset;
 use config::settings::apply;
 use config::settings::is_valid;
 use section::Settings;
 ghost use mathlib.Core.Path.{_≡_};
-ghost use mathlib.Core.Bool.{cond};
 ghost use Rattle.config.specs.Config.{reset, valid, applied, kept};
-ghost use Rattle.desk.specs.Outcomes.{appliedNumbers, outcomeOf};
+ghost use Rattle.desk.specs.Outcomes.{validNumbers, appliedNumbers, outcomeOf};
 
 #[no_mangle]
 pub extern "C" fn esk_reset() -> Settings
@@ -16,21 +17,20 @@ pub extern "C" fn esk_reset() -> Settings
     after_reset()
 }
 
-// 1 or 0.
-fn valid_number(x: Settings) -> u8
-    ensures { λ r. ⌜ r ≡ cond (valid x) 1 0 ⌝ }
+fn valid_answer(x: Settings) -> Answer
+    ensures { λ r. ⌜ r ≡ validNumbers (valid x) ⌝ }
 {
     if is_valid(x) {
-        return 1;
+        return answer_of(0, 0);
     }
-    0
+    answer_of(12, 0)
 }
 
 #[no_mangle]
-pub extern "C" fn esk_settings_valid(settings: &Settings) -> u8
-    ensures { λ r. ⌜ r ≡ cond (valid (now (settings .entry))) 1 0 ⌝ }
+pub extern "C" fn esk_settings_valid(settings: &Settings) -> Answer
+    ensures { λ r. ⌜ r ≡ validNumbers (valid (now (settings .entry))) ⌝ }
 {
-    valid_number(*settings)
+    valid_answer(*settings)
 }
 
 // What the host is told, and the settings that an accepted command leaves.

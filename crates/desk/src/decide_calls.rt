@@ -6,7 +6,7 @@ use decide::rules::decide;
 use section::Settings;
 ghost use mathlib.Core.Path.{_≡_};
 ghost use Rattle.decide.specs.Decide.{decided};
-ghost use Rattle.desk.specs.Decisions.{decisionNumber, decidedNumbers};
+ghost use Rattle.desk.specs.Decisions.{decisionNumber, hostDecided, decidedNumbers};
 
 fn number_of(decision: Decision) -> u8
     ensures { λ r. ⌜ r ≡ decisionNumber decision ⌝ }
@@ -18,16 +18,25 @@ fn number_of(decision: Decision) -> u8
     }
 }
 
+fn host_decided(code: u8, decision: u8) -> HostDecided
+    ensures { λ r. ⌜ r ≡ hostDecided code decision ⌝ }
+{
+    HostDecided {
+        place: 0,
+        code,
+        decision,
+        spare: 0,
+        rest: 0,
+    }
+}
+
 // A refusal carries its code and the one empty decision.
 fn decided_answer(d: Decided) -> HostDecided
     ensures { λ r. ⌜ r ≡ decidedNumbers d ⌝ }
 {
     match d {
-        Decided::Is(decision) => HostDecided {
-            code: 0,
-            decision: number_of(decision),
-        },
-        Decided::Refused(code) => HostDecided { code, decision: 0 },
+        Decided::Is(decision) => host_decided(0, number_of(decision)),
+        Decided::Refused(code) => host_decided(code, 0),
     }
 }
 

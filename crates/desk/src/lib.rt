@@ -6,9 +6,9 @@ mod config_calls;
 mod decide_calls;
 mod join_calls;
 mod packed_calls;
-mod records;
 mod report_calls;
 
+use caller::HostReport;
 use command::Command;
 
 // The answer of a call that checks or writes.
@@ -21,13 +21,6 @@ pub struct Answer {
     pub spare: u16,
 }
 
-// A figure as C has it: `given` is 1, or 0 for a missing one.
-#[repr(C)]
-pub struct HostFigure {
-    pub number: i32,
-    pub given: u32,
-}
-
 // The answer of reading a packed field.
 #[repr(C)]
 pub struct PackedAnswer {
@@ -35,33 +28,6 @@ pub struct PackedAnswer {
     pub place: u16,
     pub code: u8,
     pub given: u8,
-}
-
-// An observation as C has it: `present` is 1, or 0 for an absent one.
-#[repr(C)]
-pub struct HostObservation {
-    pub latitude: HostFigure,
-    pub longitude: HostFigure,
-    pub time: HostFigure,
-    pub altitude: HostFigure,
-    pub temperature: HostFigure,
-    pub direction: HostFigure,
-    pub speed: HostFigure,
-    pub gust: HostFigure,
-    pub vapour: HostFigure,
-    pub kind: u8,
-    pub quality: u8,
-    pub present: u16,
-}
-
-#[repr(C)]
-pub struct HostReport {
-    pub departure: [u8; 4],
-    pub arrival: [u8; 4],
-    pub designator: [u8; 6],
-    pub spare: u16,
-    pub first: HostObservation,
-    pub later: [HostObservation; 7],
 }
 
 // The answer of reading a report.
@@ -91,6 +57,9 @@ pub struct HostApplied {
 // The answer of whether to report: 0 silent, 1 routine, 2 scheme.
 #[repr(C)]
 pub struct HostDecided {
+    pub place: usize,
     pub code: u8,
     pub decision: u8,
+    pub spare: u16,
+    pub rest: u32,
 }

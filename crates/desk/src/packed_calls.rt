@@ -1,17 +1,18 @@
 // Packed figures for C.
 use crate::Answer;
-use crate::HostFigure;
 use crate::PackedAnswer;
+use caller::HostFigure;
+use caller::figure::write_figure;
 use packed::Figure;
 use packed::Packed;
-use packed::lone::write_lone;
 use packed::read::read_lone;
 ghost use mathlib.Core.Path.{_≡_};
 ghost use Prim.Native.Nat.{_≤_};
 ghost use lib.ListN.{length};
 ghost use lib.IntN.{pos};
-ghost use Rattle.packed.specs.Packed.{readPacked, placeOf, writeCode, written};
-ghost use Rattle.desk.specs.Numbers.{packedNumbers, figureOf, writeAnswer};
+ghost use Rattle.packed.specs.Packed.{readPacked, placeOf};
+ghost use Rattle.caller.specs.Figures.{writeFigureCode, figureOver};
+ghost use Rattle.desk.specs.Numbers.{packedNumbers, writeAnswer};
 
 // A place in a field is small.
 fn narrow(place: usize) -> u16
@@ -69,15 +70,6 @@ pub extern "C" fn esk_packed_read(field: &[u8]) -> PackedAnswer
     packed_answer(read_lone(field))
 }
 
-pub fn figure_from(f: HostFigure) -> Figure
-    ensures { λ r. ⌜ r ≡ figureOf f ⌝ }
-{
-    if f.given == 0 {
-        return Figure::Missing;
-    }
-    Figure::Given(f.number)
-}
-
 // A field's width is small.
 fn wide(width: usize) -> u32
     requires { ⌜ width ≤ 5 ⌝ }
@@ -110,9 +102,9 @@ fn write_answer(code: u8, width: usize) -> Answer
 
 #[no_mangle]
 pub extern "C" fn esk_packed_write(figure: HostFigure, width: usize, out: &mut [u8]) -> Answer
-    ensures { λ r. ⌜ (r ≡ writeAnswer (writeCode (figureOf figure) width (length (now (out .entry)))) width)
-        × (now (out .exit) ≡ written (figureOf figure) width (now (out .entry))) ⌝ }
+    ensures { λ r. ⌜ (r ≡ writeAnswer (writeFigureCode figure width (length (now (out .entry)))) width)
+        × (now (out .exit) ≡ figureOver figure width (now (out .entry))) ⌝ }
 {
-    let code = write_lone(figure_from(figure), width, out);
+    let code = write_figure(figure, width, out);
     write_answer(code, width)
 }

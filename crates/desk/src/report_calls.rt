@@ -1,22 +1,23 @@
 // Reports for C.
 use crate::Answer;
-use crate::HostReport;
 use crate::ReportAnswer;
 use crate::answers::answer_of;
 use crate::answers::numbers;
-use crate::records::host_report;
-use crate::records::record_from;
+use caller::HostReport;
+use caller::records::host_report;
+use caller::write::write_host;
 use packed::table::digit_table;
 use packed::table::worth_table;
 use report::Got;
 use report::check::check;
 use report::read::read;
-use report::write::write;
 ghost use mathlib.Core.Path.{_≡_};
 ghost use lib.ListN.{length};
-ghost use Rattle.report.specs.Report.{checkText, readReport, reportText, writeSeen, leftBy};
+ghost use Rattle.report.specs.Report.{checkText, readReport, reportText, leftBy};
+ghost use Rattle.caller.specs.Records.{recordOf};
+ghost use Rattle.caller.specs.Forms.{hostSeen};
 ghost use Rattle.desk.specs.Numbers.{checkNumbers, writeNumbers};
-ghost use Rattle.desk.specs.Records.{reportNumbers, recordOf};
+ghost use Rattle.desk.specs.Reports.{reportNumbers};
 
 #[no_mangle]
 pub extern "C" fn esk_report_check(text: &[u8]) -> Answer
@@ -46,10 +47,10 @@ pub extern "C" fn esk_report_read(text: &[u8]) -> ReportAnswer
 
 #[no_mangle]
 pub extern "C" fn esk_report_write(report: HostReport, out: &mut [u8]) -> Answer
-    ensures { λ r. ⌜ (r ≡ writeNumbers (writeSeen (recordOf report) (length (now (out .entry)))) 220)
-        × (now (out .exit) ≡ leftBy (writeSeen (recordOf report) (length (now (out .entry)))) (reportText (recordOf report)) (now (out .entry))) ⌝ }
+    ensures { λ r. ⌜ (r ≡ writeNumbers (hostSeen report (length (now (out .entry)))) 220)
+        × (now (out .exit) ≡ leftBy (hostSeen report (length (now (out .entry)))) (reportText (recordOf report)) (now (out .entry))) ⌝ }
 {
     let t = digit_table();
-    let seen = write(&t, record_from(report), out);
+    let seen = write_host(&t, report, out);
     numbers(seen, 220)
 }

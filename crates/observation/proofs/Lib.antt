@@ -3,6 +3,7 @@ pub mod Acceptance
 pub mod Accepted
 pub mod Bytes
 pub mod Checked
+pub mod Codes
 pub mod Figures
 mod Fewest
 mod AllGiven

@@ -1,4 +1,5 @@
 -- The laws that the layers above cite.
+pub mod Bytes
 pub mod Cases
 pub mod Checks
 pub mod Equal

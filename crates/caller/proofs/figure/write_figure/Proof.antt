@@ -1,0 +1,59 @@
+use borrow.Author.Needs.{needs}
+use Rattle.caller.proofs.figure.write_figure.Statement.{statement}
+use Rattle.caller.proofs.figure.write_figure.Tie as tie
+use Rattle.caller.proofs.figure.write_figure.Reads as reads
+use Rattle.caller.proofs.figure.write_figure.Lts as lts
+use Rattle.caller.proofs.figure.code_of_other.Reads as code-of-other-reads
+use Rattle.caller.proofs.figure.figure_from.Reads as figure-from-reads
+use Rattle.caller.proofs.figure.is_figure.Reads as is-figure-reads
+use Rattle.packed.proofs.lone.write_lone.Reads as write-lone-reads
+use mathlib.Core.Path.{_≡_, refl, sym, _∙_, ap}
+use Rattle.caller.proofs.Figures.{formed-code, formed-over, other-code, other-over}
+
+-- src/figure.rt:63:8
+is-figure-requires : tie.Need-is-figure-requires
+is-figure-requires c κs = search needs
+
+-- src/figure.rt:64:27
+figure-from-requires : tie.Need-figure-from-requires
+figure-from-requires c κs = search needs
+
+-- src/figure.rt:64:9
+write-lone-requires : tie.Need-write-lone-requires
+write-lone-requires c κs = search needs
+
+-- src/figure.rt:64:9
+same-length : tie.Need-same-length
+same-length c = search needs
+
+-- src/figure.rt:64:9
+returns : tie.Need-returns
+returns c =
+    let w = c .before .before .write-lone .ensures in
+    let f = c .before .before .before .before .figure-from .ensures in
+    let a = c .before .before .before .before .before .before .before .before .args in
+    let e = sym (c .before .before .before .before .before .before .is-figure .ensures) ∙ c .before .before .before .before .before .if1 .taken in
+    (w .0 ∙ rw f (sym (formed-code (a .f) (a .width) _ e)), w .1 ∙ rw f (sym (formed-over (a .f) (a .width) _ e)))
+
+-- src/figure.rt:66:5
+code-of-other-requires : tie.Need-code-of-other-requires
+code-of-other-requires c κs = search needs
+
+-- src/figure.rt:60:1
+returns-2 : tie.Need-returns-2
+returns-2 c =
+    let a = c .before .before .before .before .args in
+    let e = sym (c .before .before .is-figure .ensures) ∙ c .before .if1 .left in
+    (c .code-of-other .ensures ∙ sym (other-code (a .f) (a .width) _ e), sym (other-over (a .f) (a .width) _ e))
+
+pub write-figure-spec : {M : Type 1} → statement M
+write-figure-spec =
+    tie.close
+    (tie.spec
+    is-figure-requires
+    figure-from-requires
+    write-lone-requires
+    same-length
+    returns
+    code-of-other-requires
+    returns-2)
