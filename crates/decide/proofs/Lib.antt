@@ -6,3 +6,6 @@ pub mod Inside
 pub mod Listed
 pub mod Order
 pub mod Position
+pub mod Sound
+pub mod Tests
+pub mod Words

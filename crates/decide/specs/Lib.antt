@@ -1,2 +1,4 @@
 pub mod Decide
+pub mod Rules
 pub mod Steps
+pub mod Words

@@ -1,0 +1,265 @@
+-- The tests that decide say what the document's words say.
+use mathlib.Core.Path.{_≡_, refl, sym, ap, _∙_}
+use mathlib.Core.Logic.{_⊎_, inl, inr}
+use mathlib.Core.Bool.{Bool, true, false, cond, _&&_, _||_}
+use mathlib.Core.List.{List, [], _∷_}
+use Prim.Native.Nat.{ℕ, zero, suc, _+_, _-_, _*_, _%_, _≤_, _<_}
+use native.Mathlib.Omega.{arith}
+use lib.Dec.{leb, ltb, eqb}
+use lib.IntN.{ℤ, pos, negsuc, negℤ}
+use lib.Signed.{mag, leZ, _≤ℤ_}
+use lib.ListN.{length, getD, take, drop}
+use lib.Seq.{drop-drop}
+use borrow.Author.Tests.{le-leb, lt-leb, eqb-true}
+use Rattle.text.specs.Equal.{sameBytes}
+use Rattle.text.specs.Names.{allowed, allAllowed}
+use Rattle.text.specs.Parts.{part}
+use Rattle.text.proofs.Cases.{by-le, by-lt, by-test}
+use Rattle.text.proofs.Equal.{same-equal, equal-same}
+use Rattle.packed.specs.Packed.{above}
+use Rattle.field.specs.Boxes.{latitude, longitude, lineOf, noRegion}
+use Rattle.field.specs.declared.Circle.{Circle}
+use Rattle.field.specs.declared.Edge.{Edge}
+use Rattle.field.specs.declared.Region.{Region}
+use Rattle.field.proofs.RoundTrip.{Allowed, AllowedBox}
+use Rattle.lists.specs.declared.Airfields.{Airfields}
+use Rattle.lists.specs.declared.Boxes.{Boxes}
+use Rattle.decide.specs.Decide.{Question, inWindow, minutes, holds, anyHolds, inAny, hasAirfield, has, inRange, isAirfield}
+use Rattle.decide.specs.Words.{InRange, AllowedByte, FourAllowed, InWindow, liesAt, Holds, SomeHolds, Has}
+use Rattle.decide.proofs.Tests.{Says, never-said, reworded, both-said, either-said, le-said, lt-said, eq-said, leZ-said}
+
+-- ---- The window
+
+module _ (start end hour : ℕ) (s : start ≤ 23) (e : end ≤ 23) (h : hour ≤ 23) where
+  -- on the day of the start hour the steps are the hours between
+  same-day : start ≤ hour → (hour < end) ⊎ (end < start) → InWindow start end hour
+  same-day l (inl m) = record { steps = hour - start; comes = omega arith; before = λ k n p. omega arith }
+  same-day l (inr m) = record { steps = hour - start; comes = omega arith; before = λ k n p. omega arith }
+
+  -- over midnight they are so many more
+  next-day : end < start → hour < end → InWindow start end hour
+  next-day l m = record { steps = 24 - start + hour; comes = omega arith; before = λ k n p. omega arith }
+
+  -- the end is not come to, so it is further than the hour
+  rising : start ≤ end → InWindow start end hour → (start ≤ hour) × (hour < end)
+  rising l w =
+      let c = w .comes in
+      by-lt (w .steps) (end - start) (λ (m : w .steps < end - start). omega arith)
+      (λ (m : end - start ≤ w .steps). absurd (w .before (end - start) m (omega arith)))
+
+  falling : end < start → InWindow start end hour → (start ≤ hour) ⊎ (hour < end)
+  falling l w =
+      let c = w .comes in
+      by-lt (w .steps) (24 - start + end)
+      (λ (m : w .steps < 24 - start + end).
+      by-le start hour (λ (n : start ≤ hour). inl n) (λ (n : hour < start). inr (omega arith)))
+      (λ (m : 24 - start + end ≤ w .steps). absurd (w .before (24 - start + end) m (omega arith)))
+
+  pub window-said : Says (inWindow start end hour) (InWindow start end hour)
+  window-said =
+      by-le start end
+      (λ (l : start ≤ end).
+      rw (le-leb start end l)
+      (reworded (both-said (le-said start hour) (lt-said hour end)) (λ p. same-day (p .0) (inl (p .1))) (rising l)))
+      (λ (l : end < start).
+      rw (lt-leb start end l) (reworded (either-said (le-said start hour) (lt-said hour end)) (either l) (falling l)))
+    where
+      either : end < start → (start ≤ hour) ⊎ (hour < end) → InWindow start end hour
+      either l (inl m) = same-day m (inr l)
+      either l (inr m) = next-day l m
+
+-- ---- Boxes
+
+-- minutes from 1000 degrees below zero lie as the signed ones do
+above-order : (a b : ℤ) (h : ℕ) → mag a < h → mag b < h → leb (above a h) (above b h) ≡ leZ a b
+above-order (pos a) (pos b) h l m =
+    by-le a b (λ (n : a ≤ b). rw (le-leb a b n) (le-leb (a + h) (b + h) (omega arith)))
+    (λ (n : b < a). rw (lt-leb a b n) (lt-leb (a + h) (b + h) (omega arith)))
+above-order (pos a) (negsuc b) h l m = lt-leb (a + h) (h - suc b) (omega arith)
+above-order (negsuc a) (pos b) h l m = le-leb (h - suc a) (b + h) (omega arith)
+above-order (negsuc a) (negsuc b) h l m =
+    by-le b a (λ (n : b ≤ a). rw (le-leb b a n) (le-leb (h - suc a) (h - suc b) (omega arith)))
+    (λ (n : a < b). rw (lt-leb b a n) (lt-leb (h - suc a) (h - suc b) (omega arith)))
+
+above-below : (m h : ℕ) → above (negℤ (pos m)) h ≡ h - m
+above-below zero h = omega arith
+above-below (suc m) h = refl
+
+size-below : (m : ℕ) → mag (negℤ (pos m)) ≤ m
+size-below zero = omega arith
+size-below (suc m) = omega arith
+
+-- a letter that an edge can have lies below zero where the words say so; both facts on the circle are computed
+letter-below : (c : Circle) (l : ℕ)
+    → (eqb (c .above) 83 || eqb (c .above) 87) ≡ eqb (c .above) (c .below)
+    → (eqb (c .below) 83 || eqb (c .below) 87) ≡ eqb (c .below) (c .below)
+    → (l ≡ c .above) ⊎ (l ≡ c .below)
+    → (eqb l 83 || eqb l 87) ≡ eqb l (c .below)
+letter-below c l a b (inl p) = rw p a
+letter-below c l a b (inr p) = rw p b
+
+-- an edge of a circle
+module _ (c : Circle) (most : c .most ≤ 180)
+  (high : (eqb (c .above) 83 || eqb (c .above) 87) ≡ eqb (c .above) (c .below))
+  (low : (eqb (c .below) 83 || eqb (c .below) 87) ≡ eqb (c .below) (c .below))
+  (e : Edge) (ok : Allowed c e) (n : ℤ) (small : mag n < 60000) where
+  edge-below : (eqb (e .letter) 83 || eqb (e .letter) 87) ≡ eqb (e .letter) (c .below)
+  edge-below =
+      letter-below c (e .letter) high low
+      (either-said (eq-said (e .letter) (c .above)) (eq-said (e .letter) (c .below)) .yes-so (ok .letter))
+
+  edge-line : 60 * lineOf c e ≡ minutes (liesAt e)
+  unfolding lineOf
+  edge-line =
+      rw edge-below
+      (by-test (eqb (e .letter) (c .below))
+      (λ (t : eqb (e .letter) (c .below) ≡ true). rw t (omega (arith, ok .most, above-below (60 * e .degrees) 60000)))
+      (λ (t : eqb (e .letter) (c .below) ≡ false). rw t (omega arith)))
+
+  edge-size : mag (liesAt e) < 60000
+  edge-size =
+      by-test (eqb (e .letter) 83 || eqb (e .letter) 87)
+      (λ (t : (eqb (e .letter) 83 || eqb (e .letter) 87) ≡ true).
+      rw t (omega (arith, ok .most, size-below (60 * e .degrees))))
+      (λ (t : (eqb (e .letter) 83 || eqb (e .letter) 87) ≡ false). rw t (omega (arith, ok .most)))
+
+  -- whether a position lies from the edge on, and up to it
+  from-said : Says (leb (60 * lineOf c e) (minutes n)) (liesAt e ≤ℤ n)
+  from-said = rw (edge-line, above-order (liesAt e) n 60000 edge-size small) (leZ-said (liesAt e) n)
+
+  to-said : Says (leb (minutes n) (60 * lineOf c e)) (n ≤ℤ liesAt e)
+  to-said = rw (edge-line, above-order n (liesAt e) 60000 small edge-size) (leZ-said n (liesAt e))
+
+module _ (n e : ℤ) (small : mag n < 60000) (little : mag e < 60000) where
+  holds-said : (b : Region) → AllowedBox b → Says (holds b n e) (Holds b n e)
+  unfolding holds
+  holds-said b ok =
+      reworded
+      (both-said
+      (both-said
+      (both-said (from-said latitude (omega arith) refl refl (b .south) (ok .south) n small)
+      (to-said latitude (omega arith) refl refl (b .north) (ok .north) n small))
+      (from-said longitude (omega arith) refl refl (b .west) (ok .west) e little))
+      (to-said longitude (omega arith) refl refl (b .east) (ok .east) e little))
+      (λ p. record { south = p .0 .0 .0; north = p .0 .0 .1; west = p .0 .1; east = p .1 })
+      (λ h. (((h .south, h .north), h .west), h .east))
+
+  -- the first box of a list, or one behind it
+  some-in : (k : ℕ) (b : Region) (bs : List Region) → Holds b n e ⊎ SomeHolds (record { count = k; regions = bs }) n e
+      → SomeHolds (record { count = suc k; regions = b ∷ bs }) n e
+  some-in k b bs (inl h) = record { which = 0; counted = omega arith; there = omega arith; holds = h }
+  some-in k b bs (inr w) = record { which = suc (w .which); counted = omega arith; there = omega arith; holds = w .holds }
+
+  some-out : (k : ℕ) (b : Region) (bs : List Region) → SomeHolds (record { count = suc k; regions = b ∷ bs }) n e
+      → Holds b n e ⊎ SomeHolds (record { count = k; regions = bs }) n e
+  some-out k b bs w = at (w .which) (w .counted) (w .there) (w .holds)
+    where
+      at : (i : ℕ) → i < suc k → i < length (b ∷ bs) → Holds (getD (b ∷ bs) i noRegion) n e
+          → Holds b n e ⊎ SomeHolds (record { count = k; regions = bs }) n e
+      at zero l m h = inl h
+      at (suc i) l m h = inr (record { which = i; counted = omega arith; there = omega arith; holds = h })
+
+  boxes-said : (k : ℕ) (bs : List Region) → ((i : ℕ) → i < k → i < length bs → AllowedBox (getD bs i noRegion))
+      → Says (anyHolds (take k bs) n e) (SomeHolds (record { count = k; regions = bs }) n e)
+  unfolding anyHolds
+  boxes-said zero bs ok = never-said (λ (w : SomeHolds (record { count = 0; regions = bs }) n e). omega (arith, w .counted))
+  boxes-said (suc k) [] ok =
+      never-said (λ (w : SomeHolds (record { count = suc k; regions = [] }) n e). omega (arith, w .there))
+  boxes-said (suc k) (b ∷ bs) ok =
+      reworded
+      (either-said (holds-said b (ok 0 (omega arith) (omega arith)))
+      (boxes-said k bs (λ i l m. ok (suc i) (omega arith) (omega arith))))
+      (some-in k b bs) (some-out k b bs)
+
+  -- whether a box of a list holds the position
+  pub some-said : (l : Boxes)
+      → ((i : ℕ) → i < l .count → i < length (l .regions) → AllowedBox (getD (l .regions) i noRegion))
+      → Says (inAny l n e) (SomeHolds l n e)
+  some-said l ok = boxes-said (l .count) (l .regions) ok
+
+-- ---- Airfields
+
+module _ (a : List ℕ) where
+  has-in : (n : ℕ) (names : List ℕ) → (take 4 names ≡ a) ⊎ Has (record { count = n; names = drop 4 names }) a
+      → Has (record { count = suc n; names = names }) a
+  has-in n names (inl e) = record { which = 0; counted = omega arith; same = e }
+  has-in n names (inr w) =
+      let next : 4 * suc (w .which) ≡ 4 + 4 * w .which = omega arith in
+      record {
+        which = suc (w .which);
+        counted = omega arith;
+        same = ap (λ (k : ℕ). part k 4 names) next ∙ ap (take 4) (sym (drop-drop (4 * w .which) 4 names)) ∙ w .same;
+      }
+
+  has-out : (n : ℕ) (names : List ℕ) → Has (record { count = suc n; names = names }) a
+      → (take 4 names ≡ a) ⊎ Has (record { count = n; names = drop 4 names }) a
+  has-out n names w = at (w .which) (w .counted) (w .same)
+    where
+      at : (i : ℕ) → i < suc n → part (4 * i) 4 names ≡ a
+          → (take 4 names ≡ a) ⊎ Has (record { count = n; names = drop 4 names }) a
+      at zero l e = inl e
+      at (suc i) l e =
+          let next : 4 * suc i ≡ 4 + 4 * i = omega arith in
+          inr (record {
+            which = i;
+            counted = omega arith;
+            same = ap (take 4) (drop-drop (4 * i) 4 names) ∙ ap (λ (k : ℕ). part k 4 names) (sym next) ∙ e;
+          })
+
+  names-said : (n : ℕ) (names : List ℕ) → Says (hasAirfield n names a) (Has (record { count = n; names = names }) a)
+  unfolding hasAirfield
+  names-said zero names = never-said (λ (w : Has (record { count = 0; names = names }) a). omega (arith, w .counted))
+  names-said (suc n) names =
+      reworded
+      (either-said (record { yes-so = same-equal (take 4 names) a; so-yes = equal-same (take 4 names) a })
+      (names-said n (drop 4 names)))
+      (has-in n names) (has-out n names)
+
+  -- whether a list has the airfield
+  pub has-said : (l : Airfields) → Says (has l a) (Has l a)
+  has-said l = names-said (l .count) (l .names)
+
+-- ---- What is asked
+
+pub range-said : (q : Question) → Says (inRange q) (InRange q)
+range-said q =
+    reworded
+    (both-said
+    (both-said
+    (both-said
+    (both-said (both-said (le-said (q .phase) 2) (le-said (q .hour) 23)) (leZ-said (negsuc 5399) (q .north)))
+    (leZ-said (q .north) (pos 5400)))
+    (leZ-said (negsuc 10799) (q .east)))
+    (leZ-said (q .east) (pos 10800)))
+    (λ p.
+    record {
+      phase = p .0 .0 .0 .0 .0;
+      hour = p .0 .0 .0 .0 .1;
+      south = p .0 .0 .0 .1;
+      north = p .0 .0 .1;
+      west = p .0 .1;
+      east = p .1;
+    })
+    (λ r. (((((r .phase, r .hour), r .south), r .north), r .west), r .east))
+
+byte-said : (b : ℕ) → Says (allowed b) (AllowedByte b)
+unfolding allowed
+byte-said b = either-said (both-said (le-said 65 b) (le-said b 90)) (both-said (le-said 48 b) (le-said b 57))
+
+bytes-said : (a : List ℕ) → Says (allAllowed a) ((i : ℕ) → i < length a → AllowedByte (getD a i 0))
+unfolding allAllowed
+bytes-said [] = record { yes-so = λ e i l. absurd (omega arith); so-yes = λ f. refl }
+bytes-said (b ∷ bs) =
+    reworded (both-said (byte-said b) (bytes-said bs)) each
+    (λ f. (f 0 (omega arith), λ i l. f (suc i) (omega arith)))
+  where
+    each : AllowedByte b × ((i : ℕ) → i < length bs → AllowedByte (getD bs i 0))
+        → (i : ℕ) → i < length (b ∷ bs) → AllowedByte (getD (b ∷ bs) i 0)
+    each p zero l = p .0
+    each p (suc i) l = p .1 i (omega arith)
+
+pub airfield-said : (a : List ℕ) → Says (isAirfield a) (FourAllowed a)
+airfield-said a =
+    reworded (both-said (eq-said (length a) 4) (bytes-said a))
+    (λ p. record { four = p .0; allowed = λ i l. p .1 i (omega (arith, p .0)) })
+    (λ f. (f .four, λ i l. f .allowed i (omega (arith, f .four))))
