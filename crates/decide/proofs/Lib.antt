@@ -1,7 +1,8 @@
 -- What a forecaster would ask, computed cases, and what the code's proofs rest on.
+pub mod Answers
 pub mod Asked
 pub mod Cases
-pub mod Few
+pub mod Determined
 pub mod Inside
 pub mod Listed
 pub mod Order

@@ -1,13 +1,13 @@
 -- A test that says whether something is so.
 use mathlib.Core.Path.{_≡_, refl}
 use mathlib.Core.Logic.{_⊎_, inl, inr}
-use mathlib.Core.Bool.{Bool, true, false, _&&_, _||_}
+use mathlib.Core.Bool.{Bool, true, false, _&&_, _||_, not}
 use Prim.Native.Nat.{ℕ, _≤_, _<_}
 use native.Mathlib.Omega.{arith}
 use lib.Dec.{T, leb, ltb, eqb}
 use lib.IntN.{ℤ}
 use lib.Signed.{leZ, _≤ℤ_}
-use borrow.Author.Tests.{leb-true, le-leb, ltb-true, lt-ltb, eqb-true, eq-eqb}
+use borrow.Author.Tests.{not-true, leb-true, le-leb, ltb-true, lt-ltb, eqb-true, eq-eqb}
 
 pub record Says (t : Bool) (P : Type 0) : Type 0 where
   pub yes-so : t ≡ true → P
@@ -22,6 +22,11 @@ says-no {t = false} s n = refl
 pub no-says : {t : Bool} {P : Type 0} → Says t P → t ≡ false → ¬ P
 no-says s e p = let z : _≡_ {A = ℕ} 0 1 = cc (s .so-yes p) in omega arith
 
+-- by cases on whether it is so
+pub by-said {ℓ} : {t : Bool} {P : Type 0} {Q : Type ℓ} → Says t P → (P → Q) → (¬ P → Q) → Q
+by-said {t = true} s f g = f (s .yes-so refl)
+by-said {t = false} s f g = g (no-says s refl)
+
 -- what is never so
 pub never-said : {P : Type 0} → ¬ P → Says false P
 never-said n = record { yes-so = λ e. absurd (yes-no e); so-yes = λ p. absurd (n p) }
@@ -32,6 +37,10 @@ never-said n = record { yes-so = λ e. absurd (yes-no e); so-yes = λ p. absurd 
 -- one thing in other words
 pub reworded : {t : Bool} {P Q : Type 0} → Says t P → (P → Q) → (Q → P) → Says t Q
 reworded s f g = record { yes-so = λ e. f (s .yes-so e); so-yes = λ q. s .so-yes (g q) }
+
+-- something's not being so
+pub not-said : {t : Bool} {P : Type 0} → Says t P → Says (not t) (¬ P)
+not-said {t} s = record { yes-so = λ e. no-says s (not-true t e); so-yes = λ n. rw (says-no s n) }
 
 -- two things at once; one of two things
 pub both-said : {s t : Bool} {P Q : Type 0} → Says s P → Says t Q → Says (s && t) (P × Q)

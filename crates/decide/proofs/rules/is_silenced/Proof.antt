@@ -9,7 +9,7 @@ use lib.Dec.{eqb}
 use borrow.Author.Tests.{eq-eqb, ne-eqb}
 use mir.Facts.{toZ-ofZ}
 use Rattle.decide.specs.Decide.{amdar}
-use Rattle.decide.proofs.Few.{boxes-few}
+use Rattle.decide.proofs.Sound.{sound}
 
 -- the AMDAR flag is 0, or not
 off : (c : tie.Then1) → eqb (amdar (c .before .before .before .args .x)) 0 ≡ true
@@ -42,8 +42,8 @@ returns-3 c = rw (on (c .before .before .before), ← c .before .before .in-wind
 is-outside-requires : tie.Need-is-outside-requires
 is-outside-requires c κs =
     let start = c .before .before .before .before .before .before .before in
-    let few = boxes-few (start .args .x) (start .pre .0) in
-    rw (toZ-ofZ (start .fits .north), toZ-ofZ (start .fits .east)) ((few .reporting, few .inhibiting), start .pre .1)
+    let few = sound (start .args .x) (start .pre .0) .regions in
+    rw (toZ-ofZ (start .fits .north), toZ-ofZ (start .fits .east)) ((few .reporting .few, few .inhibiting .few), start .pre .1)
 
 returns-4 : tie.Need-returns-4
 returns-4 c =
