@@ -4,7 +4,7 @@ use mathlib.Core.Bool.{cond}
 use mathlib.Core.List.{List, [], _∷_, _++_, map}
 use Prim.Native.Nat.{ℕ}
 use lib.Dec.{eqb}
-use lib.IntN.{ℤ, pos, negsuc}
+use lib.IntN.{ℤ, pos}
 use lib.ListN.{replicate}
 use Rattle.text.specs.Equal.{sameBytes}
 use Rattle.text.specs.Names.{allowed, allAllowed}
@@ -92,8 +92,8 @@ atHour hour = ask 0 (pos 0) (pos 0) hour abcd
 abbrev pub atPlace : ℤ → ℤ → Question
 atPlace north east = ask 0 north east 0 abcd
 
-abbrev pub atAirfield : List ℕ → Question
-atAirfield airfield = ask 0 (pos 0) (pos 0) 0 airfield
+abbrev pub askedAt : ℕ → List ℕ → Question
+askedAt phase airfield = ask phase (pos 0) (pos 0) 0 airfield
 
 -- ---- The table
 
@@ -107,62 +107,28 @@ case held asked answer = record { held = held; asked = asked; answer = answer }
 
 unfoldable pub cases : List Case
 cases =
-    -- after reset: ascent, level, descent
+    -- after reset: ascent, level, descent; with AMDAR 0; with ascent 0, section 6 saying 1
     case reset (inPhase 0) (Is Scheme)
     ∷ case reset (inPhase 1) (Is Routine)
     ∷ case reset (inPhase 2) (Is Scheme)
-    -- AMDAR 0; enroute 0; ascent 0, with section 6 saying 1 and 0; descent 0, with section 8 saying 0
     ∷ case (flagged (0 ∷ 0 ∷ 0 ∷ 0 ∷ 1 ∷ 1 ∷ 1 ∷ [])) (inPhase 0) (Is Silent)
-    ∷ case (flagged (1 ∷ 0 ∷ 0 ∷ 0 ∷ 1 ∷ 0 ∷ 1 ∷ [])) (inPhase 1) (Is Silent)
     ∷ case (flagged (1 ∷ 0 ∷ 0 ∷ 0 ∷ 0 ∷ 1 ∷ 1 ∷ [])) (inPhase 0) (Is Routine)
-    ∷ case (but (1 ∷ 0 ∷ 0 ∷ 0 ∷ 0 ∷ 1 ∷ 1 ∷ []) 6 (Amount 0 ∷ [])) (inPhase 0) (Is Silent)
-    ∷ case (but (1 ∷ 0 ∷ 0 ∷ 0 ∷ 1 ∷ 1 ∷ 0 ∷ []) 8 (Amount 0 ∷ [])) (inPhase 2) (Is Silent)
-    -- window 2301 silences hours 23 and 0, not 1 or 22; 0507 silences 5 and 6, not 4 or 7; equal hours none
-    ∷ case (window 23 1) (atHour 22) (Is Scheme)
+    -- window 2301 silences hours 23 and 0, not 1
     ∷ case (window 23 1) (atHour 23) (Is Silent)
     ∷ case (window 23 1) (atHour 0) (Is Silent)
     ∷ case (window 23 1) (atHour 1) (Is Scheme)
-    ∷ case (window 5 7) (atHour 4) (Is Scheme)
-    ∷ case (window 5 7) (atHour 5) (Is Silent)
-    ∷ case (window 5 7) (atHour 6) (Is Silent)
-    ∷ case (window 5 7) (atHour 7) (Is Scheme)
-    ∷ case (window 5 5) (atHour 5) (Is Scheme)
-    -- a reporting box: each edge and a minute beyond it; a corner
+    -- a reporting box: its north edge, and a minute beyond; both kinds: inhibiting wins
     ∷ case (boxed square noBoxes) (atPlace (pos 600) (pos 0)) (Is Scheme)
     ∷ case (boxed square noBoxes) (atPlace (pos 601) (pos 0)) (Is Silent)
-    ∷ case (boxed square noBoxes) (atPlace (negsuc 599) (pos 0)) (Is Scheme)
-    ∷ case (boxed square noBoxes) (atPlace (negsuc 600) (pos 0)) (Is Silent)
-    ∷ case (boxed square noBoxes) (atPlace (pos 0) (negsuc 599)) (Is Scheme)
-    ∷ case (boxed square noBoxes) (atPlace (pos 0) (negsuc 600)) (Is Silent)
-    ∷ case (boxed square noBoxes) (atPlace (pos 0) (pos 600)) (Is Scheme)
-    ∷ case (boxed square noBoxes) (atPlace (pos 0) (pos 601)) (Is Silent)
-    ∷ case (boxed square noBoxes) (atPlace (pos 600) (pos 600)) (Is Scheme)
-    -- no boxes: everywhere; an inhibiting box, its edge and a minute beyond; both kinds: inhibiting wins
-    ∷ case (boxed noBoxes noBoxes) (atPlace (pos 5400) (negsuc 10799)) (Is Scheme)
-    ∷ case (boxed noBoxes square) (atPlace (pos 600) (pos 0)) (Is Silent)
-    ∷ case (boxed noBoxes square) (atPlace (pos 601) (pos 0)) (Is Scheme)
     ∷ case (boxed square square) (atPlace (pos 0) (pos 0)) (Is Silent)
-    -- airfields: the selected list empty, with it, without it; inhibited wins; section 3's routine digit
-    ∷ case (listed noAirfields noAirfields 0) (atAirfield abcd) (Is Scheme)
-    ∷ case (listed onlyAbcd noAirfields 0) (atAirfield abcd) (Is Scheme)
-    ∷ case (listed onlyAbcd noAirfields 0) (atAirfield abce) (Is Silent)
-    ∷ case (listed onlyAbcd noAirfields 1) (atAirfield abce) (Is Routine)
-    ∷ case (listed noAirfields onlyAbcd 1) (atAirfield abcd) (Is Routine)
-    ∷ case (listed noAirfields onlyAbcd 1) (atAirfield abce) (Is Scheme)
-    ∷ case (listed onlyAbcd onlyAbcd 0) (atAirfield abcd) (Is Silent)
+    -- ascent's selected list has the airfield, or has another; it plays no part in descent
+    ∷ case (listed onlyAbcd noAirfields 1) (askedAt 0 abcd) (Is Scheme)
+    ∷ case (listed onlyAbcd noAirfields 1) (askedAt 0 abce) (Is Routine)
+    ∷ case (listed onlyAbcd noAirfields 1) (askedAt 2 abce) (Is Scheme)
     -- refusals: 12 before 5, 5 before 4, 4 also where AMDAR is off
-    ∷ case (flagged (2 ∷ 0 ∷ 0 ∷ 0 ∷ 1 ∷ 1 ∷ 1 ∷ [])) (ask 3 (pos 0) (pos 0) 24 []) (Refused 12)
-    ∷ case (window 24 1) (inPhase 0) (Refused 12)
-    ∷ case reset (ask 3 (pos 0) (pos 0) 0 []) (Refused 5)
-    ∷ case reset (ask 0 (pos 0) (pos 0) 24 []) (Refused 5)
-    ∷ case reset (ask 0 (pos 5401) (pos 0) 0 abcd) (Refused 5)
-    ∷ case reset (ask 0 (negsuc 5400) (pos 0) 0 abcd) (Refused 5)
-    ∷ case reset (ask 0 (pos 0) (pos 10801) 0 abcd) (Refused 5)
-    ∷ case reset (ask 0 (pos 0) (negsuc 10800) 0 abcd) (Refused 5)
-    ∷ case reset (ask 0 (pos 5400) (negsuc 10799) 23 abcd) (Is Scheme)
-    ∷ case reset (atAirfield (65 ∷ 66 ∷ 67 ∷ [])) (Refused 4)
-    ∷ case reset (atAirfield (65 ∷ 66 ∷ 67 ∷ 99 ∷ [])) (Refused 4)
-    ∷ case (flagged (0 ∷ 0 ∷ 0 ∷ 0 ∷ 1 ∷ 1 ∷ 1 ∷ [])) (ask 1 (pos 0) (pos 0) 0 []) (Refused 4)
+    ∷ case (window 24 1) (ask 3 (pos 0) (pos 0) 24 []) (Refused 12)
+    ∷ case reset (ask 0 (pos 5401) (pos 0) 0 []) (Refused 5)
+    ∷ case (flagged (0 ∷ 0 ∷ 0 ∷ 0 ∷ 1 ∷ 1 ∷ 1 ∷ [])) (askedAt 1 []) (Refused 4)
     ∷ []
 
 -- every case is decided as the table says

@@ -1,38 +1,20 @@
 -- The sentences of "Whether to report" leave one answer to every question: no two programs that differ follow them.
 use mathlib.Core.Path.{_≡_, sym, ap, _∙_}
 use mathlib.Core.Logic.{_⊎_, inl, inr}
-use mathlib.Core.Bool.{Bool, true, false, _&&_}
 use mathlib.Core.List.{List}
-use Prim.Native.Nat.{ℕ, _≤_, _<_}
+use Prim.Native.Nat.{ℕ, _≤_}
 use native.Mathlib.Omega.{arith}
-use lib.Dec.{ltb, eqb}
-use Rattle.text.proofs.Cases.{by-test, by-eq, by-lt}
+use Rattle.text.proofs.Cases.{by-test, by-eq}
 use Rattle.section.specs.declared.Settings.{Settings}
 use Rattle.config.specs.Config.{valid}
-use Rattle.decide.specs.Decide.{Question, inAny, has, inRange, isAirfield}
-use Rattle.decide.specs.Words.{Amdar, InhibitHours, Regions, Airports, Enroute, flagOf, InRange, FourAllowed, Own, ofAscent, ofDescent}
-use Rattle.decide.specs.Rules.{
-  Window,
-  Inhibiting,
-  Reporting,
-  Heard,
-  Level,
-  Admitted,
-  TurnedAway,
-  switchedOff,
-  inhibited,
-  notSelected,
-  Profile,
-  Rules,
-  Decides,
-  Answers,
-}
-use Rattle.decide.specs.declared.Decision.{Decision}
+use Rattle.decide.specs.Decide.{Question}
+use Rattle.decide.specs.Words.{Amdar, InhibitHours, Regions, Airports, Enroute, flagOf, InRange, Own, ofAscent, ofDescent}
+use Rattle.decide.specs.Rules.{Window, Heard, Level, Admitted, TurnedAway, switchedOff, inhibited, notSelected, Profile, Rules, Answers}
 use Rattle.decide.specs.declared.Decision.the-variants.{Silent, Routine, Scheme}
 use Rattle.decide.specs.declared.Decided.{Decided}
 use Rattle.decide.specs.declared.Decided.the-variants.{Is, Refused}
 use Rattle.decide.proofs.Sound.{Sound, sound}
-use Rattle.decide.proofs.Tests.{Says, no-says, by-said}
+use Rattle.decide.proofs.Tests.{by-said}
 use Rattle.decide.proofs.Words.{has-said, range-said, airfield-said}
 use Rattle.decide.proofs.Answers.{window-holds, inhibiting-holds, reporting-holds}
 

@@ -1,6 +1,5 @@
--- What a forecaster would ask, computed cases, and what the code's proofs rest on.
+-- That what is decided follows the document, that nothing else does, computed cases, and what the code's proofs rest on.
 pub mod Answers
-pub mod Asked
 pub mod Cases
 pub mod Determined
 pub mod Inside

@@ -1,6 +1,6 @@
 -- What a valid configuration says: flags and digits are 0 or 1, hours are hours of the day, lists are no longer than their
 -- arrays, and the boxes in them are boxes.
-use mathlib.Core.Path.{_≡_, _∙_, sym}
+use mathlib.Core.Path.{_≡_}
 use mathlib.Core.Bool.{true, _&&_}
 use mathlib.Core.List.{List, [], _∷_}
 use Prim.Native.Nat.{ℕ, zero, suc, _+_, _≤_, _<_}
@@ -16,7 +16,6 @@ use Rattle.field.specs.Boxes.{regionAllowed, noRegion}
 use Rattle.field.specs.declared.Region.{Region}
 use Rattle.field.proofs.RoundTrip.{AllowedBox, region-held}
 use Rattle.lists.specs.Lists.{regionsAllowed, boxesAllowed}
-use Rattle.lists.specs.declared.Airfields.{Airfields}
 use Rattle.lists.specs.declared.Boxes.{Boxes}
 use Rattle.lists.proofs.RoundTrip.{airfields-held, boxes-held}
 use Rattle.section.specs.Layout.{Item, AirfieldList, BoxList, Number, layoutOf}

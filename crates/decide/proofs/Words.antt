@@ -1,17 +1,16 @@
 -- The tests that decide say what the document's words say.
 use mathlib.Core.Path.{_≡_, refl, sym, ap, _∙_}
-use mathlib.Core.Logic.{_⊎_, inl, inr}
-use mathlib.Core.Bool.{Bool, true, false, cond, _&&_, _||_}
+use mathlib.Core.Logic.{_↔_, _⊎_, inl, inr}
+use mathlib.Core.Bool.{true, false, _||_}
 use mathlib.Core.List.{List, [], _∷_}
-use Prim.Native.Nat.{ℕ, zero, suc, _+_, _-_, _*_, _%_, _≤_, _<_}
+use Prim.Native.Nat.{ℕ, zero, suc, _+_, _-_, _*_, _≤_, _<_}
 use native.Mathlib.Omega.{arith}
-use lib.Dec.{leb, ltb, eqb}
+use lib.Dec.{leb, eqb}
 use lib.IntN.{ℤ, pos, negsuc, negℤ}
 use lib.Signed.{mag, leZ, _≤ℤ_}
 use lib.ListN.{length, getD, take, drop}
 use lib.Seq.{drop-drop}
-use borrow.Author.Tests.{le-leb, lt-leb, eqb-true}
-use Rattle.text.specs.Equal.{sameBytes}
+use borrow.Author.Tests.{le-leb, lt-leb}
 use Rattle.text.specs.Names.{allowed, allAllowed}
 use Rattle.text.specs.Parts.{part}
 use Rattle.text.proofs.Cases.{by-le, by-lt, by-test}
@@ -47,6 +46,7 @@ module _ (start end hour : ℕ) (s : start ≤ 23) (e : end ≤ 23) (h : hour �
       by-lt (w .steps) (end - start) (λ (m : w .steps < end - start). omega arith)
       (λ (m : end - start ≤ w .steps). absurd (w .before (end - start) m (omega arith)))
 
+  -- nor is it come to on the next day, where it is further than the hour too
   falling : end < start → InWindow start end hour → (start ≤ hour) ⊎ (hour < end)
   falling l w =
       let c = w .comes in
@@ -55,6 +55,7 @@ module _ (start end hour : ℕ) (s : start ≤ 23) (e : end ≤ 23) (h : hour �
       by-le start hour (λ (n : start ≤ hour). inl n) (λ (n : hour < start). inr (omega arith)))
       (λ (m : 24 - start + end ≤ w .steps). absurd (w .before (24 - start + end) m (omega arith)))
 
+  -- the test for the window says what the words say
   pub window-said : Says (inWindow start end hour) (InWindow start end hour)
   window-said =
       by-le start end
@@ -67,6 +68,25 @@ module _ (start end hour : ℕ) (s : start ≤ 23) (e : end ≤ 23) (h : hour �
       either : end < start → (start ≤ hour) ⊎ (hour < end) → InWindow start end hour
       either l (inl m) = same-day m (inr l)
       either l (inr m) = next-day l m
+
+-- equal hours mean none
+pub equal-hours : (start hour : ℕ) → start ≤ 23 → ¬ InWindow start start hour
+equal-hours start hour s w = w .before 0 (omega arith) (omega arith)
+
+-- "Window 2301 silences hours 23 and 0, not 1", and no other of the day
+pub window-2301 : (hour : ℕ) → hour ≤ 23 → InWindow 23 1 hour ↔ ((hour ≡ 23) ⊎ (hour ≡ 0))
+window-2301 hour h = (out, inside)
+  where
+    out : InWindow 23 1 hour → (hour ≡ 23) ⊎ (hour ≡ 0)
+    out w = sides (falling 23 1 hour (omega arith) (omega arith) h (omega arith) w)
+      where
+        sides : (23 ≤ hour) ⊎ (hour < 1) → (hour ≡ 23) ⊎ (hour ≡ 0)
+        sides (inl l) = inl (omega arith)
+        sides (inr l) = inr (omega arith)
+
+    inside : (hour ≡ 23) ⊎ (hour ≡ 0) → InWindow 23 1 hour
+    inside (inl e) = same-day 23 1 hour (omega arith) (omega arith) h (omega arith) (inr (omega arith))
+    inside (inr e) = next-day 23 1 hour (omega arith) (omega arith) h (omega arith) (omega arith)
 
 -- ---- Boxes
 
@@ -81,10 +101,12 @@ above-order (negsuc a) (negsuc b) h l m =
     by-le b a (λ (n : b ≤ a). rw (le-leb b a n) (le-leb (h - suc a) (h - suc b) (omega arith)))
     (λ (n : a < b). rw (lt-leb b a n) (lt-leb (h - suc a) (h - suc b) (omega arith)))
 
+-- m minutes below zero
 above-below : (m h : ℕ) → above (negℤ (pos m)) h ≡ h - m
 above-below zero h = omega arith
 above-below (suc m) h = refl
 
+-- and how far that can be
 size-below : (m : ℕ) → mag (negℤ (pos m)) ≤ m
 size-below zero = omega arith
 size-below (suc m) = omega arith
@@ -100,14 +122,16 @@ letter-below c l a b (inr p) = rw p b
 
 -- an edge of a circle
 module _ (c : Circle) (most : c .most ≤ 180)
-  (high : (eqb (c .above) 83 || eqb (c .above) 87) ≡ eqb (c .above) (c .below))
-  (low : (eqb (c .below) 83 || eqb (c .below) 87) ≡ eqb (c .below) (c .below))
-  (e : Edge) (ok : Allowed c e) (n : ℤ) (small : mag n < 60000) where
+    (high : (eqb (c .above) 83 || eqb (c .above) 87) ≡ eqb (c .above) (c .below))
+    (low : (eqb (c .below) 83 || eqb (c .below) 87) ≡ eqb (c .below) (c .below))
+    (e : Edge) (ok : Allowed c e) (n : ℤ) (small : mag n < 60000) where
+  -- its letter is the one below zero where the words say so
   edge-below : (eqb (e .letter) 83 || eqb (e .letter) 87) ≡ eqb (e .letter) (c .below)
   edge-below =
       letter-below c (e .letter) high low
       (either-said (eq-said (e .letter) (c .above)) (eq-said (e .letter) (c .below)) .yes-so (ok .letter))
 
+  -- its line is where the words say that it lies, from 1000 degrees below zero
   edge-line : 60 * lineOf c e ≡ minutes (liesAt e)
   unfolding lineOf
   edge-line =
@@ -116,6 +140,7 @@ module _ (c : Circle) (most : c .most ≤ 180)
       (λ (t : eqb (e .letter) (c .below) ≡ true). rw t (omega (arith, ok .most, above-below (60 * e .degrees) 60000)))
       (λ (t : eqb (e .letter) (c .below) ≡ false). rw t (omega arith)))
 
+  -- far above 1000 degrees below zero
   edge-size : mag (liesAt e) < 60000
   edge-size =
       by-test (eqb (e .letter) 83 || eqb (e .letter) 87)
@@ -131,6 +156,7 @@ module _ (c : Circle) (most : c .most ≤ 180)
   to-said = rw (edge-line, above-order n (liesAt e) 60000 small edge-size) (leZ-said n (liesAt e))
 
 module _ (n e : ℤ) (small : mag n < 60000) (little : mag e < 60000) where
+  -- whether a box holds the position
   holds-said : (b : Region) → AllowedBox b → Says (holds b n e) (Holds b n e)
   unfolding holds
   holds-said b ok =
@@ -159,6 +185,7 @@ module _ (n e : ℤ) (small : mag n < 60000) (little : mag e < 60000) where
       at zero l m h = inl h
       at (suc i) l m h = inr (record { which = i; counted = omega arith; there = omega arith; holds = h })
 
+  -- whether one of the first k boxes does
   boxes-said : (k : ℕ) (bs : List Region) → ((i : ℕ) → i < k → i < length bs → AllowedBox (getD bs i noRegion))
       → Says (anyHolds (take k bs) n e) (SomeHolds (record { count = k; regions = bs }) n e)
   unfolding anyHolds
@@ -180,6 +207,7 @@ module _ (n e : ℤ) (small : mag n < 60000) (little : mag e < 60000) where
 -- ---- Airfields
 
 module _ (a : List ℕ) where
+  -- the first airfield of a list, or one behind it
   has-in : (n : ℕ) (names : List ℕ) → (take 4 names ≡ a) ⊎ Has (record { count = n; names = drop 4 names }) a
       → Has (record { count = suc n; names = names }) a
   has-in n names (inl e) = record { which = 0; counted = omega arith; same = e }
@@ -206,6 +234,7 @@ module _ (a : List ℕ) where
             same = ap (take 4) (drop-drop (4 * i) 4 names) ∙ ap (λ (k : ℕ). part k 4 names) (sym next) ∙ e;
           })
 
+  -- whether one of the first n names is the airfield
   names-said : (n : ℕ) (names : List ℕ) → Says (hasAirfield n names a) (Has (record { count = n; names = names }) a)
   unfolding hasAirfield
   names-said zero names = never-said (λ (w : Has (record { count = 0; names = names }) a). omega (arith, w .counted))
@@ -221,6 +250,7 @@ module _ (a : List ℕ) where
 
 -- ---- What is asked
 
+-- whether phase, hour and position are in range
 pub range-said : (q : Question) → Says (inRange q) (InRange q)
 range-said q =
     reworded
@@ -242,6 +272,7 @@ range-said q =
     })
     (λ r. (((((r .phase, r .hour), r .south), r .north), r .west), r .east))
 
+-- whether a byte is allowed, and whether every byte of a text is
 byte-said : (b : ℕ) → Says (allowed b) (AllowedByte b)
 unfolding allowed
 byte-said b = either-said (both-said (le-said 65 b) (le-said b 90)) (both-said (le-said 48 b) (le-said b 57))
@@ -258,6 +289,7 @@ bytes-said (b ∷ bs) =
     each p zero l = p .0
     each p (suc i) l = p .1 i (omega arith)
 
+-- whether an airfield is four allowed bytes
 pub airfield-said : (a : List ℕ) → Says (isAirfield a) (FourAllowed a)
 airfield-said a =
     reworded (both-said (eq-said (length a) 4) (bytes-said a))

@@ -38,11 +38,11 @@ Inhibiting x q = SomeHolds (x .regions .inhibiting) (q .north) (q .east)
 abbrev pub Reporting : Settings → Question → Type 0
 Reporting x q = SomeHolds (x .regions .reporting) (q .north) (q .east)
 
--- none of the rules that silence every phase applies
+-- none of the first rules applies, which silence every phase
 pub record Heard (x : Settings) (q : Question) : Type 0 where
   pub amdar : flagOf x Amdar ≡ 1
-  pub hours : (flagOf x InhibitHours ≡ 0) ⊎ ¬ Window x q
-  pub places : (flagOf x Regions ≡ 0) ⊎ (¬ Inhibiting x q × ((x .regions .reporting .count ≡ 0) ⊎ Reporting x q))
+  pub hours : (flagOf x InhibitHours ≡ 0) ⊎ (¬ Window x q)
+  pub places : (flagOf x Regions ≡ 0) ⊎ ((¬ Inhibiting x q) × ((x .regions .reporting .count ≡ 0) ⊎ Reporting x q))
 
 -- "Level: routine if the enroute flag is 1, else silent."
 pub record Level (x : Settings) (d : Decision) : Type 0 where
