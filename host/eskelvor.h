@@ -20,8 +20,9 @@
 #include <stddef.h>
 #include <stdint.h>
 
-/* 2.0.0: esk_settings_valid, esk_decide and esk_command_write are lent what 1.0.0 handed over by value. */
-#define ESK_VERSION "2.0.0"
+/* 3.0.0: a record has one form for a missing figure and an absent observation, and another is refused with 7;
+ * esk_settings_valid answers 0 or 12 and esk_decide a place, as all other calls do; esk_command has no padding. */
+#define ESK_VERSION "3.0.0"
 
 #ifdef __cplusplus
 extern "C" {
@@ -55,8 +56,8 @@ typedef struct esk_answer {
     uint8_t spare[2]; /* 0 */
 } esk_answer;
 
-/* A figure, given or missing. 8 bytes, no padding. A call that answers one sets number to 0 where given is 0; a call
- * that is handed one takes any other given than 0 for given, and does not look at the number of a missing one. */
+/* A figure, given or missing. 8 bytes, no padding. It has one form: given is 1; or given and number are both 0. A call
+ * answers no other, and one that is handed another refuses it with 7, where its field would stand. */
 typedef struct esk_figure {
     int32_t number;
     uint32_t given; /* 1 given, 0 missing */
@@ -86,6 +87,7 @@ esk_packed esk_packed_read(const uint8_t *field, size_t length);
  * writing, `room` bytes. On success `length` is the width. Codes, all at place 0:
  *   1  width not 1 to 5
  *   5  the figure does not fit the width (width k holds -20*40^(k-1) to 20*40^(k-1) - 1)
+ *   7  the figure is not of its one form: given is neither 0 nor 1, or given is 0 and number is not
  *   2  room below the width
  */
 esk_answer esk_packed_write(esk_figure figure, size_t width, uint8_t *out, size_t room);
@@ -108,9 +110,7 @@ typedef struct esk_observation {
     esk_figure vapour;         /* thousandths of a gram a kilogram, 0 to 31999 */
     uint8_t kind;              /* 'A' 'D' 'R' 'W' 'U' or 'E'; 0 in an absent one */
     uint8_t quality;           /* '0' to '9' or '/'; 0 in an absent one */
-    uint16_t present;          /* 1, or 0 for a later observation that is absent: its other members are then not
-                                  looked at, and 0 in what is read; any other value than 0 is present. Not looked
-                                  at in the first observation */
+    uint16_t present;          /* 1; or 0 for a later observation that is absent: its other members are then all 0 */
 } esk_observation;
 
 /* A report. 624 bytes, no padding. */
@@ -118,7 +118,7 @@ typedef struct esk_report {
     uint8_t departure[4];
     uint8_t arrival[4];
     uint8_t designator[6];
-    uint8_t spare[2]; /* 0 in what is read; not looked at */
+    uint8_t spare[2]; /* 0 */
     esk_observation first;
     esk_observation later[7];
 } esk_report;
@@ -152,7 +152,9 @@ esk_report_got esk_report_read(const uint8_t *text, size_t length);
  *   4  a byte of an airfield or the designator, a kind, or a quality that is not allowed
  *   5  a figure outside its range
  *   7  one of wind direction and speed without the other (at the speed); a present observation behind an absent
- *      one (at its kind)
+ *      one (at its kind); and a member that is not of its one form: a figure (where it would stand), present neither
+ *      0 nor 1, present 0 in the first observation, or 0 beside members that are not 0 (at the kind), spare not 0 (at
+ *      byte 22). At one place the codes 4 and 5 come first
  * and then
  *   2  room below 220; place 0
  */
@@ -240,11 +242,12 @@ typedef struct esk_settings {
     esk_hours hours;
 } esk_settings;
 
-/* A command. 615 bytes and one of padding, which is not looked at. */
+/* A command. 616 bytes, no padding. */
 typedef struct esk_command {
     esk_settings settings; /* a section that is not named is 0 in every byte */
     uint8_t downlink;      /* 0, 1 or 2 */
     uint8_t named[8];      /* for sections 2 to 9: the section's number where it is named, else 0; 7 is never named */
+    uint8_t spare;         /* 0 */
 } esk_command;
 
 /* The answer of esk_command_read. 632 bytes. Where the answer is a refusal the command is 0 in every member. */
@@ -280,8 +283,8 @@ esk_command_got esk_command_read(const uint8_t *text, size_t length);
  *   4  a flag, the downlink digit, an indicator, a mode, list, timer, letter or airfield byte that is not allowed
  *   6  zero degrees with the letter 'S' or 'W'
  *   5  a count, or a number, outside its range
- *   7  unused entries of a list that are not 0 (at the list's count, after its own check); north below south, west
- *      above east, as above; a section that is not named and not 0 (where it would begin)
+ *   7  spare not 0 (at byte 21); unused entries of a list that are not 0 (at the list's count, after its own check);
+ *      north below south, west above east, as above; a section that is not named and not 0 (where it would begin)
  * and then
  *   2  room below the text's length; place 0
  */
@@ -292,9 +295,12 @@ esk_answer esk_command_write(const esk_command *command, uint8_t *out, size_t ro
 /* The configuration after reset. It is valid; nothing is lent. */
 esk_settings esk_reset(void);
 
-/* Whether a configuration is valid: 1 where the flags are 0 or 1 and every section would pass the checks of
- * esk_command_write, else 0. The configuration is lent for reading, and is never NULL. */
-uint8_t esk_settings_valid(const esk_settings *settings);
+/*
+ * Whether a configuration is valid: the flags are 0 or 1 and every section would pass the checks of esk_command_write.
+ * The configuration is lent for reading, and is never NULL. length is 0. Place 0:
+ *   12  it is not
+ */
+esk_answer esk_settings_valid(const esk_settings *settings);
 
 /* The answer of esk_apply. 16 bytes, no padding. */
 typedef struct esk_applied {
@@ -318,10 +324,12 @@ esk_applied esk_apply(esk_settings *settings, const uint8_t *text, size_t length
 enum { ESK_ASCENT = 0, ESK_LEVEL = 1, ESK_DESCENT = 2 };  /* phases */
 enum { ESK_SILENT = 0, ESK_ROUTINE = 1, ESK_SCHEME = 2 }; /* decisions */
 
-/* The answer of esk_decide. 2 bytes. */
+/* The answer of esk_decide. 16 bytes, no padding. */
 typedef struct esk_decided {
-    uint8_t code;     /* 0, 12, 5 or 4; the place is always 0 */
+    size_t place;     /* 0 */
+    uint8_t code;     /* 0, 12, 5 or 4 */
     uint8_t decision; /* ESK_SILENT, ESK_ROUTINE or ESK_SCHEME; 0 on refusal */
+    uint8_t spare[6]; /* 0 */
 } esk_decided;
 
 /*

@@ -3,7 +3,7 @@ use mathlib.Core.Path.{_≡_, refl}
 use mathlib.Core.Bool.{Bool, true, false, cond, _&&_}
 use mathlib.Core.List.{List, [], _∷_}
 use Prim.Native.Nat.{ℕ, _+_, _-_}
-use lib.Dec.{ltb}
+use lib.Dec.{eqb, ltb}
 use lib.IntN.{ℤ}
 use lib.ListN.{length, getD, take, drop}
 use Rattle.packed.specs.Packed.{widthOk, allSolidi, trim, allDigits, number, figureOf, holds, fault, spelt, readPacked}
@@ -12,7 +12,7 @@ use Rattle.packed.specs.declared.Figure.the-variants.{Given, Missing}
 use Rattle.packed.specs.declared.Packed.{Packed}
 use Rattle.packed.specs.declared.Packed.the-variants.{Is, Refused}
 use Rattle.observation.specs.Figures.{inRange, ranged, readFigure, Figures, All, Stop, before, readFigures}
-use Rattle.observation.specs.Observation.{airRows, waterRows, firstRows, laterRows, isQuality, alike, positionFrom, readPosition, airFrom, readAir, waterFrom, readWater, observed, readFields, readFirst, presentFrom, readLater}
+use Rattle.observation.specs.Observation.{airRows, waterRows, firstRows, laterRows, isKind, isQuality, alike, positionFrom, readPosition, airFrom, readAir, waterFrom, readWater, observed, readFields, readFirst, presentFrom, readLater}
 use Rattle.observation.specs.declared.Row.{Row}
 use Rattle.observation.specs.declared.Air.{Air}
 use Rattle.observation.specs.declared.AirRead.{AirRead}
@@ -23,6 +23,7 @@ use Rattle.observation.specs.declared.WaterRead.the-variants.{Is as Wate
 use Rattle.observation.specs.declared.Position.{Position}
 use Rattle.observation.specs.declared.PositionRead.{PositionRead}
 use Rattle.observation.specs.declared.PositionRead.the-variants.{Is as PositionIs, Not as PositionNot}
+use Rattle.observation.specs.declared.Later.the-variants.{Absent}
 use Rattle.observation.specs.declared.FirstRead.{FirstRead}
 use Rattle.observation.specs.declared.FirstRead.the-variants.{Is as FirstIs, Not as FirstNot}
 use Rattle.observation.specs.declared.LaterRead.{LaterRead}
@@ -124,7 +125,7 @@ fields-coded rows n at s =
 
 pub first-coded : (at : ℕ) (s : List ℕ) → OfFirst (readFirst at s)
 unfolding readFirst
-first-coded at s = either OfFirst _ _ _ (fields-coded firstRows 11 at s) refl
+first-coded at s = either OfFirst (isKind (getD s 0 0)) (readFields firstRows 11 at s) (FirstNot 4 at) (fields-coded firstRows 11 at s) refl
 
 abbrev pub OfLater : LaterRead → Type 0
 OfLater (LaterIs l) = Unit
@@ -137,6 +138,10 @@ present-coded (FirstNot code place) c = c
 pub later-coded : (ended : Bool) (at : ℕ) (s : List ℕ) → OfLater (readLater ended at s)
 unfolding readLater
 later-coded ended at s =
-    either OfLater _ _ _ (either OfLater _ _ _ tt refl)
-    (either OfLater _ _ _
-    (either OfLater _ _ _ refl (present-coded (readFields laterRows 7 at s) (fields-coded laterRows 7 at s))) refl)
+    let absent : LaterRead = cond (allSolidi s) (LaterIs Absent) (LaterNot 7 at) in
+    let fields : LaterRead = presentFrom (readFields laterRows 7 at s) in
+    let behind : LaterRead = cond ended (LaterNot 7 at) fields in
+    let other : LaterRead = cond (isKind (getD s 0 0)) behind (LaterNot 4 at) in
+    either OfLater (eqb (getD s 0 0) 47) absent other (either OfLater (allSolidi s) (LaterIs Absent) (LaterNot 7 at) tt refl)
+    (either OfLater (isKind (getD s 0 0)) behind (LaterNot 4 at)
+    (either OfLater ended (LaterNot 7 at) fields refl (present-coded (readFields laterRows 7 at s) (fields-coded laterRows 7 at s))) refl)
