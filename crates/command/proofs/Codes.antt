@@ -1,5 +1,6 @@
 -- A command's refusals are codes 1 to 8.
 use mathlib.Core.Path.{_≡_, refl}
+use mathlib.Core.Logic.{_↔_}
 use mathlib.Core.Bool.{Bool, true, false, cond, _&&_}
 use mathlib.Core.List.{List, [], _∷_}
 use Prim.Native.Nat.{ℕ, zero, suc, _+_, _≤_}
@@ -7,6 +8,7 @@ use native.Mathlib.Omega.{arith}
 use lib.Dec.{leb, eqb}
 use lib.ListN.{length}
 use borrow.Author.Tests.{leb-true}
+use Rattle.text.specs.declared.Seen.{Seen}
 use Rattle.text.specs.declared.Seen.the-variants.{Fine, Bad}
 use Rattle.text.proofs.Cases.{both-left, both-right}
 use Rattle.field.specs.Fields.{after, checkNumber, checkMark, checkDelimiter, checkAirfield, repeat}
@@ -18,6 +20,7 @@ use Rattle.field.specs.declared.Edge.{Edge}
 use Rattle.lists.specs.Lists.{checkList}
 use Rattle.section.specs.Layout.{Item, Number, Mark, AirfieldList, BoxList, layoutOf, checkItem, checkItems}
 use Rattle.command.specs.Text.{numbers, isNamed, checkEach, checkAwr04, checkHead, checkFrom, longest, ended, checkCommand}
+use Rattle.command.specs.Record.{commandOf, got, readCommand}
 
 abbrev codeOf : Step → ℕ
 codeOf (Next at) = 1
@@ -127,3 +130,12 @@ check-coded s code place e = go (leb (length s) longest) e
     go : (t : Bool) → cond t (ended s (after (checkHead s) (checkFrom numbers s))) (Bad 1 0) ≡ Bad code place → (1 ≤ code) × (code ≤ 8)
     go true q = ended-coded s (after (checkHead s) (checkFrom numbers s)) code place (then (checkHead s) (checkFrom numbers s) (head-coded s) (sections-coded numbers s)) q
     go false q = let z : 1 ≡ code = cc in omega arith
+
+-- reading gives code 0 just for the texts that are accepted
+pub read-zero : (s : List ℕ) → (readCommand s .code ≡ 0) ↔ (checkCommand s ≡ Fine)
+unfolding readCommand
+read-zero s = (go (checkCommand s) refl, λ e. rw e)
+  where
+    go : (x : Seen) → checkCommand s ≡ x → got x (commandOf s) .code ≡ 0 → x ≡ Fine
+    go Fine e z = refl
+    go (Bad code place) e z = absurd (omega (arith, check-coded s code place e))

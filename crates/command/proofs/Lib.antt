@@ -11,3 +11,5 @@ pub mod Columns
 pub mod Placed
 pub mod Reached
 pub mod Codes
+pub mod Allowed
+pub mod Examples
