@@ -21,12 +21,13 @@ use Rattle.command.specs.Text.{isFlag, isIndicator, numbers, isNamed}
 use Rattle.command.specs.Record.{heldIn, digitsOf, flagsOf, commandOf, flagAllowed, flagsAllowed, namedAllowed, areZero, names, sectionText, sectionsAllowed, commandAllowed, digitBytes, sectionsText, commandText}
 use Rattle.command_write.specs.Writing.{textIf}
 use Rattle.command.specs.declared.Command.{Command}
+use Rattle.command.proofs.Allowed.{indicated}
 use Rattle.command.proofs.Each.{Each, Rising, each-with}
 use Rattle.command.proofs.Head.{passes}
 use Rattle.command.proofs.Parts.{present, bodies, textOf, bodyOf, Place, Absent, Present, holds}
 use Rattle.command.proofs.Marks.{byteOf, indicators}
 use Rattle.command.proofs.Accepted.{Accepted, rising, sound, marked, spelt, indicators-are, named-present, held-own, downlink-byte}
-use Rattle.command_write.proofs.Writing.{indicated, text-first}
+use Rattle.command_write.proofs.Writing.{text-first}
 
 -- ---- Digits
 

@@ -7,14 +7,12 @@ use Prim.Native.Nat.{ℕ, zero, suc, _+_, _-_, _≤_, _<_}
 use native.Mathlib.Omega.{arith}
 use lib.Dec.{leb, eqb, lit<}
 use lib.ListN.{length, getD}
-use lib.Seq.{take-all}
 use borrow.Author.Tests.{eqb-true, leb-true, le-leb, ne-eqb, not-true}
 use Rattle.text.specs.Checks.{must, _andThen_}
 use Rattle.text.specs.Parts.{part}
 use Rattle.text.specs.declared.Seen.the-variants.{Fine}
 use Rattle.text.proofs.Cases.{by-test, by-eq, both-left, both-right}
 use Rattle.text.proofs.Checks.{must-held, both-fine}
-use Rattle.text.proofs.Parts.{part-bytes}
 use Rattle.section.specs.Layout.{layoutOf, isEmpty}
 use Rattle.section.specs.Contents.{Content, Amount, Names, Areas, contentsText, contentsAllowed}
 use Rattle.section.specs.Settings.{contentsOf, settingsFrom, regionsFrom, airportsFrom, enrouteFrom, ascentFrom, hoursFrom, amountIn}
@@ -25,13 +23,14 @@ use Rattle.command.specs.Text.{isFlag, isDownlink, numbers, checkCommand}
 use Rattle.command.specs.Record.{heldIn, digitsOf, commandOf, flagAllowed, flagsAllowed, namedAllowed, isZero, areZero, names, sectionText, sectionsAllowed, commandAllowed, digitBytes, commandText}
 use Rattle.command_write.specs.Writing.{textIf}
 use Rattle.command.specs.declared.Command.{Command}
+use Rattle.command.proofs.Allowed.{indicated, eight-values}
 use Rattle.command.proofs.Each.{Each, each-with, each-map}
 use Rattle.command.proofs.Head.{passes}
 use Rattle.command.proofs.Parts.{Parts, markOf, marks, textOf, bodyOf, Place, Absent, Present, Sound, holds}
 use Rattle.command.proofs.Walk.{holds-some}
 use Rattle.command.proofs.Accepted.{accepted, held-own}
 use Rattle.command.proofs.Written.{flags-back, downlink-back, marks-back, bodies-back, text-accepted, text-fine}
-use Rattle.command_write.proofs.Writing.{indicated, named-at, headAllowed, allowed-halves, sections-named}
+use Rattle.command_write.proofs.Writing.{named-at, headAllowed, allowed-halves, sections-named}
 use Rattle.command_write.proofs.ReadBack.{texts-are, flagsN, read-allowed, read-written}
 
 -- each accepted text reads to an allowed record that is written back as the same bytes
@@ -134,10 +133,6 @@ marks-of : (f : ℕ → List ℕ) (g : ℕ → ℕ) (ks : List ℕ) → Each (λ
 unfolding marks
 marks-of f g [] e = refl
 marks-of f g (k ∷ ks) e = ap₂ _∷_ (e .0) (marks-of f g ks (e .1))
-
--- eight values one by one
-eight-values : (vs : List ℕ) → length vs ≡ 8 → vs ≡ map (λ (k : ℕ). getD vs (k - 2) 0) numbers
-eight-values vs l = sym (take-all 8 vs (omega arith)) ∙ part-bytes 8 0 vs (omega arith)
 
 -- what is all zero has a zero first and zeros behind it
 zero-more : (d : Content) (cs : List Content) → areZero (d ∷ cs) ≡ true → (isZero d ≡ true) × (areZero cs ≡ true)

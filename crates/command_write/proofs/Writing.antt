@@ -32,6 +32,7 @@ use Rattle.section.specs.Turn.{goesOn, contentsTurn, Reaches}
 use Rattle.section.proofs.Short.{goes-reaches, contents-anywhere}
 use Rattle.command.specs.Text.{awr04, numbers}
 use Rattle.command.specs.Record.{flagAllowed, flagsAllowed, namedAllowed, isZero, areZero, names, sectionText, sectionsAllowed, commandAllowed, digitBytes, sectionsText, commandText, writeSeen}
+use Rattle.command.proofs.Allowed.{indicated}
 use Rattle.command_write.specs.Writing.{sectionTurn, recordTurns, front, back, headText, textIf, AllNamed, Digits}
 use Rattle.command.specs.declared.Command.{Command}
 
@@ -58,10 +59,6 @@ unfolding flagsAllowed
 flags-end fs i at h = rw (drop-of-length-le fs {i = i} h)
 
 -- ---- Indicators
-
--- 0 or its own number, if there is such a section
-abbrev pub indicated : ℕ → ℕ → Bool
-indicated k v = eqb v 0 || (not (isEmpty (layoutOf k)) && eqb v k)
 
 numbers-from : (i : ℕ) → i < 8 → drop i numbers ≡ (2 + i) ∷ drop (i + 1) numbers
 numbers-from i h = left-from numbers i h ∙ rw (at (λ (j : ℕ). 2 + j) 8 i h)
