@@ -1,11 +1,11 @@
 -- What applying leaves, by its answer's code: the new settings where that is 0, and the old ones elsewhere.
 use mathlib.Core.Path.{_≡_, refl}
+use mathlib.Core.Logic.{_↔_}
 use mathlib.Core.Bool.{Bool, true, false, cond, not}
 use mathlib.Core.List.{List}
 use Prim.Native.Nat.{ℕ}
 use native.Mathlib.Omega.{arith}
-use lib.Dec.{T as Holds, eqb}
-use borrow.Author.Tests.{ne-eqb}
+use lib.Dec.{T as Holds, eqb, eqb→eq}
 use Rattle.text.specs.declared.Seen.{Seen}
 use Rattle.text.specs.declared.Seen.the-variants.{Fine, Bad}
 use Rattle.section.specs.declared.Settings.{Settings}
@@ -14,18 +14,19 @@ use Rattle.command.proofs.Codes.{check-coded}
 use Rattle.config.specs.Config.{valid, onSeen, refused, applied, keptBy, kept}
 
 module _ (x : Settings) (s : List ℕ) where
-  -- no refusal has code 0
+  -- applying gives code 0 just where the configuration is valid and the command's text accepted
+  pub applied-zero : (applied x s .code ≡ 0) ↔ ((valid x ≡ true) × (checkCommand s ≡ Fine))
+  unfolding applied
+  applied-zero = (go (valid x) (checkCommand s) refl, λ e. rw (e .0, e .1))
+    where
+      go : (t : Bool) (r : Seen) → checkCommand s ≡ r → cond t (onSeen r x s) (refused 12 0) .code ≡ 0 → (t ≡ true) × (r ≡ Fine)
+      go true Fine e z = (refl, refl)
+      go true (Bad code place) e z = absurd (omega (arith, check-coded s code place e))
+      go false r e z = absurd (omega arith)
+
   pub kept-new : Holds (eqb (applied x s .code) 0) → applied x s .settings ≡ kept x s
   unfolding applied kept
-  kept-new h = go (valid x) (checkCommand s) refl h
-    where
-      go : (t : Bool) (r : Seen) → checkCommand s ≡ r → Holds (eqb (cond t (onSeen r x s) (refused 12 0) .code) 0)
-          → cond t (onSeen r x s) (refused 12 0) .settings ≡ cond t (keptBy r x s) x
-      go true Fine e g = refl
-      go true (Bad code place) e g =
-          let low = check-coded s code place e .0 in
-          absurd (rw (ne-eqb code 0 (λ (z : code ≡ 0). omega arith)) at g)
-      go false r e g = absurd g
+  kept-new h = let a = applied-zero .0 (eqb→eq (applied x s .code) 0 h) in rw (a .0, a .1)
 
   pub kept-old : Holds (not (eqb (applied x s .code) 0)) → x ≡ kept x s
   unfolding applied kept
