@@ -3,22 +3,23 @@ use mathlib.Core.Path.{_≡_, refl}
 use lib.ListN.{length}
 use Rattle.text.specs.Equal.{sameBytes}
 use Rattle.text.specs.Names.{allowed, allAllowed}
-use Rattle.field.specs.Decimal.{allDigits, valueFrom}
+use Rattle.field.specs.Decimal.{allDigits, valueFrom, digitsBefore}
 use Rattle.field.specs.Fields.{checkNumber, checkMark, checkDelimiter, checkAirfield, repeat}
-use Rattle.field.specs.Boxes.{edgeAt, checkEdge, lineOf, regionAt, checkPair, checkBox}
-use Rattle.lists.specs.Lists.{checkList, airfieldsAt, regionsAt, boxesAt}
+use Rattle.field.specs.Boxes.{edgeAt, checkEdge, edgeText, lineOf, regionAt, checkPair, checkBox, regionText}
+use Rattle.lists.specs.Lists.{checkList, airfieldsAt, airfieldsText, regionsAt, boxesAt, regionsText, boxesText}
 use Rattle.section.specs.Layout.{layoutOf, checkItems, itemsSize, itemsMost}
-use Rattle.section.specs.Contents.{contentsAt}
-use Rattle.section.specs.Settings.{settingsFrom, regionsFrom, airportsFrom, enrouteFrom, ascentFrom, hoursFrom}
+use Rattle.section.specs.Contents.{contentsAt, contentsText}
+use Rattle.section.specs.Settings.{contentsOf, settingsFrom, regionsFrom, airportsFrom, enrouteFrom, ascentFrom, hoursFrom}
 use Rattle.command.specs.Text.{checkEach, checkAwr04, checkHead, checkFrom, sectionsMost, longest, checkCommand}
-use Rattle.command.specs.Record.{held, commandOf}
+use Rattle.command.specs.Record.{held, commandOf, noCommand, readCommand, sectionText, sectionsText, commandText}
 use Rattle.command.specs.Allowed.{every, allowedBox, allowedSection, zeroSection, allowedCommand}
-use Rattle.command.specs.Examples.{longestText, examples, AllAllowed}
+use Rattle.command.specs.Examples.{longestText, examples, AllReadBack}
 
--- each example is accepted, and what it reads to is allowed
-pub examples-allowed : AllAllowed examples
-unfolding examples longestText checkCommand longest sectionsMost itemsMost checkHead checkAwr04 sameBytes checkEach checkDelimiter checkFrom checkItems layoutOf itemsSize checkNumber allDigits valueFrom checkMark checkList repeat checkAirfield allAllowed allowed checkBox checkPair checkEdge edgeAt lineOf commandOf settingsFrom held contentsAt airfieldsAt boxesAt regionsAt regionAt regionsFrom airportsFrom enrouteFrom ascentFrom hoursFrom allowedCommand every allowedSection zeroSection allowedBox
-examples-allowed = ((refl, refl), ((refl, refl), ((refl, refl), ((refl, refl), ((refl, refl), tt)))))
+-- each example is accepted, reads to an allowed record, and is written back
+pub examples-read : AllReadBack examples
+unfolding examples longestText checkCommand longest sectionsMost itemsMost checkHead checkAwr04 sameBytes checkEach checkDelimiter checkFrom checkItems layoutOf itemsSize checkNumber allDigits valueFrom checkMark checkList repeat checkAirfield allAllowed allowed checkBox checkPair checkEdge edgeAt lineOf readCommand commandOf noCommand settingsFrom held contentsAt airfieldsAt boxesAt regionsAt regionAt regionsFrom airportsFrom enrouteFrom ascentFrom hoursFrom allowedCommand every allowedSection zeroSection allowedBox commandText sectionsText sectionText contentsOf contentsText digitsBefore airfieldsText boxesText regionsText regionText edgeText
+examples-read =
+    ((refl, refl, refl), ((refl, refl, refl), ((refl, refl, refl), ((refl, refl, refl), ((refl, refl, refl), tt)))))
 
 -- the longest command has 835 bytes
 pub longest-text : length longestText ≡ 835

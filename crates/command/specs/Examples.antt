@@ -7,7 +7,7 @@ use Prim.Native.Char.{code}
 use Prim.Native.String.{String, [] as []ˢ, _∷_ as _∷ˢ_}
 use Rattle.text.specs.declared.Seen.the-variants.{Fine}
 use Rattle.command.specs.Text.{checkCommand}
-use Rattle.command.specs.Record.{commandOf}
+use Rattle.command.specs.Record.{readCommand, commandText}
 use Rattle.command.specs.Allowed.{allowedCommand}
 
 -- the bytes of a text
@@ -50,7 +50,11 @@ examples =
     ∷ longestText
     ∷ []
 
--- each is accepted, and what it reads to is within document 01's ranges
-abbrev pub AllAllowed : List (List ℕ) → Type 0
-AllAllowed [] = Unit
-AllAllowed (t ∷ ts) = ((checkCommand t ≡ Fine) × (allowedCommand (commandOf t) ≡ true)) × AllAllowed ts
+-- a text is accepted, what it reads to is within document 01's ranges, and is written as the same bytes
+abbrev pub ReadsBack : List ℕ → Type 0
+ReadsBack t =
+    (checkCommand t ≡ Fine) × (allowedCommand (readCommand t .command) ≡ true) × (commandText (readCommand t .command) ≡ t)
+
+abbrev pub AllReadBack : List (List ℕ) → Type 0
+AllReadBack [] = Unit
+AllReadBack (t ∷ ts) = ReadsBack t × AllReadBack ts

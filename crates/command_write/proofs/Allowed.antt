@@ -1,5 +1,5 @@
--- Accepted texts by themselves: each is the text of a record that document 01's ranges allow, and the text of every such record is
--- accepted.
+-- Accepted texts and allowed records, each said without the other: a text is accepted just where it is the text of a record that
+-- document 01's ranges allow; reading and writing carry one onto the other.
 use mathlib.Core.Path.{_≡_, refl, sym, ap, _∙_}
 use mathlib.Core.Logic.{_↔_}
 use mathlib.Core.Bool.{true}
@@ -8,8 +8,10 @@ use Prim.Native.Nat.{ℕ, zero, suc, _+_, _-_, _≤_}
 use native.Mathlib.Omega.{arith}
 use lib.Dec.{leb}
 use borrow.Author.Tests.{leb-true, le-leb}
-use lib.ListN.{length, getD, length-map}
+use lib.ListN.{length, getD, take, drop, length-map}
+use lib.Seq.{take-at}
 use Rattle.text.specs.Checks.{must, isFine}
+use Rattle.text.specs.Over.{over}
 use Rattle.text.specs.Parts.{part}
 use Rattle.text.specs.declared.Seen.the-variants.{Fine}
 use Rattle.text.proofs.Checks.{must-held, both-fine, fine-is}
@@ -22,13 +24,16 @@ use Rattle.section.specs.Contents.{Content, Amount, Names, Areas, namesOf, area
 use Rattle.section.specs.Settings.{settingsFrom, regionsFrom, airportsFrom}
 use Rattle.section.proofs.Local.{item-sized}
 use Rattle.command.specs.Text.{checkCommand}
-use Rattle.command.specs.Record.{heldIn, commandOf, commandAllowed, commandText, writeSeen}
+use Rattle.command.specs.Record.{heldIn, commandOf, readCommand, commandAllowed, commandText, writeSeen, leftBy}
 use Rattle.command.specs.Allowed.{allowedCommand}
 use Rattle.command.specs.declared.Command.{Command}
 use Rattle.command.proofs.Parts.{bodyOf, Place, Absent, Present, holds}
 use Rattle.command.proofs.Accepted.{Accepted, accepted, sound, held-own}
 use Rattle.command.proofs.Allowed.{allowed-same}
+use Rattle.command.proofs.Codes.{read-zero}
+use Rattle.command_write.specs.Writing.{wrote}
 use Rattle.command_write.proofs.RoundTrip.{Filled, read-write, write-read}
+use Rattle.command_write.proofs.Codes.{wrote-zero}
 
 -- ---- A record's own check and document 01's ranges
 
@@ -111,27 +116,32 @@ module _ (s : List ℕ) (a : Accepted s) where
 
 -- ---- Accepted texts
 
--- s is the text of an allowed record
-pub record TextOf (s : List ℕ) : Type 0 where
-  pub command : Command
-  pub filled : Filled command
-  pub allowed : allowedCommand command ≡ true
-  pub text : s ≡ commandText command
+-- s is the text of the record c, which the ranges allow
+pub record Spells (s : List ℕ) (c : Command) : Type 0 where
+  pub filled : Filled c
+  pub allowed : allowedCommand c ≡ true
+  pub text : s ≡ commandText c
 
--- every accepted text is the text of an allowed record
-pub accepted-text : (s : List ℕ) → checkCommand s ≡ Fine → TextOf s
-accepted-text s e =
+accepted-spells : (s : List ℕ) → checkCommand s ≡ Fine → Spells s (commandOf s)
+accepted-spells s e =
     let full = read-filled s (accepted s e) in
     record {
-      command = commandOf s;
       filled = full;
       allowed = fine-allowed (commandOf s) full (read-write s e .0);
       text = sym (read-write s e .1);
     }
 
--- and the text of every allowed record is accepted
-pub allowed-accepted : (s : List ℕ) → TextOf s → checkCommand s ≡ Fine
-allowed-accepted s t = rw (t .text) (write-read (t .command) (t .filled) (allowed-fine (t .command) (t .filled) (t .allowed)) .0)
+-- a text is accepted just where it is the text of an allowed record
+pub accepted-allowed : (s : List ℕ) → (checkCommand s ≡ Fine) ↔ ((c : Command) × Spells s c)
+accepted-allowed s = (
+  λ e. (commandOf s, accepted-spells s e),
+  λ t. let p = t .1 in rw (p .text) (write-read (t .0) (p .filled) (allowed-fine (t .0) (p .filled) (p .allowed)) .0),
+)
+
+-- what is read with code 0 is an allowed record that is written as the same bytes
+pub read-then-write : (s : List ℕ) → readCommand s .code ≡ 0 → Spells s (readCommand s .command)
+unfolding readCommand
+read-then-write s z = let e = read-zero s .0 z in rw e (accepted-spells s e)
 
 -- ---- Writing
 
@@ -146,3 +156,14 @@ writes-allowed c room full =
           (fine-allowed c full (x .0), leb-true (length (commandText c)) room (must-held fits 2 0 (x .1))),
       λ h. rw (allowed-fine c full (h .0), le-leb (length (commandText c)) room (h .1)),
     )
+
+-- what was written, as many bytes as the answer says, reads back with code 0 as the record
+pub write-then-read : (c : Command) (out : List ℕ) → Filled c
+    → let seen = writeSeen c (length out) in let answer = wrote seen (length (commandText c)) in
+    answer .code ≡ 0 → readCommand (take (answer .length) (leftBy seen (commandText c) out)) ≡ record { code = 0; place = 0; command = c }
+unfolding readCommand over
+write-then-read c out full z =
+    let t = commandText c in
+    let e = wrote-zero c (length out) (length t) .0 z in
+    let back = write-read c full (allowed-fine c full (writes-allowed c (length out) full .0 e .0)) in
+    rw (e, take-at t (drop (0 + length t) out) (length t) refl, back .0, back .1)

@@ -2,5 +2,5 @@
 pub mod Writing
 pub mod ReadBack
 pub mod RoundTrip
-pub mod Allowed
 pub mod Codes
+pub mod Allowed
