@@ -157,6 +157,11 @@ writes-allowed c room full =
       λ h. rw (allowed-fine c full (h .0), le-leb (length (commandText c)) room (h .1)),
     )
 
+module _ (c : Command) (room : ℕ) (z : wrote (writeSeen c room) (length (commandText c)) .code ≡ 0) where
+  -- the length that the answer gives is the text's
+  pub wrote-length : wrote (writeSeen c room) (length (commandText c)) .length ≡ length (commandText c)
+  wrote-length = rw (wrote-zero c room (length (commandText c)) .0 z)
+
 -- what was written, as many bytes as the answer says, reads back with code 0 as the record
 pub write-then-read : (c : Command) (out : List ℕ) → Filled c
     → let seen = writeSeen c (length out) in let answer = wrote seen (length (commandText c)) in
@@ -166,4 +171,4 @@ write-then-read c out full z =
     let t = commandText c in
     let e = wrote-zero c (length out) (length t) .0 z in
     let back = write-read c full (allowed-fine c full (writes-allowed c (length out) full .0 e .0)) in
-    rw (e, take-at t (drop (0 + length t) out) (length t) refl, back .0, back .1)
+    rw (wrote-length c (length out) z, e, take-at t (drop (0 + length t) out) (length t) refl, back .0, back .1)
