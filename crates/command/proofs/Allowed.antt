@@ -33,7 +33,7 @@ use Rattle.section.specs.Contents.{Content, amountOf, namesOf, areasOf, content
 use Rattle.section.specs.Settings.{contentsOf}
 use Rattle.section.specs.declared.Settings.{Settings}
 use Rattle.command.specs.Text.{numbers}
-use Rattle.command.specs.Record.{flagAllowed, flagsAllowed, namedAllowed, areZero, names, sectionText, sectionsAllowed, commandAllowed}
+use Rattle.command.specs.Record.{flagAllowed, flagsAllowed, namedAllowed, marksAllowed, areZero, names, sectionText, sectionsAllowed, commandAllowed}
 use Rattle.command.specs.Allowed.{every, nought, allowedEdge, signed, allowedBox, allowedBoxes, allowedAirfields, allowedSection, zeroSection, zeroOrOne, allowedFlag, allowedIndicator, inTurn, allowedCommand}
 use Rattle.command.specs.declared.Command.{Command}
 use Rattle.command.proofs.Each.{Each, each-map}
@@ -298,8 +298,9 @@ unfolding commandAllowed allowedCommand
 allowed-same c l =
     let flags = flagsAllowed 5 (c .settings .flags) in
     let digit = leb (c .downlink) 2 in
-    let marks = namedAllowed numbers 13 (c .named) in
+    let named = namedAllowed numbers 13 (c .named) in
+    let marks = marksAllowed c in
     let sections = sectionsAllowed numbers 22 c in
     fine-then flags (must digit 4 12 andThen marks andThen sections)
-    ∙ rw (fine-then (must digit 4 12) (marks andThen sections), fine-then marks sections, fine-must digit 4 12)
+    ∙ rw (fine-then (must digit 4 12) (marks andThen sections), fine-then marks sections, fine-must digit 4 12, fine-then named (must (eqb (c .spare) 0) 7 21), fine-must (eqb (c .spare) 0) 7 21)
     (rw (flags-same 5 (c .settings .flags), indicators-same c l, turns-same numbers 22 c (sections-are (c .settings)) (zeros-are (c .settings))) (simp and-assoc))

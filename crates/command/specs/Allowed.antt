@@ -140,4 +140,8 @@ inTurn c k = cond (eqb (indicator c k) k) (allowedSection (c .settings) k) (zero
 
 unfoldable pub allowedCommand : Command → Bool
 allowedCommand c =
-    every allowedFlag (c .settings .flags) && leb (c .downlink) 2 && every (allowedIndicator c) numbers && every (inTurn c) numbers
+    every allowedFlag (c .settings .flags)
+    && leb (c .downlink) 2
+    && every (allowedIndicator c) numbers
+    && nought (c .spare)
+    && every (inTurn c) numbers

@@ -3,17 +3,11 @@ use mathlib.Core.Path.{_≡_}
 use mathlib.Core.Bool.{true}
 use mathlib.Core.List.{List, [], _∷_, _++_}
 use Prim.Native.Nat.{ℕ, zero, suc}
-use Prim.Native.Char.{code}
-use Prim.Native.String.{String, [] as []ˢ, _∷_ as _∷ˢ_}
+use Rattle.text.specs.Bytes.{bytes}
 use Rattle.text.specs.declared.Seen.the-variants.{Fine}
 use Rattle.command.specs.Text.{checkCommand}
 use Rattle.command.specs.Record.{readCommand, commandText}
 use Rattle.command.specs.Allowed.{allowedCommand}
-
--- the bytes of a text
-abbrev pub bytes : String → List ℕ
-bytes []ˢ = []
-bytes (c ∷ˢ s) = code c ∷ bytes s
 
 abbrev pub copies : ℕ → List ℕ → List ℕ
 copies zero t = []

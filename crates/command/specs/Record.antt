@@ -42,12 +42,12 @@ downlinkOf s = getD s 12 0 - 48
 
 unfoldable pub commandOf : List ℕ → Command
 commandOf s =
-    record { settings = settingsFrom (flagsOf s) (heldIn s); downlink = downlinkOf s; named = digitsOf (part 13 8 s) }
+    record { settings = settingsFrom (flagsOf s) (heldIn s); downlink = downlinkOf s; named = digitsOf (part 13 8 s); spare = 0 }
 
 -- the one empty command, which every refusal carries: all zero
 unfoldable pub noCommand : Command
 noCommand =
-    record { settings = settingsFrom (replicate 7 0) (λ (k : ℕ). []); downlink = 0; named = replicate 8 0 }
+    record { settings = settingsFrom (replicate 7 0) (λ (k : ℕ). []); downlink = 0; named = replicate 8 0; spare = 0 }
 
 -- reading answers what the check says, and the command where that is nothing
 abbrev pub got : Seen → Command → Got
@@ -97,11 +97,15 @@ sectionsAllowed (k ∷ ks) at c =
     (contentsAllowed (layoutOf k) at (contentsOf (c .settings) k) andThen sectionsAllowed ks (at + length (sectionText c k)) c)
     (must (areZero (contentsOf (c .settings) k)) 7 at andThen sectionsAllowed ks at c)
 
+-- the indicators; a spare byte stands where the delimiter behind them does, and is zero
+abbrev pub marksAllowed : Command → Seen
+marksAllowed c = namedAllowed numbers 13 (c .named) andThen must (eqb (c .spare) 0) 7 21
+
 unfoldable pub commandAllowed : Command → Seen
 commandAllowed c =
     flagsAllowed 5 (c .settings .flags)
     andThen must (leb (c .downlink) 2) 4 12
-    andThen namedAllowed numbers 13 (c .named)
+    andThen marksAllowed c
     andThen sectionsAllowed numbers 22 c
 
 -- ---- Into the text

@@ -5,12 +5,13 @@ pub mod read;
 use section::Settings;
 
 // What a command carries: flags 0, 1 or 9 (no change), the sections that it names, all others zero; the downlink digit;
-// and for each section number from 2 on, that number where the section is named, else 0.
+// and for each section number from 2 on, that number where the section is named, else 0; `spare` is 0.
 #[repr(C)]
 pub struct Command {
     pub settings: Settings,
     pub downlink: u8,
     pub named: [u8; 8],
+    pub spare: u8,
 }
 
 // What reading means: the command, or the refusal's code and place beside the one empty command. Contracts speak of it.

@@ -250,6 +250,7 @@ pub fn no_command() -> Command
         settings: no_settings(),
         downlink: 0,
         named: [0u8; 8],
+        spare: 0,
     }
 }
 
@@ -351,6 +352,7 @@ pub fn short_of(s: &[u8], places: [usize; 10]) -> Command
         },
         downlink,
         named,
+        spare: 0,
     }
 }
 
@@ -363,5 +365,6 @@ pub fn command_of(s: &[u8], places: [usize; 10]) -> Command
         settings: settings_of(s, places),
         downlink: downlink_of(s),
         named: named_of(s),
+        spare: 0,
     }
 }

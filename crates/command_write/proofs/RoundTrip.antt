@@ -20,7 +20,7 @@ use Rattle.section.proofs.Own.{own-some}
 use Rattle.section.proofs.RoundTrip.{Shaped, written-own}
 use Rattle.section.proofs.Kept.{regions-kept, airports-kept, enroute-kept, ascent-kept, digit-kept, hours-kept}
 use Rattle.command.specs.Text.{isFlag, isDownlink, numbers, checkCommand}
-use Rattle.command.specs.Record.{heldIn, digitsOf, commandOf, flagAllowed, flagsAllowed, namedAllowed, isZero, areZero, names, sectionText, sectionsAllowed, commandAllowed, digitBytes, commandText}
+use Rattle.command.specs.Record.{heldIn, digitsOf, commandOf, flagAllowed, flagsAllowed, namedAllowed, marksAllowed, isZero, areZero, names, sectionText, sectionsAllowed, commandAllowed, digitBytes, commandText}
 use Rattle.command_write.specs.Writing.{textIf}
 use Rattle.command.specs.declared.Command.{Command}
 use Rattle.command.proofs.Allowed.{indicated, eight-values}
@@ -183,17 +183,20 @@ module _ (c : Command) (full : Filled c) (fine : commandAllowed c ≡ Fine) wher
   halves : (headAllowed c ≡ Fine) × (sectionsAllowed numbers 22 c ≡ Fine)
   halves = both-fine (headAllowed c) (sectionsAllowed numbers 22 c) (rw (allowed-halves c) at fine)
 
-  flags-fine : (flagsAllowed 5 (c .settings .flags) ≡ Fine) × ((must (leb (c .downlink) 2) 4 12 andThen namedAllowed numbers 13 (c .named)) ≡ Fine)
-  flags-fine = both-fine (flagsAllowed 5 (c .settings .flags)) (must (leb (c .downlink) 2) 4 12 andThen namedAllowed numbers 13 (c .named)) (halves .0)
+  flags-fine : (flagsAllowed 5 (c .settings .flags) ≡ Fine) × ((must (leb (c .downlink) 2) 4 12 andThen marksAllowed c) ≡ Fine)
+  flags-fine = both-fine (flagsAllowed 5 (c .settings .flags)) (must (leb (c .downlink) 2) 4 12 andThen marksAllowed c) (halves .0)
 
-  rest-fine : (must (leb (c .downlink) 2) 4 12 ≡ Fine) × (namedAllowed numbers 13 (c .named) ≡ Fine)
-  rest-fine = both-fine (must (leb (c .downlink) 2) 4 12) (namedAllowed numbers 13 (c .named)) (flags-fine .1)
+  rest-fine : (must (leb (c .downlink) 2) 4 12 ≡ Fine) × (marksAllowed c ≡ Fine)
+  rest-fine = both-fine (must (leb (c .downlink) 2) 4 12) (marksAllowed c) (flags-fine .1)
+
+  marks-fine : (namedAllowed numbers 13 (c .named) ≡ Fine) × (must (eqb (c .spare) 0) 7 21 ≡ Fine)
+  marks-fine = both-fine (namedAllowed numbers 13 (c .named)) (must (eqb (c .spare) 0) 7 21) (rest-fine .1)
 
   low : c .downlink ≤ 2
   low = leb-true (c .downlink) 2 (must-held (leb (c .downlink) 2) 4 12 (rest-fine .0))
 
   at : (i : ℕ) → i < 8 → indicated (getD numbers i 0) (getD (c .named) i 0) ≡ true
-  at i h = named-at numbers (c .named) 13 i (rest-fine .1) h
+  at i h = named-at numbers (c .named) 13 i (marks-fine .0) h
 
   all-kept : Each (λ k. Kept k (value k) (names c k) (held k)) numbers
   all-kept =
@@ -373,7 +376,10 @@ module _ (c : Command) (full : Filled c) (fine : commandAllowed c ≡ Fine) wher
   -- and reads back as that record
   pub written-read : commandOf (commandText c) ≡ c
   unfolding commandOf
-  written-read = rw (← text-is, settings-back, digit-back, all-named)
+  written-read =
+      rw (← text-is, settings-back, digit-back, all-named)
+      (ap (λ (n : ℕ). record { settings = c .settings; downlink = c .downlink; named = c .named; spare = n })
+      (sym (eqb-true (c .spare) 0 (must-held (eqb (c .spare) 0) 7 21 (marks-fine .1)))))
 
 -- the text of an allowed record is accepted, and reads back as that record
 pub write-read : (c : Command) → Filled c → commandAllowed c ≡ Fine → (checkCommand (commandText c) ≡ Fine) × (commandOf (commandText c) ≡ c)

@@ -31,7 +31,7 @@ use Rattle.section.specs.declared.Airports.{Airports}
 use Rattle.section.specs.Turn.{goesOn, contentsTurn, Reaches}
 use Rattle.section.proofs.Short.{goes-reaches, contents-anywhere}
 use Rattle.command.specs.Text.{awr04, numbers}
-use Rattle.command.specs.Record.{flagAllowed, flagsAllowed, namedAllowed, isZero, areZero, names, sectionText, sectionsAllowed, commandAllowed, digitBytes, sectionsText, commandText, writeSeen}
+use Rattle.command.specs.Record.{flagAllowed, flagsAllowed, namedAllowed, marksAllowed, isZero, areZero, names, sectionText, sectionsAllowed, commandAllowed, digitBytes, sectionsText, commandText, writeSeen}
 use Rattle.command.proofs.Allowed.{indicated}
 use Rattle.command_write.specs.Writing.{sectionTurn, recordTurns, front, back, headText, textIf, AllNamed, Digits}
 use Rattle.command.specs.declared.Command.{Command}
@@ -216,19 +216,22 @@ and-three (Bad code place) y z w = refl
 -- flags, downlink digit and indicators
 abbrev pub headAllowed : Command → Seen
 headAllowed c =
-    flagsAllowed 5 (c .settings .flags) andThen must (leb (c .downlink) 2) 4 12 andThen namedAllowed numbers 13 (c .named)
+    flagsAllowed 5 (c .settings .flags) andThen must (leb (c .downlink) 2) 4 12 andThen marksAllowed c
 
 -- the head, then the sections
 pub allowed-halves : (c : Command) → commandAllowed c ≡ (headAllowed c andThen sectionsAllowed numbers 22 c)
 unfolding commandAllowed
 allowed-halves c =
-    and-three (flagsAllowed 5 (c .settings .flags)) (must (leb (c .downlink) 2) 4 12) (namedAllowed numbers 13 (c .named)) (sectionsAllowed numbers 22 c)
+    and-three (flagsAllowed 5 (c .settings .flags)) (must (leb (c .downlink) 2) 4 12) (marksAllowed c) (sectionsAllowed numbers 22 c)
+
+marks-named : (c : Command) → marksAllowed c ≡ Fine → namedAllowed numbers 13 (c .named) ≡ Fine
+marks-named c e = both-fine (namedAllowed numbers 13 (c .named)) (must (eqb (c .spare) 0) 7 21) e .0
 
 -- an allowed head has allowed indicators
 pub head-named : (c : Command) → headAllowed c ≡ Fine → namedAllowed numbers 13 (c .named) ≡ Fine
 head-named c e =
-    let x = both-fine (flagsAllowed 5 (c .settings .flags)) (must (leb (c .downlink) 2) 4 12 andThen namedAllowed numbers 13 (c .named)) e in
-    both-fine (must (leb (c .downlink) 2) 4 12) (namedAllowed numbers 13 (c .named)) (x .1) .1
+    let x = both-fine (flagsAllowed 5 (c .settings .flags)) (must (leb (c .downlink) 2) 4 12 andThen marksAllowed c) e in
+    marks-named c (both-fine (must (leb (c .downlink) 2) 4 12) (marksAllowed c) (x .1) .1)
 
 -- ---- What the functions of the sections' turns owe
 
@@ -430,16 +433,17 @@ pub ready : (c : Command) → length (c .named) ≡ 8 → commandAllowed c ≡ F
 ready c eight e =
     let x = both-fine (headAllowed c) (sectionsAllowed numbers 22 c) (rw (allowed-halves c) at e) in
     let d = must (leb (c .downlink) 2) 4 12 in
-    let y = both-fine (flagsAllowed 5 (c .settings .flags)) (d andThen namedAllowed numbers 13 (c .named)) (x .0) in
-    let z = both-fine d (namedAllowed numbers 13 (c .named)) (y .1) in
+    let y = both-fine (flagsAllowed 5 (c .settings .flags)) (d andThen marksAllowed c) (x .0) in
+    let z = both-fine d (marksAllowed c) (y .1) in
+    let n = marks-named c (z .1) in
     let low : c .downlink ≤ 2 = leb-true (c .downlink) 2 (must-held (leb (c .downlink) 2) 4 12 (z .0)) in
     let a = sections-named numbers 22 c (x .1) in
     let sections : sectionsText numbers c ≡ sectionsText front c ++ sectionsText back c =
-    text-append front (6 ∷ 7 ∷ 8 ∷ 9 ∷ []) c ∙ ap (λ (l : List ℕ). sectionsText front c ++ l) (seven-left-out c (no-seven c (z .1))) in
+    text-append front (6 ∷ 7 ∷ 8 ∷ 9 ∷ []) c ∙ ap (λ (l : List ℕ). sectionsText front c ++ l) (seven-left-out c (no-seven c n)) in
     record {
       flags = flags-digits 5 (c .settings .flags) (y .0);
       downlink = omega arith;
-      named = named-digits (c .named) eight (z .1);
+      named = named-digits (c .named) eight n;
       first = (a .0, (a .1 .0, (a .1 .1 .0, (a .1 .1 .1 .0, tt))));
       second = (a .1 .1 .1 .1 .0, (a .1 .1 .1 .1 .1 .1 .0, (a .1 .1 .1 .1 .1 .1 .1 .0, tt)));
       text = text-halves c ∙ ap (λ (l : List ℕ). headText c ++ l) sections;

@@ -30,7 +30,7 @@ ghost use Rattle.section.specs.Contents.{Names};
 ghost use Rattle.section.specs.Settings.{regionsHold, airportsHold, enrouteHold, ascentHold, digitHold, hoursHold};
 ghost use Rattle.section.specs.Turn.{goesOn, Reaches};
 ghost use Rattle.command.specs.Text.{numbers};
-ghost use Rattle.command.specs.Record.{flagAllowed, flagsAllowed, namedAllowed, isZero, areZero, sectionsAllowed, commandAllowed, commandText};
+ghost use Rattle.command.specs.Record.{flagAllowed, flagsAllowed, namedAllowed, marksAllowed, isZero, areZero, sectionsAllowed, commandAllowed, commandText};
 ghost use Rattle.command_write.specs.Writing.{sectionTurn, recordTurns, front, back};
 
 // 0, 1 or 9 (no change).
@@ -75,9 +75,24 @@ fn named_allowed(named: [u8; 8]) -> Seen
     Seen::Fine
 }
 
+// The indicators, and the spare byte behind them.
+fn marks_allowed(named: [u8; 8], spare: u8) -> Seen
+    ensures { λ r. ⌜ r ≡ (namedAllowed numbers 13 named andThen must (eqb spare 0) 7 21) ⌝ }
+{
+    match named_allowed(named) {
+        Seen::Bad(code, place) => Seen::Bad(code, place),
+        Seen::Fine => {
+            if spare != 0 {
+                return Seen::Bad(7, 21);
+            }
+            Seen::Fine
+        }
+    }
+}
+
 // The flags, the downlink digit, the indicators.
 fn head_allowed(c: Command) -> Seen
-    ensures { λ r. ⌜ r ≡ (flagsAllowed 5 (c .settings .flags) andThen must (leb (c .downlink) 2) 4 12 andThen namedAllowed numbers 13 (c .named)) ⌝ }
+    ensures { λ r. ⌜ r ≡ (flagsAllowed 5 (c .settings .flags) andThen must (leb (c .downlink) 2) 4 12 andThen marksAllowed c) ⌝ }
 {
     let settings = c.settings;
     let flags = settings.flags;
@@ -88,7 +103,7 @@ fn head_allowed(c: Command) -> Seen
             if 2 < c.downlink {
                 return Seen::Bad(4, 12);
             }
-            named_allowed(named)
+            marks_allowed(named, c.spare)
         }
     }
 }

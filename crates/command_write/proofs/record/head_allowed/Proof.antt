@@ -22,14 +22,14 @@ enum-told c = search needs
 returns : tie.Need-returns
 returns c = rw (flags-fine (c .before .before), lt-leb _ 2 (c .if1 .taken))
 
-named-allowed-requires : tie.Need-named-allowed-requires
-named-allowed-requires c κs = search needs
+marks-allowed-requires : tie.Need-marks-allowed-requires
+marks-allowed-requires c κs = search needs
 
 returns-2 : tie.Need-returns-2
 returns-2 c = rw (sym (c .before .before .before .flags-allowed .ensures) ∙ c .before .code .given .1)
 
 returns-3 : tie.Need-returns-3
-returns-3 c = rw (flags-fine (c .before .before .before), le-leb _ 2 (c .before .if1 .left)) (c .named-allowed .ensures)
+returns-3 c = rw (flags-fine (c .before .before .before), le-leb _ 2 (c .before .if1 .left)) (c .marks-allowed .ensures)
 
 pub head-allowed-spec : {M : Type 1} → statement M
 head-allowed-spec =
@@ -39,6 +39,6 @@ head-allowed-spec =
     enum-known-code
     enum-told
     returns
-    named-allowed-requires
+    marks-allowed-requires
     returns-2
     returns-3)
