@@ -2,7 +2,7 @@ use borrow.Author.Needs.{needs}
 use Rattle.desk.proofs.report_calls.esk_report_read.Statement.{statement}
 use Rattle.desk.proofs.report_calls.esk_report_read.Tie as tie
 use mathlib.Core.Path.{_≡_, refl, sym, _∙_, ap}
-use Rattle.desk.specs.Records.{reportNumbers}
+use Rattle.desk.specs.Reports.{reportNumbers}
 
 worth-table-requires : tie.Need-worth-table-requires
 worth-table-requires c κs = search needs

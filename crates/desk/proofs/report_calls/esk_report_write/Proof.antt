@@ -6,11 +6,8 @@ use mathlib.Core.Path.{_≡_, refl, sym, _∙_, ap}
 digit-table-requires : tie.Need-digit-table-requires
 digit-table-requires c κs = search needs
 
-record-from-requires : tie.Need-record-from-requires
-record-from-requires c κs = search needs
-
-write-requires : tie.Need-write-requires
-write-requires c κs = search needs
+write-host-requires : tie.Need-write-host-requires
+write-host-requires c κs = search needs
 
 numbers-requires : tie.Need-numbers-requires
 numbers-requires c κs = search needs
@@ -20,17 +17,14 @@ same-length c = search needs
 
 returns : tie.Need-returns
 returns c =
-    let w = c .before .before .before .write .ensures in
-    let f = c .before .before .before .before .before .record-from .ensures in
-    (c .numbers .ensures ∙ rw (w .0, f), w .1 ∙ rw f)
+    let w = c .before .before .before .write-host .ensures in (c .numbers .ensures ∙ rw (w .0), w .1)
 
 pub esk-report-write-spec : {M : Type 1} → statement M
 esk-report-write-spec =
     tie.close
     (tie.spec
     digit-table-requires
-    record-from-requires
-    write-requires
+    write-host-requires
     numbers-requires
     same-length
     returns)

@@ -2,7 +2,7 @@ use borrow.Author.Needs.{needs}
 use Rattle.desk.proofs.report_calls.report_answer.Statement.{statement}
 use Rattle.desk.proofs.report_calls.report_answer.Tie as tie
 use mathlib.Core.Path.{_≡_, refl, sym, _∙_, ap}
-use Rattle.desk.specs.Records.{reportNumbers}
+use Rattle.desk.specs.Reports.{reportNumbers}
 
 answer-of-requires : tie.Need-answer-of-requires
 answer-of-requires c κs = search needs
