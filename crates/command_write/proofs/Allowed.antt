@@ -32,7 +32,8 @@ use Rattle.command.proofs.Accepted.{Accepted, accepted, sound, held-own}
 use Rattle.command.proofs.Allowed.{allowed-same}
 use Rattle.command.proofs.Codes.{read-zero}
 use Rattle.command_write.specs.Writing.{wrote}
-use Rattle.command_write.proofs.RoundTrip.{Filled, read-write, write-read}
+use Rattle.command_write.specs.Filled.{Filled}
+use Rattle.command_write.proofs.RoundTrip.{read-write, write-read}
 use Rattle.command_write.proofs.Codes.{wrote-zero}
 
 -- ---- A record's own check and document 01's ranges

@@ -21,6 +21,7 @@ use Rattle.section.proofs.RoundTrip.{Shaped, written-own}
 use Rattle.section.proofs.Kept.{regions-kept, airports-kept, enroute-kept, ascent-kept, digit-kept, hours-kept}
 use Rattle.command.specs.Text.{isFlag, isDownlink, numbers, checkCommand}
 use Rattle.command.specs.Record.{heldIn, digitsOf, commandOf, flagAllowed, flagsAllowed, namedAllowed, marksAllowed, isZero, areZero, names, sectionText, sectionsAllowed, commandAllowed, digitBytes, commandText}
+use Rattle.command_write.specs.Filled.{Filled}
 use Rattle.command_write.specs.Writing.{textIf}
 use Rattle.command.specs.declared.Command.{Command}
 use Rattle.command.proofs.Allowed.{indicated, eight-values}
@@ -140,15 +141,6 @@ unfolding areZero
 zero-more d cs e = (both-left (isZero d) (areZero cs) e, both-right (isZero d) (areZero cs) e)
 
 -- ---- The whole record
-
--- the arrays of a record have their entries, as its types say
-pub record Filled (c : Command) : Type 0 where
-  pub flags : length (c .settings .flags) ≡ 7
-  pub named : length (c .named) ≡ 8
-  pub reporting : length (c .settings .regions .reporting .regions) ≡ 16
-  pub inhibiting : length (c .settings .regions .inhibiting .regions) ≡ 16
-  pub selected : (length (c .settings .airports .selected .ascent .names) ≡ 80) × (length (c .settings .airports .selected .descent .names) ≡ 80)
-  pub inhibited : (length (c .settings .airports .inhibited .ascent .names) ≡ 80) × (length (c .settings .airports .inhibited .descent .names) ≡ 80)
 
 -- each section has its layout's kinds of contents
 pub shaped : (c : Command) → Filled c → Each (λ k. Shaped (layoutOf k) (contentsOf (c .settings) k)) numbers

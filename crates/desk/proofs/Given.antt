@@ -14,7 +14,8 @@ use Rattle.command.specs.Text.{checkCommand}
 use Rattle.command.specs.Record.{commandAllowed, commandText, writeSeen}
 use Rattle.command_write.specs.Writing.{wrote}
 use Rattle.command.specs.declared.Command.{Command}
-use Rattle.command_write.proofs.RoundTrip.{Filled, written-short}
+use Rattle.command_write.specs.Filled.{Filled}
+use Rattle.command_write.proofs.RoundTrip.{written-short}
 use Rattle.join.specs.Join.{Joined, Joins, Refuses, joinText, bySeen, join, told}
 use Rattle.join.proofs.Laws.{join-short}
 use Rattle.desk.specs.Numbers.{checkNumbers, writeNumbers}

@@ -18,7 +18,7 @@ unfolding worthOf digitOf
 worth-digit n h = agree (λ (k : ℕ). worthOf (digitOf k)) (λ (k : ℕ). k) 40 refl n h
 
 -- no byte above Z is a digit
-worth-high : (b : ℕ) → 90 < b → worthOf b ≡ 40
+pub worth-high : (b : ℕ) → 90 < b → worthOf b ≡ 40
 unfolding worthOf
 worth-high b h =
     rw (

@@ -8,3 +8,4 @@ pub mod Scan
 mod Runs
 pub mod Short
 pub mod Signs
+pub mod Words

@@ -46,12 +46,12 @@ half-less (suc j) (suc k) h = omega (arith, pow-le-pow-right {n = 40} (lit< tt) 
 
 -- ---- spaces
 
-trim-spaces : (n : ℕ) (l : List ℕ) → trim (replicate n 32 ++ l) ≡ trim l
+pub trim-spaces : (n : ℕ) (l : List ℕ) → trim (replicate n 32 ++ l) ≡ trim l
 unfolding trim
 trim-spaces zero l = refl
 trim-spaces (suc n) l = trim-spaces n l
 
-trim-digits : (ds : List ℕ) → allDigits ds ≡ true → trim ds ≡ ds
+pub trim-digits : (ds : List ℕ) → allDigits ds ≡ true → trim ds ≡ ds
 unfolding trim allDigits
 trim-digits [] e = refl
 trim-digits (b ∷ bs) e =
@@ -81,7 +81,7 @@ trim-back (b ∷ bs) =
 
 -- ---- solidi
 
-solidi-all : (w : ℕ) → allSolidi (replicate w 47) ≡ true
+pub solidi-all : (w : ℕ) → allSolidi (replicate w 47) ≡ true
 unfolding allSolidi
 solidi-all zero = refl
 solidi-all (suc w) = solidi-all w
@@ -99,7 +99,7 @@ true-false : true ≡ false → ⊥
 true-false e = let z : _≡_ {A = ℕ} 0 1 = cc in absurd (omega arith)
 
 -- digits behind spaces are read as they are spelt
-read-as : (f ds : List ℕ) → 1 ≤ length f → length f ≤ 5 → trim f ≡ ds → allDigits ds ≡ true → 0 < length ds
+pub read-as : (f ds : List ℕ) → 1 ≤ length f → length f ≤ 5 → trim f ≡ ds → allDigits ds ≡ true → 0 < length ds
     → readPacked f ≡ spelt (number 0 ds) (length ds)
 unfolding readPacked
 read-as f ds a b t e p =
@@ -109,7 +109,7 @@ read-as f ds a b t e p =
     (λ (s : allSolidi f ≡ false). rw (le-leb 1 (length f) a, le-leb (length f) 5 b, s, d, t))
 
 -- solidi are read as a missing figure
-read-solidi : (f : List ℕ) → 1 ≤ length f → length f ≤ 5 → allSolidi f ≡ true → readPacked f ≡ Is Missing
+pub read-solidi : (f : List ℕ) → 1 ≤ length f → length f ≤ 5 → allSolidi f ≡ true → readPacked f ≡ Is Missing
 unfolding readPacked
 read-solidi f a b s = rw (le-leb 1 (length f) a, le-leb (length f) 5 b, s)
 

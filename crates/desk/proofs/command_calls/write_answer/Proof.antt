@@ -5,7 +5,7 @@ use Rattle.desk.proofs.command_calls.write_answer.Tie as tie
 use mathlib.Core.Path.{sym, _∙_}
 use lib.ListN.{length, length-map}
 use Rattle.command.specs.Record.{commandText, writeSeen}
-use Rattle.command_write.proofs.RoundTrip.{Filled}
+use Rattle.command_write.specs.Filled.{Filled}
 use Rattle.desk.proofs.Given.{wrote-numbers, wrote-short}
 
 -- the arrays of the record have their entries: its type's own relation says so, field by field

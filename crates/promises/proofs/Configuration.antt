@@ -1,0 +1,145 @@
+-- The promises of the configuration, kept.
+use mathlib.Core.Path.{_≡_, refl, sym, ap, _∙_}
+use mathlib.Core.Bool.{Bool, true, false, cond, _&&_}
+use mathlib.Core.List.{List, [], _∷_}
+use Prim.Native.Nat.{ℕ, _+_, _-_, _≤_, _<_}
+use native.Mathlib.Omega.{arith}
+use lib.Dec.{leb, eqb}
+use lib.ListN.{getD}
+use borrow.Author.Tests.{le-leb, lt-leb, eqb-true, ne-eqb}
+use Rattle.text.specs.declared.Seen.{Seen}
+use Rattle.text.specs.declared.Seen.the-variants.{Fine, Bad}
+use Rattle.text.proofs.Bytes.{tests-agree}
+use Rattle.text.proofs.Cases.{by-test}
+use Rattle.text.proofs.Table.{agree}
+use Rattle.section.specs.Layout.{layoutOf}
+use Rattle.section.specs.Contents.{contentsAt}
+use Rattle.section.specs.Settings.{contentsOf, settingsFrom, regionsFrom, airportsFrom, enrouteFrom, ascentFrom, hoursFrom}
+use Rattle.section.specs.declared.Settings.{Settings}
+use Rattle.command.specs.Text.{numbers, isNamed, checkCommand}
+use Rattle.command.specs.Record.{heldIn}
+use Rattle.command.specs.Steps.{isOneOf, placeOf}
+use Rattle.command.specs.Allowed.{allowedSettings}
+use Rattle.command.proofs.Codes.{check-coded}
+use Rattle.command.proofs.Each.{Each}
+use Rattle.config.specs.Config.{reset, valid, onSeen, refused, applied, keptBy, kept}
+use Rattle.config.proofs.Allowed.{valid-same}
+use Rattle.config.proofs.Kept.{applied-zero, applied-digit, kept-flag, kept-section}
+use Rattle.config.proofs.Valid.{applies-valid, reset-valid}
+use Rattle.desk.specs.Numbers.{accepted, answerOf, checkNumbers}
+use Rattle.desk.specs.Outcomes.{validNumbers, appliedNumbers}
+use Rattle.promises.specs.Configuration.{check, apply, ConfigurationPromises}
+use Rattle.promises.proofs.Sections.{held-there}
+
+-- ---- Validity, by the code
+
+valid-zero : (t : Bool) → validNumbers t .code ≡ 0 → t ≡ true
+valid-zero true e = refl
+valid-zero false e = absurd (omega arith)
+
+zero-valid : (t : Bool) → t ≡ true → validNumbers t .code ≡ 0
+zero-valid t e = rw e
+
+is-twelve : (t : Bool) → ¬ (validNumbers t .code ≡ 0) → (t ≡ false) × (validNumbers t ≡ answerOf 12 0)
+is-twelve true n = absurd (n refl)
+is-twelve false n = (refl, refl)
+
+-- ---- The text's check, by the code
+
+seen-zero : (s : List ℕ) → checkNumbers (checkCommand s) .code ≡ 0 → checkCommand s ≡ Fine
+seen-zero s e = go (checkCommand s) refl e
+  where
+    go : (x : Seen) → checkCommand s ≡ x → checkNumbers x .code ≡ 0 → checkCommand s ≡ Fine
+    go Fine h z = h
+    go (Bad code place) h z = let l = check-coded s code place h .0 in let w : code ≡ 0 = z in absurd (omega arith)
+
+zero-seen : (s : List ℕ) → checkCommand s ≡ Fine → checkNumbers (checkCommand s) .code ≡ 0
+zero-seen s e = rw e
+
+-- ---- Sections by their number
+
+each-of : (P : ℕ → Type 0) (ks : List ℕ) → Each P ks → (k : ℕ) → isOneOf ks k ≡ true → P k
+each-of P [] e k o = let z : _≡_ {A = Bool} false true = o in let w : _≡_ {A = ℕ} 0 1 = cc in absurd (omega arith)
+each-of P (j ∷ ks) e k o =
+    by-test (eqb k j) (λ (t : eqb k j ≡ true). rw (eqb-true k j t) (e .0)) (λ (t : eqb k j ≡ false). each-of P ks (e .1) k (rw t at o))
+
+numbered : (k : ℕ) → 2 ≤ k → k ≤ 9 → isOneOf numbers k ≡ true
+numbered k a b =
+    tests-agree (isOneOf numbers) (λ (j : ℕ). leb 2 j && leb j 9)
+    (agree (λ (j : ℕ). cond (isOneOf numbers j) 1 0) (λ (j : ℕ). cond (leb 2 j && leb j 9) 1 0) 128 refl) none-high
+    (λ (j : ℕ) (h : 128 ≤ j). rw (le-leb 2 j (omega arith), lt-leb j 9 (omega arith))) k
+    ∙ rw (le-leb 2 k a, le-leb k 9 b)
+  where
+    none-high : (j : ℕ) → 128 ≤ j → isOneOf numbers j ≡ false
+    none-high j h =
+        rw (ne-eqb j 2 (λ (e : j ≡ 2). omega arith), ne-eqb j 3 (λ (e : j ≡ 3). omega arith), ne-eqb j 4 (λ (e : j ≡ 4). omega arith), ne-eqb j 5 (λ (e : j ≡ 5). omega arith), ne-eqb j 6 (λ (e : j ≡ 6). omega arith), ne-eqb j 7 (λ (e : j ≡ 7). omega arith), ne-eqb j 8 (λ (e : j ≡ 8). omega arith), ne-eqb j 9 (λ (e : j ≡ 9). omega arith))
+
+section-is : (s : List ℕ) → checkCommand s ≡ Fine → (x : Settings) (k : ℕ) → isOneOf numbers k ≡ true
+    → cond (isNamed s k) (heldIn s k) (contentsOf x k) ≡ cond (isNamed s k) (contentsAt (layoutOf k) s (placeOf s k)) (contentsOf x k)
+section-is s f x k o =
+    by-test (isNamed s k) (λ (n : isNamed s k ≡ true). rw n (held-there s f k o n)) (λ (n : isNamed s k ≡ false). rw n)
+
+-- ---- Refusals
+
+twelve-first : (x : Settings) (s : List ℕ) → ¬ (check x .code ≡ 0) → (apply x s .code ≡ 12) × (apply x s .place ≡ 0)
+unfolding applied
+twelve-first x s n = rw (is-twelve (valid x) n .0) (refl, refl)
+
+then-text : (x : Settings) (s : List ℕ) → check x .code ≡ 0 → ¬ (checkNumbers (checkCommand s) .code ≡ 0)
+    → (apply x s .code ≡ checkNumbers (checkCommand s) .code) × (apply x s .place ≡ checkNumbers (checkCommand s) .place)
+unfolding applied
+then-text x s v n = rw (valid-zero (valid x) v) (go (checkCommand s) n)
+  where
+    go : (r : Seen) → ¬ (checkNumbers r .code ≡ 0)
+        → (appliedNumbers (onSeen r x s) .code ≡ checkNumbers r .code) × (appliedNumbers (onSeen r x s) .place ≡ checkNumbers r .place)
+    go Fine m = absurd (m refl)
+    go (Bad code place) m = (refl, refl)
+
+unchanged : (x : Settings) (s : List ℕ) → ¬ (apply x s .code ≡ 0) → (kept x s ≡ x) × (apply x s .downlink ≡ 0)
+unfolding applied kept
+unchanged x s n = go (valid x) (checkCommand s) n
+  where
+    go : (t : Bool) (r : Seen) → ¬ (appliedNumbers (cond t (onSeen r x s) (refused 12 0)) .code ≡ 0)
+        → (cond t (keptBy r x s) x ≡ x) × (appliedNumbers (cond t (onSeen r x s) (refused 12 0)) .downlink ≡ 0)
+    go true Fine m = absurd (m refl)
+    go true (Bad code place) m = (refl, refl)
+    go false r m = (refl, refl)
+
+stays-valid : (x : Settings) (s : List ℕ) → check x .code ≡ 0 → check (kept x s) .code ≡ 0
+unfolding kept
+stays-valid x s v =
+    let t = valid-zero (valid x) v in rw t (go (checkCommand s) refl t)
+  where
+    go : (r : Seen) → checkCommand s ≡ r → valid x ≡ true → validNumbers (valid (keptBy r x s)) .code ≡ 0
+    go Fine e t = zero-valid (valid (keptBy Fine x s)) (applies-valid x s t e)
+    go (Bad code place) e t = zero-valid (valid x) t
+
+reset-is-valid : check reset ≡ accepted 0
+reset-is-valid = rw reset-valid
+
+pub configuration-promises : ConfigurationPromises
+unfolding reset settingsFrom regionsFrom airportsFrom enrouteFrom ascentFrom hoursFrom
+configuration-promises =
+    record {
+      after-reset = refl;
+      valid-is = λ x. (
+        λ e. sym (valid-same x) ∙ valid-zero (valid x) e,
+        λ a. zero-valid (valid x) (valid-same x ∙ a),
+      );
+      twelve = λ x n. is-twelve (valid x) n .1;
+      reset-valid = reset-is-valid;
+      twelve-first = twelve-first;
+      then-text = then-text;
+      accepts = λ x s. (
+        λ e. let b = applied-zero x s .0 e in (zero-valid (valid x) (b .0), zero-seen s (b .1)),
+        λ b. applied-zero x s .1 (valid-zero (valid x) (b .0), seen-zero s (b .1)),
+      );
+      flags = λ x s e i l h. kept-flag x s e i l h;
+      sections = λ x s e k a b.
+          let o = numbered k a b in
+          each-of (λ (j : ℕ). contentsOf (kept x s) j ≡ cond (isNamed s j) (heldIn s j) (contentsOf x j)) numbers (kept-section x s e) k o
+          ∙ section-is s (applied-zero x s .0 e .1) x k o;
+      downlink = λ x s e. applied-digit x s e;
+      stays-valid = stays-valid;
+      refused = unchanged;
+    }

@@ -1,0 +1,64 @@
+-- Where each member of a command's record stands in its text: "the published layouts".
+use mathlib.Core.Path.{_≡_}
+use mathlib.Core.Bool.{true}
+use mathlib.Core.List.{List}
+use Prim.Native.Nat.{ℕ, _+_, _-_, _*_, _<_, _≤_}
+use lib.ListN.{getD}
+use Rattle.text.specs.Parts.{part}
+use Rattle.field.specs.Decimal.{value}
+use Rattle.lists.specs.Lists.{airfieldsAt, boxesAt}
+use Rattle.command.specs.Text.{isNamed}
+use Rattle.command.specs.Steps.{placeOf}
+use Rattle.command.specs.declared.Command.{Command}
+
+-- the number that n digits from a place on spell
+abbrev pub numberAt : List ℕ → ℕ → ℕ → ℕ
+numberAt s at n = value (part at n s)
+
+-- behind a list: its count of two digits, and so many entries
+abbrev pub pastBoxes : List ℕ → ℕ → ℕ
+pastBoxes s at = at + (2 + 14 * numberAt s at 2)
+
+abbrev pub pastAirfields : List ℕ → ℕ → ℕ
+pastAirfields s at = at + (2 + 4 * numberAt s at 2)
+
+-- section 2, which begins at p
+pub record Regions (s : List ℕ) (p : ℕ) (c : Command) : Type 0 where
+  pub reporting : c .settings .regions .reporting ≡ boxesAt s p
+  pub inhibiting : c .settings .regions .inhibiting ≡ boxesAt s (pastBoxes s p)
+
+-- section 3: four lists, ascent selected, descent selected, ascent inhibited, descent inhibited; routine
+pub record Airports (s : List ℕ) (p : ℕ) (c : Command) : Type 0 where
+  pub ascent-selected : c .settings .airports .selected .ascent ≡ airfieldsAt s p
+  pub descent-selected : c .settings .airports .selected .descent ≡ airfieldsAt s (pastAirfields s p)
+  pub ascent-inhibited : c .settings .airports .inhibited .ascent ≡ airfieldsAt s (pastAirfields s (pastAirfields s p))
+  pub descent-inhibited : c .settings .airports .inhibited .descent
+      ≡ airfieldsAt s (pastAirfields s (pastAirfields s (pastAirfields s p)))
+  pub routine : c .settings .airports .routine
+      ≡ numberAt s (pastAirfields s (pastAirfields s (pastAirfields s (pastAirfields s p)))) 1
+
+-- section 5: mode, series 1 interval, duration, series 2 interval, total, top, list, timer
+pub record Ascent (s : List ℕ) (p : ℕ) (c : Command) : Type 0 where
+  pub mode : c .settings .ascent .mode ≡ getD s p 0 - 48
+  pub interval1 : c .settings .ascent .interval1 ≡ numberAt s (p + 1) 2
+  pub duration : c .settings .ascent .duration ≡ numberAt s (p + 3) 3
+  pub interval2 : c .settings .ascent .interval2 ≡ numberAt s (p + 6) 2
+  pub total : c .settings .ascent .total ≡ numberAt s (p + 8) 3
+  pub top : c .settings .ascent .top ≡ numberAt s (p + 11) 3
+  pub list : c .settings .ascent .list ≡ getD s (p + 14) 0 - 48
+  pub timer : c .settings .ascent .timer ≡ getD s (p + 15) 0 - 48
+
+-- seven flags, a downlink digit, eight indicators, and the sections that are named, each where it stands
+pub record Means (s : List ℕ) (c : Command) : Type 0 where
+  pub flags : (i : ℕ) → i < 7 → getD (c .settings .flags) i 0 ≡ getD s (5 + i) 0 - 48
+  pub downlink : c .downlink ≡ getD s 12 0 - 48
+  pub named : (k : ℕ) → 2 ≤ k → k ≤ 9 → getD (c .named) (k - 2) 0 ≡ getD s (11 + k) 0 - 48
+  pub regions : isNamed s 2 ≡ true → Regions s (placeOf s 2) c
+  pub airports : isNamed s 3 ≡ true → Airports s (placeOf s 3) c
+  pub enroute : isNamed s 4 ≡ true
+      → (c .settings .enroute .interval ≡ numberAt s (placeOf s 4) 2) × (c .settings .enroute .wind ≡ numberAt s (placeOf s 4 + 2) 1)
+  pub ascent : isNamed s 5 ≡ true → Ascent s (placeOf s 5) c
+  pub six : isNamed s 6 ≡ true → c .settings .routine6 ≡ numberAt s (placeOf s 6) 1
+  pub eight : isNamed s 8 ≡ true → c .settings .routine8 ≡ numberAt s (placeOf s 8) 1
+  pub hours : isNamed s 9 ≡ true
+      → (c .settings .hours .start ≡ numberAt s (placeOf s 9) 2) × (c .settings .hours .end ≡ numberAt s (placeOf s 9 + 2) 2)

@@ -1,0 +1,1 @@
+// The demands as theorems: see specs/ and proofs/.
