@@ -8,6 +8,7 @@ pub mod Figures
 mod Fewest
 mod AllGiven
 pub mod Gathered
+pub mod Letters
 pub mod RoundTrip
 pub mod Rows
 pub mod Solidi

@@ -58,7 +58,8 @@ unfolding number
 number-is n [] = refl
 number-is n (b ∷ ds) = rw (worth-is b) (number-is (n * 40 + indexIn digitBytes b) ds)
 
-half-is : (k : ℕ) → halfOf k ≡ span k
+-- the table's halves are the spans
+pub half-is : (k : ℕ) → halfOf k ≡ span k
 unfolding halfOf
 half-is zero = refl
 half-is (suc k) = refl

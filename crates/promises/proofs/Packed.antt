@@ -3,7 +3,7 @@ use mathlib.Core.Path.{_≡_, refl, sym, ap, subst, _∙_}
 use mathlib.Core.Logic.{_⊎_, inl, inr}
 use mathlib.Core.Bool.{Bool, true, false, cond, _&&_}
 use mathlib.Core.List.{List, _++_}
-use Prim.Native.Nat.{ℕ, zero, suc, _-_, _≤_, _<_}
+use Prim.Native.Nat.{ℕ, _-_, _≤_, _<_}
 use native.Mathlib.Omega.{arith}
 use lib.Dec.{leb, ltb, eqb}
 use lib.IntN.{pos}
@@ -19,7 +19,7 @@ use Rattle.packed.specs.declared.Figure.the-variants.{Given, Missing}
 use Rattle.packed.specs.declared.Packed.{Packed}
 use Rattle.packed.specs.declared.Packed.the-variants.{Is, Refused}
 use Rattle.packed.proofs.RoundTrip.{field-length, solidi-all, read-solidi, read-back, write-back}
-use Rattle.packed.proofs.Words.{figure-read, six-read}
+use Rattle.packed.proofs.Words.{half-is, figure-read, six-read}
 use Rattle.observation.proofs.Codes.{some, OfPacked, packed-coded}
 use Rattle.caller.specs.Figures.{hostFigure, figureOf, isFigure, writeFigureCode, figureOver}
 use Rattle.caller.specs.declared.HostFigure.{HostFigure}
@@ -28,12 +28,6 @@ use Rattle.caller.proofs.Within.{form-is}
 use Rattle.caller.proofs.Carried.{figure-back, figure-formed}
 use Rattle.desk.specs.Numbers.{accepted, answerOf, packedNumbers, writeAnswer}
 use Rattle.promises.specs.Packed.{read, write, written, figure, Width, Fits, PackedPromises}
-
--- the table's halves are the spans
-half-is : (k : ℕ) → halfOf k ≡ span k
-unfolding halfOf
-half-is zero = refl
-half-is (suc k) = refl
 
 -- ---- Reading
 

@@ -4,7 +4,6 @@ ghost use mathlib.Core.Bool.{cond};
 ghost use lib.ListN.{length};
 ghost use lib.Dec.{leb};
 ghost use Rattle.text.specs.Names.{allowed, allAllowed};
-ghost use Rattle.text.specs.Equal.{sameBytes};
 ghost use Rattle.text.specs.Over.{over};
 
 // What a check finds: all fine, or a refusal with its code and its place.
@@ -32,23 +31,6 @@ pub fn all_allowed(s: &[u8]) -> bool
     }
     fine
 }
-
-// Whether two texts are the same bytes. Gathered, as above.
-pub fn same(a: &[u8], b: &[u8]) -> bool
-    ensures { λ r. ⌜ r ≡ sameBytes (now (a .entry)) (now (b .entry)) ⌝ }
-{
-    if a.len() != b.len() {
-        return false;
-    }
-    let mut fine = true;
-    let mut i = 0;
-    while i < a.len() {
-        fine = fine & (a[i] == b[i]);
-        i += 1;
-    }
-    fine
-}
-
 // Writes `s` over the start of `d`; where it has no room there, `d` stays as it is.
 pub fn copy(d: &mut [u8], s: &[u8])
     ensures { λ _. ⌜
