@@ -12,6 +12,7 @@ pub mod Night
 pub mod Lent
 pub mod Calls
 pub mod Bytes
+pub mod Coded
 pub mod Found
 pub mod Moves
 pub mod Scanned

@@ -272,12 +272,13 @@ range-said q =
     })
     (λ r. (((((r .phase, r .hour), r .south), r .north), r .west), r .east))
 
--- whether a byte is allowed, and whether every byte of a text is
+-- whether a byte is allowed
 byte-said : (b : ℕ) → Says (allowed b) (AllowedByte b)
 unfolding allowed
 byte-said b = either-said (both-said (le-said 65 b) (le-said b 90)) (both-said (le-said 48 b) (le-said b 57))
 
-bytes-said : (a : List ℕ) → Says (allAllowed a) ((i : ℕ) → i < length a → AllowedByte (getD a i 0))
+-- and whether every byte of a text is
+pub bytes-said : (a : List ℕ) → Says (allAllowed a) ((i : ℕ) → i < length a → AllowedByte (getD a i 0))
 unfolding allAllowed
 bytes-said [] = record { yes-so = λ e i l. absurd (omega arith); so-yes = λ f. refl }
 bytes-said (b ∷ bs) =

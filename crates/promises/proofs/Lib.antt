@@ -1,7 +1,16 @@
 -- The promises, kept: one inhabitant of each record of specs/.
+mod Addings
+mod Asked
+pub mod Board
+mod Codes
 pub mod Command
 pub mod Configuration
 pub mod Decision
+mod InRun
+pub mod Join
 pub mod Packed
 pub mod Report
-pub mod Sections
+mod Sections
+mod Takings
+mod Waiting
+mod Waits

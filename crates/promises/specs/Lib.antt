@@ -1,6 +1,9 @@
+pub mod Board
+pub mod BoardRuns
 pub mod Command
 pub mod Configuration
 pub mod Decision
+pub mod Join
 pub mod Packed
 pub mod Report
 pub mod Sections

@@ -1,1 +1,1 @@
-// The demands as theorems: see specs/ and proofs/.
+// What is promised, sentence by sentence, and that it holds. There is no code here.
