@@ -19,7 +19,6 @@ use Rattle.command.specs.Record.{commandOf, got, readCommand, commandText, writ
 use Rattle.command.specs.Allowed.{allowedCommand}
 use Rattle.command.specs.Examples.{longestText, examples, AllReadBack}
 use Rattle.command.specs.declared.Command.{Command}
-use Rattle.command.proofs.Codes.{check-coded}
 use Rattle.command.proofs.Accepted.{accepted as acceptedParts}
 use Rattle.command.proofs.Examples.{examples-read, longest-text}
 use Rattle.command_write.specs.Filled.{Filled}
@@ -31,16 +30,10 @@ use Rattle.desk.specs.Commands.{commandNumbers}
 use Rattle.desk.specs.declared.Answer.{Answer}
 use Rattle.promises.specs.Command.{check, read, write, written, CommandPromises}
 use Rattle.promises.specs.Zero.{noCommand}
+use Rattle.promises.proofs.Codes.{accepted-fine}
 use Rattle.promises.proofs.Sections.{means}
 
 -- ---- What was seen, by the code
-
-check-fine : (s : List ℕ) → check s .code ≡ 0 → checkCommand s ≡ Fine
-check-fine s e = go (checkCommand s) refl e
-  where
-    go : (x : Seen) → checkCommand s ≡ x → checkNumbers x .code ≡ 0 → checkCommand s ≡ Fine
-    go Fine h z = h
-    go (Bad code place) h z = let l = check-coded s code place h .0 in let w : code ≡ 0 = z in absurd (omega arith)
 
 fine-check : (s : List ℕ) → checkCommand s ≡ Fine → check s ≡ accepted 0
 fine-check s e = rw e
@@ -124,7 +117,7 @@ allowed-read s f =
 read-write : (s out : List ℕ) → check s .code ≡ 0 → length s ≤ length out
     → (write (read s .command) out ≡ accepted (length s)) × (written (read s .command) out ≡ s ++ drop (length s) out)
 read-write s out e room =
-    let f = check-fine s e in
+    let f = accepted-fine s e in
     let c = commandOf s in
     let a = allowed-read s f in
     let t : commandText c ≡ s = round.read-write s f .1 in
@@ -136,7 +129,7 @@ read-write s out e room =
 
 accepts : (s : List ℕ) → check s .code ≡ 0 → (c : Command) × (Filled c × (allowedCommand c ≡ true) × (s ≡ commandText c))
 accepts s e =
-    let f = check-fine s e in
+    let f = accepted-fine s e in
     let a = allowed-read s f in
     (commandOf s, (a .1, a .0, sym (round.read-write s f .1)))
 
@@ -159,11 +152,11 @@ command-promises =
     record {
       one-answer = one-answer;
       refused = refused;
-      means = λ s e. let f = check-fine s e in rw (read-is s f) (means s f);
-      allowed = λ s e. let f = check-fine s e in rw (read-is s f) (allowed-read s f);
+      means = λ s e. let f = accepted-fine s e in rw (read-is s f) (means s f);
+      allowed = λ s e. let f = accepted-fine s e in rw (read-is s f) (allowed-read s f);
       read-write = read-write;
       write-read = write-read;
-      short = λ s e. acceptedParts s (check-fine s e) .short;
+      short = λ s e. acceptedParts s (accepted-fine s e) .short;
       accepts = λ s. (accepts s, accepted-by s);
       writes = λ c out full. (
         λ e. written-allowed.writes-allowed c (length out) full .0 (write-fine c out e),

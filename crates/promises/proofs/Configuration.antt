@@ -20,7 +20,6 @@ use Rattle.command.specs.Text.{numbers, isNamed, checkCommand}
 use Rattle.command.specs.Record.{heldIn}
 use Rattle.command.specs.Steps.{isOneOf, placeOf}
 use Rattle.command.specs.Allowed.{allowedSettings}
-use Rattle.command.proofs.Codes.{check-coded}
 use Rattle.command.proofs.Each.{Each}
 use Rattle.config.specs.Config.{reset, valid, onSeen, refused, applied, keptBy, kept}
 use Rattle.config.proofs.Allowed.{valid-same}
@@ -29,6 +28,7 @@ use Rattle.config.proofs.Valid.{applies-valid, reset-valid}
 use Rattle.desk.specs.Numbers.{accepted, answerOf, checkNumbers}
 use Rattle.desk.specs.Outcomes.{validNumbers, appliedNumbers}
 use Rattle.promises.specs.Configuration.{check, apply, ConfigurationPromises}
+use Rattle.promises.proofs.Codes.{accepted-fine, fine-accepted}
 use Rattle.promises.proofs.Sections.{held-there}
 
 -- ---- Validity, by the code
@@ -43,18 +43,6 @@ zero-valid t e = rw e
 is-twelve : (t : Bool) → ¬ (validNumbers t .code ≡ 0) → (t ≡ false) × (validNumbers t ≡ answerOf 12 0)
 is-twelve true n = absurd (n refl)
 is-twelve false n = (refl, refl)
-
--- ---- The text's check, by the code
-
-seen-zero : (s : List ℕ) → checkNumbers (checkCommand s) .code ≡ 0 → checkCommand s ≡ Fine
-seen-zero s e = go (checkCommand s) refl e
-  where
-    go : (x : Seen) → checkCommand s ≡ x → checkNumbers x .code ≡ 0 → checkCommand s ≡ Fine
-    go Fine h z = h
-    go (Bad code place) h z = let l = check-coded s code place h .0 in let w : code ≡ 0 = z in absurd (omega arith)
-
-zero-seen : (s : List ℕ) → checkCommand s ≡ Fine → checkNumbers (checkCommand s) .code ≡ 0
-zero-seen s e = rw e
 
 -- ---- Sections by their number
 
@@ -131,8 +119,8 @@ configuration-promises =
       twelve-first = twelve-first;
       then-text = then-text;
       accepts = λ x s. (
-        λ e. let b = applied-zero x s .0 e in (zero-valid (valid x) (b .0), zero-seen s (b .1)),
-        λ b. applied-zero x s .1 (valid-zero (valid x) (b .0), seen-zero s (b .1)),
+        λ e. let b = applied-zero x s .0 e in (zero-valid (valid x) (b .0), fine-accepted s (b .1)),
+        λ b. applied-zero x s .1 (valid-zero (valid x) (b .0), accepted-fine s (b .1)),
       );
       flags = λ x s e i l h. kept-flag x s e i l h;
       sections = λ x s e k a b.

@@ -3,12 +3,12 @@ use mathlib.Core.Path.{_≡_, refl, sym, ap, ap₂, _∙_}
 use mathlib.Core.Logic.{_↔_}
 use mathlib.Core.Bool.{Bool, true, false, cond}
 use mathlib.Core.List.{List}
-use Prim.Native.Nat.{ℕ, _≤_, max}
+use Prim.Native.Nat.{ℕ, _≤_, _<_, max}
 use native.Mathlib.Omega.{arith}
 use native.Mathlib.Nat.{zero-add}
 use lib.Dec.{leb}
 use lib.ListN.{length, take, drop}
-use borrow.Author.Tests.{leb-true, le-leb}
+use borrow.Author.Tests.{leb-true, le-leb, lt-leb}
 use Rattle.text.specs.declared.Seen.{Seen}
 use Rattle.text.specs.declared.Seen.the-variants.{Fine, Bad}
 use Rattle.text.proofs.Over.{found-over, after-over}
@@ -20,9 +20,10 @@ use Rattle.config.specs.Config.{valid, applyTo, applied, kept}
 use Rattle.config.proofs.Valid.{applies-valid}
 use Rattle.join.specs.Join.{Joined, Joins, Refuses, joinText, noChange, bySeen, join, joinedOver}
 use Rattle.join.proofs.Laws.{join-fine, join-short, join-downlink, join-acts, join-groups, no-change-fine, no-change-join, join-no-change}
+use Rattle.desk.specs.Numbers.{answerOf, checkNumbers}
 use Rattle.desk.specs.Joins.{joinNumbers}
 use Rattle.promises.specs.BoardRuns.{IsAccepted}
-use Rattle.promises.specs.Join.{joinAnswer, applyAnswer, JoinedInto, ActsAsBoth, JoinPromises}
+use Rattle.promises.specs.Join.{naming, joinAnswer, bufferJoined, applyAnswer, JoinedInto, ActsAsBoth, JoinPromises}
 use Rattle.promises.proofs.Codes.{accepted-fine, fine-accepted}
 
 -- ---- The call
@@ -65,6 +66,36 @@ zero a b out = (
       (fine-accepted a (q .0), fine-accepted b (q .1), q .2),
   λ q. ap (λ (j : Joined). joinNumbers j .code) (joins-is a b (length out) (accepted-fine a (q .0)) (accepted-fine b (q .1)) (q .2)),
 )
+
+-- ---- Refusals
+
+first-refused : (a b out : List ℕ) → ¬ IsAccepted a → joinAnswer a b out ≡ naming 1 (checkNumbers (checkCommand a))
+unfolding join
+first-refused a b out n = go (checkCommand a) n
+  where
+    go : (x : Seen) → ¬ (checkNumbers x .code ≡ 0)
+        → joinNumbers (bySeen x (checkCommand b) (joinText a b) (length out)) ≡ naming 1 (checkNumbers x)
+    go Fine m = absurd (m refl)
+    go (Bad c p) m = refl
+
+second-refused : (a b out : List ℕ) → IsAccepted a → ¬ IsAccepted b → joinAnswer a b out ≡ naming 2 (checkNumbers (checkCommand b))
+unfolding join
+second-refused a b out x n = rw (accepted-fine a x) (go (checkCommand b) n)
+  where
+    go : (y : Seen) → ¬ (checkNumbers y .code ≡ 0) → joinNumbers (bySeen Fine y (joinText a b) (length out)) ≡ naming 2 (checkNumbers y)
+    go Fine m = absurd (m refl)
+    go (Bad c p) m = refl
+
+no-room : (a b out : List ℕ) → IsAccepted a → IsAccepted b → length out < length (joinText a b) → joinAnswer a b out ≡ answerOf 2 0
+unfolding join
+no-room a b out x y l = rw (accepted-fine a x, accepted-fine b y, lt-leb (length (joinText a b)) (length out) l)
+
+untouched : (a b out : List ℕ) → ¬ (joinAnswer a b out .code ≡ 0) → bufferJoined a b out ≡ out
+untouched a b out n = go (join a b (length out)) n
+  where
+    go : (j : Joined) → ¬ (joinNumbers j .code ≡ 0) → joinedOver j out ≡ out
+    go (Joins t) m = absurd (m refl)
+    go (Refuses c p k) m = refl
 
 -- ---- Applied
 
@@ -112,6 +143,10 @@ join-promises =
       fine = λ a b x y. fine-accepted (joinText a b) (join-fine a b (accepted-fine a x) (accepted-fine b y));
       short = λ a b x y. join-short a b (accepted-fine a x) (accepted-fine b y);
       zero = zero;
+      first-refused = first-refused;
+      second-refused = second-refused;
+      no-room = no-room;
+      untouched = untouched;
       acts = acts;
       grouping = λ a b c x y z. join-groups a b c (accepted-fine a x) (accepted-fine b y) (accepted-fine c z);
       no-change = fine-accepted noChange no-change-fine;

@@ -3,12 +3,13 @@ use mathlib.Core.Path.{_≡_}
 use mathlib.Core.Logic.{_↔_}
 use mathlib.Core.Bool.{true}
 use mathlib.Core.List.{List}
-use Prim.Native.Nat.{ℕ, _≤_, max}
+use Prim.Native.Nat.{ℕ, _≤_, _<_, max}
 use lib.ListN.{length, take, drop}
 use Rattle.section.specs.declared.Settings.{Settings}
+use Rattle.command.specs.Text.{checkCommand}
 use Rattle.config.specs.Config.{valid, applied, kept}
 use Rattle.join.specs.Join.{joinText, noChange, join, joinedOver}
-use Rattle.desk.specs.Numbers.{accepted}
+use Rattle.desk.specs.Numbers.{accepted, answerOf, checkNumbers}
 use Rattle.desk.specs.Joins.{joinNumbers}
 use Rattle.desk.specs.Outcomes.{appliedNumbers}
 use Rattle.desk.specs.declared.Answer.{Answer}
@@ -25,6 +26,10 @@ bufferJoined a b out = joinedOver (join a b (length out)) out
 -- what esk_apply answers
 abbrev pub applyAnswer : Settings → List ℕ → HostApplied
 applyAnswer x t = appliedNumbers (applied x t)
+
+-- the code and place of an answer, and which text is at fault
+abbrev pub naming : ℕ → Answer → Answer
+naming n a = record { place = a .place; length = 0; code = a .code; text = n; spare = 0 }
 
 -- two accepted commands, and room: the answer is code 0 with the joined text's length, the buffer begins with it, its bytes behind stay
 pub record JoinedInto (a b out : List ℕ) : Type 0 where
@@ -48,6 +53,11 @@ pub record JoinPromises : Type 0 where
   -- code 0 is answered nowhere else
   pub zero : (a b out : List ℕ)
       → (joinAnswer a b out .code ≡ 0) ↔ (IsAccepted a × IsAccepted b × (length (joinText a b) ≤ length out))
+  -- the refusals of the first text, naming it, those of the second, and then the want of room; none leaves a byte in the buffer
+  pub first-refused : (a b out : List ℕ) → ¬ IsAccepted a → joinAnswer a b out ≡ naming 1 (checkNumbers (checkCommand a))
+  pub second-refused : (a b out : List ℕ) → IsAccepted a → ¬ IsAccepted b → joinAnswer a b out ≡ naming 2 (checkNumbers (checkCommand b))
+  pub no-room : (a b out : List ℕ) → IsAccepted a → IsAccepted b → length out < length (joinText a b) → joinAnswer a b out ≡ answerOf 2 0
+  pub untouched : (a b out : List ℕ) → ¬ (joinAnswer a b out .code ≡ 0) → bufferJoined a b out ≡ out
   -- "that acts on every valid configuration as the first and then the second, and asks for the larger of their two downlinks"
   pub acts : (x : Settings) (a b : List ℕ) → valid x ≡ true → IsAccepted a → IsAccepted b → ActsAsBoth x a b
   -- "Grouping of three never alters a byte"
