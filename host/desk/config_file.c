@@ -10,7 +10,7 @@ enum { HEAD = sizeof head - 1, NAME = HEAD - 2, TAIL = 9 };
 
 size_t config_text(const esk_settings *settings, uint8_t *to)
 {
-    esk_command all = {*settings, 0, {2, 3, 4, 5, 6, 0, 8, 9}};
+    esk_command all = {*settings, 0, {2, 3, 4, 5, 6, 0, 8, 9}, 0};
     return esk_command_write(&all, to, ESK_COMMAND_BYTES).length;
 }
 
@@ -35,7 +35,7 @@ size_t config_pack(const esk_settings *settings, uint8_t *to)
 static int sets_all(const esk_command *c)
 {
     static const uint8_t named[8] = {2, 3, 4, 5, 6, 0, 8, 9};
-    return memcmp(c->named, named, sizeof named) == 0 && esk_settings_valid(&c->settings);
+    return memcmp(c->named, named, sizeof named) == 0 && esk_settings_valid(&c->settings).code == ESK_ACCEPTED;
 }
 
 static const char *frame_fault(const uint8_t *bytes, size_t length)

@@ -19,7 +19,7 @@ esk_command_got second_command_read(const uint8_t *text, size_t length);
 esk_answer second_command_write(esk_command command, uint8_t *out, size_t room);
 
 esk_settings second_reset(void);
-uint8_t second_settings_valid(esk_settings settings);
+esk_answer second_settings_valid(esk_settings settings);
 esk_applied second_apply(esk_settings *settings, const uint8_t *text, size_t length);
 esk_decided second_decide(esk_settings settings, uint8_t phase, int32_t latitude, int32_t longitude, uint8_t hour,
                           const uint8_t *airfield, size_t length);

@@ -57,8 +57,8 @@ static void settings_valid(input from)
     esk_settings held;
     take_into(&from, &held, sizeof held);
     lent settings = lend(&held, sizeof held);
-    uint8_t ours = esk_settings_valid((const esk_settings *)settings.ours);
-    uint8_t second = second_settings_valid(held);
+    esk_answer ours = esk_settings_valid((const esk_settings *)settings.ours);
+    esk_answer second = second_settings_valid(held);
     hold("answer", &ours, &second, sizeof ours);
     give_back("settings", settings);
 }

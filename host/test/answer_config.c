@@ -3,7 +3,7 @@
  *
  *   question                                        reply
  *   1                                               esk_settings after reset
- *   2, esk_settings, length (2), text               whether they are valid (1), esk_applied of the text, and the
+ *   2, esk_settings, length (2), text               esk_answer of their validity, esk_applied of the text, and the
  *                                                   settings afterwards with their guards
  */
 #include "answer.h"
@@ -18,8 +18,8 @@ static const uint8_t *apply_question(const uint8_t *q)
 {
     fill((uint8_t *)&lent, sizeof lent);
     memcpy(&lent.settings, q, sizeof lent.settings);
-    uint8_t valid = esk_settings_valid(&lent.settings);
-    give(&valid, 1);
+    esk_answer valid = esk_settings_valid(&lent.settings);
+    give(&valid, sizeof valid);
     string text = string_at(q + sizeof lent.settings);
     esk_applied applied = esk_apply(&lent.settings, text.bytes, text.length);
     give(&applied, sizeof applied);

@@ -294,6 +294,7 @@ static void layout(void)
     HOLD(sizeof(esk_airfields) == 81 && offsetof(esk_airfields, count) == 0 && offsetof(esk_airfields, names) == 1);
     HOLD(sizeof(esk_command) == 616 && offsetof(esk_command, settings) == 0);
     HOLD(offsetof(esk_command, downlink) == 606 && offsetof(esk_command, named) == 607);
+    HOLD(offsetof(esk_command, spare) == 615);
     HOLD(sizeof(esk_command_got) == 632 && offsetof(esk_command_got, answer) == 0);
     HOLD(offsetof(esk_command_got, command) == 16);
 }

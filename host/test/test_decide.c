@@ -1,4 +1,4 @@
-/* Whether to report: document 01's rules one by one, refusals in order, canaries round every airfield. */
+/* Whether to report: document 01's rules one by one, refusals in order, canaries round configuration and airfield. */
 #include "uplink.h"
 
 typedef struct decide_case {
@@ -93,20 +93,23 @@ static const decide_case cases[] = {
 static void decide_holds(esk_settings settings, const decide_case *c, size_t length)
 {
     lent in;
-    const esk_settings before = settings;
-    esk_decided got = esk_decide(&settings, (uint8_t)c->phase, c->latitude, c->longitude, (uint8_t)c->hour,
-                                 lend(&in, c->airfield, length, 1), length);
+    lent_settings held;
+    esk_decided got = esk_decide(lend_settings(&held, settings), (uint8_t)c->phase, c->latitude, c->longitude,
+                                 (uint8_t)c->hour, lend(&in, c->airfield, length, 1), length);
+    static const uint8_t zero[sizeof got.spare];
+    int spare = memcmp(got.spare, zero, sizeof zero) != 0;
     checks++;
-    if (got.code != c->code || got.decision != c->decision) {
+    if (got.code != c->code || got.decision != c->decision || got.place != 0 || spare) {
         fail(c->why, "esk_decide", bytes(c->command), strlen(c->command));
         fprintf(stderr, "  phase %u latitude %ld longitude %ld hour %u airfield \"%s\"\n", c->phase, (long)c->latitude,
                 (long)c->longitude, c->hour, c->airfield);
-        fprintf(stderr, "  expected: code %u decision %u\n", c->code, c->decision);
-        fprintf(stderr, "  got     : code %u decision %u\n", (unsigned)got.code, (unsigned)got.decision);
+        fprintf(stderr, "  expected: code %u place 0 decision %u\n", c->code, c->decision);
+        fprintf(stderr, "  got     : code %u place %lu decision %u%s\n", (unsigned)got.code, (unsigned long)got.place,
+                (unsigned)got.decision, spare ? ", spare not 0" : "");
         exit(1);
     }
     bytes_hold(&in, "", 0, "esk_decide", c->why);
-    HOLD(memcmp(&settings, &before, sizeof settings) == 0);
+    settings_hold(&held, &settings, c->why);
 }
 
 /* A configuration that is not valid goes before all else. */
@@ -158,7 +161,8 @@ static void full_lists(void)
 
 int main(void)
 {
-    HOLD(sizeof(esk_decided) == 2 && offsetof(esk_decided, code) == 0 && offsetof(esk_decided, decision) == 1);
+    HOLD(sizeof(esk_decided) == 16 && offsetof(esk_decided, place) == 0 && offsetof(esk_decided, code) == 8);
+    HOLD(offsetof(esk_decided, decision) == 9 && offsetof(esk_decided, spare) == 10);
     HOLD(ESK_ASCENT == 0 && ESK_LEVEL == 1 && ESK_DESCENT == 2);
     HOLD(ESK_SILENT == 0 && ESK_ROUTINE == 1 && ESK_SCHEME == 2);
     for (size_t i = 0; i < sizeof cases / sizeof *cases; i++)
