@@ -1,6 +1,7 @@
 //! Inputs: packed fields, reports and records, valid, nearly valid and damaged. What goes up is in its own files.
 
 pub mod faults;
+pub mod forms;
 pub mod uplink;
 
 use crate::ours;
@@ -156,45 +157,8 @@ pub fn record(random: &mut Random) -> Report {
 /// The text of an allowed record.
 pub fn text(report: &Report) -> [u8; BYTES] {
     let mut text = [0; BYTES];
-    write::write(report, &mut text).expect("an allowed record is written");
+    write::write(&report.into(), &mut text).expect("an allowed record is written");
     text
-}
-
-/// What the header does not look at, filled with anything: a missing figure's number, the members of an absent
-/// observation, spare bytes; and other numbers than 1 for given and present.
-pub fn litter(random: &mut Random, report: &mut ours::Report) {
-    report.spare = [random.byte(), random.byte()];
-    report.first.present = random.next() as u16;
-    litter_figures(random, &mut report.first);
-    for later in &mut report.later {
-        if later.present == 0 {
-            *later = any_observation(random);
-            later.present = 0;
-        } else {
-            later.present = random.of(&[1, 1, 2, 256, 0xffff]);
-            litter_figures(random, later);
-        }
-    }
-}
-
-fn litter_figures(random: &mut Random, observation: &mut ours::Observation) {
-    for figure in figures(observation) {
-        if figure.given == 0 {
-            figure.number = random.next() as i32;
-        } else {
-            figure.given = random.of(&[1, 1, 1, 2, 256, 1 << 16, u32::MAX]);
-        }
-    }
-}
-
-fn any_observation(random: &mut Random) -> ours::Observation {
-    let mut observation = ours::Observation::default();
-    for figure in figures(&mut observation) {
-        *figure = ours::Figure { number: random.next() as i32, given: random.below(3) as u32 };
-    }
-    observation.kind = random.byte();
-    observation.quality = random.byte();
-    observation
 }
 
 /// The nine figures of an observation in the order of their fields.

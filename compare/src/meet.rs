@@ -5,7 +5,7 @@ pub mod uplink;
 
 use crate::ours;
 use crate::second::record::{Observation, Report};
-use crate::second::Refusal;
+use crate::second::{raw, Refusal};
 
 /// What esk_packed_read ought to answer.
 pub fn packed(answer: Result<Option<i32>, Refusal>) -> ours::Packed {
@@ -65,35 +65,34 @@ pub fn figure(figure: Option<i32>) -> ours::Figure {
     figure.map_or(Default::default(), |number| ours::Figure { number, given: 1 })
 }
 
-/// What the header's figure means: any other `given` than 0 is given, and a missing one's number is not looked at.
-pub fn meant(figure: ours::Figure) -> Option<i32> {
-    (figure.given != 0).then_some(figure.number)
+/// The header's figure, as the second program is handed it.
+pub fn raw_figure(figure: ours::Figure) -> raw::Figure {
+    raw::Figure { number: figure.number, given: figure.given }
 }
 
-/// What the header's record means. The spare bytes, the first observation's `present` and all other members of an
-/// absent observation are not looked at; any other `present` than 0 is present.
-pub fn meant_record(report: &ours::Report) -> Report {
-    Report {
+/// The header's record, as the second program is handed it: every member, whatever it holds.
+pub fn raw_record(report: &ours::Report) -> raw::Report {
+    raw::Report {
         departure: report.departure,
         arrival: report.arrival,
         designator: report.designator,
-        first: meant_observation(&report.first),
-        later: report.later.map(|later| (later.present != 0).then(|| meant_observation(&later))),
+        spare: report.spare,
+        first: raw_observation(&report.first),
+        later: report.later.map(|later| raw_observation(&later)),
     }
 }
 
-fn meant_observation(from: &ours::Observation) -> Observation {
-    Observation {
-        kind: from.kind,
-        latitude: meant(from.latitude),
-        longitude: meant(from.longitude),
-        time: meant(from.time),
-        altitude: meant(from.altitude),
-        temperature: meant(from.temperature),
-        wind_direction: meant(from.wind_direction),
-        wind_speed: meant(from.wind_speed),
-        gust: meant(from.gust),
-        vapour: meant(from.vapour),
-        quality: from.quality,
-    }
+fn raw_observation(from: &ours::Observation) -> raw::Observation {
+    let figures = [
+        from.latitude,
+        from.longitude,
+        from.time,
+        from.altitude,
+        from.temperature,
+        from.wind_direction,
+        from.wind_speed,
+        from.gust,
+        from.vapour,
+    ];
+    raw::Observation { kind: from.kind, figures: figures.map(raw_figure), quality: from.quality, present: from.present }
 }

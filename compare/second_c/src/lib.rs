@@ -43,7 +43,7 @@ pub unsafe extern "C" fn second_packed_read(field: *const u8, length: usize) -> 
 /// As `lent_mut` of the room; so it is for every call below.
 #[no_mangle]
 pub unsafe extern "C" fn second_packed_write(figure: Figure, width: usize, out: *mut u8, room: usize) -> Answer {
-    meet::answer(packed::write(meet::meant(figure), width, lent_mut(out, room)))
+    meet::answer(packed::write(meet::raw_figure(figure), width, lent_mut(out, room)))
 }
 
 /// # Safety
@@ -64,5 +64,5 @@ pub unsafe extern "C" fn second_report_read(text: *const u8, length: usize) -> R
 /// As above.
 #[no_mangle]
 pub unsafe extern "C" fn second_report_write(report: Report, out: *mut u8, room: usize) -> Answer {
-    meet::answer(write::write(&meet::meant_record(&report), lent_mut(out, room)))
+    meet::answer(write::write(&meet::raw_record(&report), lent_mut(out, room)))
 }

@@ -34,8 +34,8 @@ pub extern "C" fn second_reset() -> Settings {
 }
 
 #[no_mangle]
-pub extern "C" fn second_settings_valid(settings: Settings) -> u8 {
-    config::valid(&meet_up::meant_settings(&settings)).into()
+pub extern "C" fn second_settings_valid(settings: Settings) -> Answer {
+    meet::answer(config::valid(&meet_up::meant_settings(&settings)).map(|()| 0))
 }
 
 /// # Safety

@@ -2,9 +2,9 @@
 
 use super::{counted, pattern, Case as _, Held, GUARD};
 use crate::asked::Replies;
-use crate::meet::uplink as meet;
-use crate::ours::bytes_of;
+use crate::meet::{answer, uplink as meet};
 use crate::ours::uplink::{Applied, Settings};
+use crate::ours::{bytes_of, Answer};
 use crate::second::config;
 use crate::tally::{Outcome, Tally};
 use crate::tell::{self, hex, BREAK};
@@ -63,7 +63,8 @@ impl super::Case for Case {
 impl Case {
     fn apply(&self, settings: &Settings, text: &[u8], replies: &mut Replies, tally: &mut Tally) -> Held {
         let mut held = meet::meant_settings(settings);
-        self.answered("esk_settings_valid", replies.take(1)[0], u8::from(config::valid(&held)))?;
+        let valid: Answer = replies.one();
+        self.answered("esk_settings_valid", valid, answer(config::valid(&held).map(|()| 0)))?;
         let second = config::apply(&mut held, text);
         let got: Applied = replies.one();
         self.answered("esk_apply", got, meet::applied(second))?;
@@ -76,7 +77,7 @@ impl Case {
         if round != want {
             return self.mismatch("esk_apply: round the configuration", hex(&round), hex(&want));
         }
-        if second.is_ok() && !config::valid(&held) {
+        if second.is_ok() && config::valid(&held).is_err() {
             return self.mismatch("the second program's own apply", "valid".to_string(), format!("{held:?}"));
         }
         tally.answer(&second);

@@ -19,7 +19,8 @@ pub enum Case {
     },
     /// A report's text: checked, read, and where it is accepted its record written back.
     Report(Vec<u8>),
-    /// A record of the header, written into a room; where it is written, its text read back.
+    /// A record of the header, written into a room; where it is written, its text read back, to the same record: it has
+    /// but one form.
     Record {
         record: Box<ours::Report>,
         room: usize,
@@ -102,7 +103,7 @@ impl Case {
         replies: &mut Replies,
         tally: &mut Tally,
     ) -> Held {
-        let (second, left) = arena(room, |out| packed::write(meet::meant(figure), width, out));
+        let (second, left) = arena(room, |out| packed::write(meet::raw_figure(figure), width, out));
         self.written("esk_packed_write", meet::answer(second), &left, replies)?;
         tally.answer(&second);
         Ok(())
@@ -129,16 +130,15 @@ impl Case {
     }
 
     fn record(&self, record: &ours::Report, room: usize, replies: &mut Replies, tally: &mut Tally) -> Held {
-        let meant = meet::meant_record(record);
-        let (second, left) = arena(room, |out| write::write(&meant, out));
+        let (second, left) = arena(room, |out| write::write(&meet::raw_record(record), out));
         self.written("esk_report_write", meet::answer(second), &left, replies)?;
         if second.is_ok() {
-            self.read("esk_report_read of what was written", &Ok(meant), replies)?;
             let back = report::read(&left[GUARD..GUARD + BYTES]);
-            if back != Ok(meant) {
-                let (ours, second) = (format!("the record: {meant:?}"), format!("read back: {back:?}"));
+            if meet::got(&back).report != *record {
+                let (ours, second) = (format!("the record: {record:?}"), format!("read back: {back:?}"));
                 return self.mismatch("the second program's read of what it wrote", ours, second);
             }
+            self.read("esk_report_read of what was written", &back, replies)?;
         }
         tally.answer(&second);
         Ok(())

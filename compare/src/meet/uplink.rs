@@ -27,12 +27,12 @@ pub fn applied(applied: Result<u8, Refusal>) -> ours::Applied {
 
 /// What esk_decide ought to answer.
 pub fn decided(decided: Result<Decision, Refusal>) -> ours::Decided {
-    let decision = |decision| ours::Decided { code: 0, decision };
+    let decision = |decision| ours::Decided { decision, ..Default::default() };
     match decided {
         Ok(Decision::Silent) => decision(0),
         Ok(Decision::Routine) => decision(1),
         Ok(Decision::Scheme) => decision(2),
-        Err(Refusal { code, .. }) => ours::Decided { code, decision: 0 },
+        Err(Refusal { code, place }) => ours::Decided { code, place: place as usize, ..Default::default() },
     }
 }
 

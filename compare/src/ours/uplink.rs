@@ -125,8 +125,10 @@ pub struct Applied {
 #[repr(C)]
 #[derive(Clone, Copy, Debug, Default, PartialEq, Eq)]
 pub struct Decided {
+    pub place: usize,
     pub code: u8,
     pub decision: u8,
+    pub spare: [u8; 6],
 }
 
 #[repr(C)]
@@ -148,7 +150,8 @@ const _: () = {
     assert!(size_of::<Command>() == 616 && offset_of!(Command, downlink) == 606);
     assert!(offset_of!(Command, named) == 607 && offset_of!(Command, padding) == 615);
     assert!(size_of::<CommandGot>() == 632 && offset_of!(CommandGot, command) == 16);
-    assert!(size_of::<Applied>() == 16 && offset_of!(Applied, downlink) == 9 && size_of::<Decided>() == 2);
+    assert!(size_of::<Applied>() == 16 && offset_of!(Applied, downlink) == 9);
+    assert!(size_of::<Decided>() == 16 && offset_of!(Decided, code) == 8 && offset_of!(Decided, decision) == 9);
     assert!(size_of::<Slot>() == 8 && offset_of!(Slot, length) == 6);
 };
 

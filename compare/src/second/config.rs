@@ -22,16 +22,19 @@ pub fn reset() -> Configuration {
 }
 
 /// "Valid when its flags are 0 or 1 and each of its sections, as a section of a command, would pass the writer's checks."
-pub fn valid(configuration: &Configuration) -> bool {
-    configuration.flags.iter().all(|flag| *flag <= 1)
-        && (2..=9).all(|number| allowed::section(number, &configuration.sections, 0).is_ok())
+/// One that is not is 12.
+pub fn valid(configuration: &Configuration) -> Result<(), Refusal> {
+    let flags = configuration.flags.iter().all(|flag| *flag <= 1);
+    if flags && (2..=9).all(|number| allowed::section(number, &configuration.sections, 0).is_ok()) {
+        Ok(())
+    } else {
+        refuse(SETTINGS, 0)
+    }
 }
 
 /// Applies a command's text in place, and gives its downlink digit.
 pub fn apply(configuration: &mut Configuration, text: &[u8]) -> Result<u8, Refusal> {
-    if !valid(configuration) {
-        return refuse(SETTINGS, 0);
-    }
+    valid(configuration)?;
     let mut changed = configuration.sections;
     command::walk(text, &mut changed)?;
     configuration.sections = changed;

@@ -2,7 +2,7 @@
 
 use super::record::named;
 use super::settings::*;
-use super::{config, record, refuse, Refusal, BYTE, RANGE, SETTINGS};
+use super::{config, record, refuse, Refusal, BYTE, RANGE};
 
 #[derive(Clone, Copy, Debug, PartialEq, Eq)]
 pub struct Question<'a> {
@@ -26,9 +26,7 @@ use Decision::{Routine, Scheme, Silent};
 
 /// "Refusals: 12, then 5 for phase, hour or position, then 4 for an airfield that isn't four allowed bytes."
 pub fn decide(configuration: &Configuration, question: &Question) -> Result<Decision, Refusal> {
-    if !config::valid(configuration) {
-        return refuse(SETTINGS, 0);
-    }
+    config::valid(configuration)?;
     let Question { phase, latitude, longitude, hour, airfield } = *question;
     let placed = record::LATITUDE.holds(Some(latitude)) && record::LONGITUDE.holds(Some(longitude));
     if phase > 2 || hour > 23 || !placed {

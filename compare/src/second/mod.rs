@@ -1,5 +1,5 @@
-//! The second program, written from document 01's text alone: packed figures and reports; commands, the configuration,
-//! the decision, joining and the board.
+//! The second program, written from document 01's text alone, and from the header's words where these say more: packed
+//! figures and reports; commands, the configuration, the decision, joining and the board.
 
 pub mod allowed;
 pub mod board;
@@ -8,6 +8,7 @@ pub mod config;
 pub mod decide;
 pub mod join;
 pub mod packed;
+pub mod raw;
 pub mod record;
 pub mod report;
 pub mod settings;

@@ -1,6 +1,7 @@
 //! Packed figures: base 40, most significant digit first, less 20·40^(k-1) for k digits.
 
-use super::{refuse, Refusal, BYTE, LENGTH, RANGE, ROOM, SPELLING};
+use super::raw::Figure;
+use super::{refuse, Refusal, BYTE, DISAGREE, LENGTH, RANGE, ROOM, SPELLING};
 
 /// The forty digits in the order of their worth; the last four are those of section 3.1 of source document 001.
 static DIGITS: [u8; 40] = *b"0123456789ABCDEFGHIJKLMNOPQRSTUVWXYZ:,-.";
@@ -77,18 +78,22 @@ fn without_digits(field: &[u8]) -> Result<Option<i32>, u8> {
     }
 }
 
-/// Writes a figure, or a missing one, at the start of `out`: code 1 for the width, then 5, then 2.
-pub fn write(figure: Option<i32>, width: usize, out: &mut [u8]) -> Result<usize, Refusal> {
+/// Writes a figure, or a missing one, at the start of `out`: code 1 for the width, then 5, then 7 for a figure that is
+/// not of its one form, then 2.
+pub fn write(figure: Figure, width: usize, out: &mut [u8]) -> Result<usize, Refusal> {
     if width == 0 || width > 5 {
         return refuse(LENGTH, 0);
     }
-    if figure.is_some_and(|figure| !fits(figure, width)) {
+    if figure.meant().is_some_and(|figure| !fits(figure, width)) {
         return refuse(RANGE, 0);
+    }
+    if !figure.formed() {
+        return refuse(DISAGREE, 0);
     }
     if out.len() < width {
         return refuse(ROOM, 0);
     }
-    put(figure, &mut out[..width]);
+    put(figure.meant(), &mut out[..width]);
     Ok(width)
 }
 

@@ -3,6 +3,7 @@
 mod boards;
 mod commands;
 mod decisions;
+mod forms;
 mod joins;
 mod records;
 
@@ -25,7 +26,7 @@ fn printed_packed_fields() {
         assert_eq!(packed::read(field), want, "{}", field.escape_ascii());
         if let Ok(figure) = want {
             let mut out = [b'#'; 8];
-            assert_eq!(packed::write(figure, field.len(), &mut out), Ok(field.len()));
+            assert_eq!(packed::write(figure.into(), field.len(), &mut out), Ok(field.len()));
             assert_eq!(&out[..field.len()], field);
             assert!(out[field.len()..].iter().all(|&byte| byte == b'#'));
         }
@@ -38,16 +39,16 @@ fn packed_spans_and_order() {
     for (width, half) in spans {
         let mut out = [0; 5];
         for figure in [-half, half - 1] {
-            assert_eq!(packed::write(Some(figure), width, &mut out), Ok(width));
+            assert_eq!(packed::write(Some(figure).into(), width, &mut out), Ok(width));
             assert_eq!(packed::read(&out[..width]), Ok(Some(figure)));
         }
         for figure in [-half - 1, half, i32::MIN, i32::MAX] {
-            assert_eq!(packed::write(Some(figure), width, &mut []), Err(code(5, 0)));
+            assert_eq!(packed::write(Some(figure).into(), width, &mut []), Err(code(5, 0)));
         }
-        assert_eq!(packed::write(Some(0), width, &mut out[..width - 1]), Err(code(2, 0)));
+        assert_eq!(packed::write(Some(0).into(), width, &mut out[..width - 1]), Err(code(2, 0)));
     }
-    assert_eq!(packed::write(Some(i32::MAX), 6, &mut []), Err(code(1, 0)));
-    assert_eq!(packed::write(None, 0, &mut []), Err(code(1, 0)));
+    assert_eq!(packed::write(Some(i32::MAX).into(), 6, &mut []), Err(code(1, 0)));
+    assert_eq!(packed::write(None.into(), 0, &mut []), Err(code(1, 0)));
     assert_eq!(packed::read(b""), Err(code(1, 0)));
     assert_eq!(packed::read(b"     K"), Err(code(1, 0)));
 }
@@ -77,10 +78,10 @@ fn printed_report() {
     assert_eq!([first.gust, first.vapour], [None; 2]);
     assert_eq!(read.later, [None; 7]);
     let mut out = [b'#'; 230];
-    assert_eq!(write::write(&read, &mut out), Ok(220));
+    assert_eq!(write::write(&(&read).into(), &mut out), Ok(220));
     assert_eq!(&out[..220], REPORT);
     assert_eq!(out[220..], [b'#'; 10]);
-    assert_eq!(write::write(&read, &mut out[..219]), Err(code(2, 0)));
+    assert_eq!(write::write(&(&read).into(), &mut out[..219]), Err(code(2, 0)));
 }
 
 #[test]
@@ -143,8 +144,8 @@ fn records_not_allowed() {
     ];
     for (record, want) in cases {
         let mut out = [b'#'; 220];
-        assert_eq!(write::write(&record, &mut out), Err(want));
-        assert_eq!(write::write(&record, &mut []), Err(want));
+        assert_eq!(write::write(&(&record).into(), &mut out), Err(want));
+        assert_eq!(write::write(&(&record).into(), &mut []), Err(want));
         assert_eq!(out, [b'#'; 220]);
     }
 }

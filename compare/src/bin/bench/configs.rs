@@ -15,7 +15,7 @@ fn second_reset() -> Configuration {
 }
 
 #[inline(never)]
-fn second_valid(configuration: &Configuration) -> bool {
+fn second_valid(configuration: &Configuration) -> Result<(), Refusal> {
     config::valid(configuration)
 }
 
@@ -42,9 +42,7 @@ pub fn rows(bench: &Bench) {
     let full = configuration_of(&mut random, Lists::Full);
     for (name, held) in [("validity after reset", reset), ("validity, full lists", full)] {
         let (one, other) = (vec![meet::configuration(&held); INPUTS], vec![held; INPUTS]);
-        bench.row(name, INPUTS, None, || {
-            best(|| pass(&one, linked::settings_valid), || pass(&other, second_valid))
-        });
+        bench.row(name, INPUTS, None, || best(|| pass(&one, linked::settings_valid), || pass(&other, second_valid)));
     }
     let short: Vec<_> = (0..INPUTS).map(|_| text(&short_command(&mut random))).collect();
     bench.row("apply in place, short commands after reset", INPUTS, None, || applies(&reset, &short));

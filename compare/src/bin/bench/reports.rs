@@ -4,7 +4,7 @@ use crate::linked;
 use crate::measure::{best, pass, Bench, INPUTS};
 use desk_compare::random::Random;
 use desk_compare::second::record::{Observation, Report, BYTES};
-use desk_compare::second::{packed, report, write, Refusal};
+use desk_compare::second::{packed, raw, report, write, Refusal};
 use desk_compare::{make, meet, ours};
 use std::hint::black_box;
 
@@ -21,7 +21,7 @@ fn second_packed_read(field: &[u8]) -> Result<Option<i32>, Refusal> {
 }
 
 #[inline(never)]
-fn second_packed_write(figure: Option<i32>, width: usize, out: &mut [u8]) -> Result<usize, Refusal> {
+fn second_packed_write(figure: raw::Figure, width: usize, out: &mut [u8]) -> Result<usize, Refusal> {
     packed::write(figure, width, out)
 }
 
@@ -36,7 +36,7 @@ fn second_read(text: &[u8]) -> Result<Report, Refusal> {
 }
 
 #[inline(never)]
-fn second_write(record: &Report, out: &mut [u8]) -> Result<usize, Refusal> {
+fn second_write(record: &raw::Report, out: &mut [u8]) -> Result<usize, Refusal> {
     write::write(record, out)
 }
 
@@ -60,13 +60,13 @@ fn packed_rows(bench: &Bench) {
             || pass(&fields, |(_, field)| second_packed_read(field)),
         )
     });
-    let figures: Vec<_> = fields.iter().map(|(figure, field)| (*figure, field.len())).collect();
-    let raw: Vec<_> = figures.iter().map(|(figure, width)| (meet::figure(*figure), *width)).collect();
+    let ours: Vec<_> = fields.iter().map(|(figure, field)| (meet::figure(*figure), field.len())).collect();
+    let second: Vec<_> = fields.iter().map(|(figure, field)| (raw::Figure::from(*figure), field.len())).collect();
     let (mut one, mut other) = ([0; 8], [0; 8]);
     bench.row("packed write (256 figures)", INPUTS, None, || {
         best(
-            || pass(&raw, |(figure, width)| linked::packed_write(*figure, *width, black_box(&mut one))),
-            || pass(&figures, |(figure, width)| second_packed_write(*figure, *width, black_box(&mut other))),
+            || pass(&ours, |(figure, width)| linked::packed_write(*figure, *width, black_box(&mut one))),
+            || pass(&second, |(figure, width)| second_packed_write(*figure, *width, black_box(&mut other))),
         )
     });
 }
@@ -110,12 +110,13 @@ fn report_rows(bench: &Bench) {
     bench.row("report read (256 typical reports)", INPUTS, Some(BYTES), || {
         best(|| pass(&texts, |text| linked::report_read(text)), || pass(&texts, |text| second_read(text)))
     });
-    let raw: Vec<ours::Report> = records.iter().map(meet::record).collect();
+    let ours: Vec<ours::Report> = records.iter().map(meet::record).collect();
+    let second: Vec<raw::Report> = records.iter().map(raw::Report::from).collect();
     let (mut one, mut other) = ([0; 256], [0; 256]);
     bench.row("report write (256 typical records)", INPUTS, Some(BYTES), || {
         best(
-            || pass(&raw, |record| linked::report_write(*record, black_box(&mut one))),
-            || pass(&records, |record| second_write(record, black_box(&mut other))),
+            || pass(&ours, |record| linked::report_write(*record, black_box(&mut one))),
+            || pass(&second, |record| second_write(record, black_box(&mut other))),
         )
     });
 }

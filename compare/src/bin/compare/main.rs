@@ -20,6 +20,7 @@ mod command_records;
 mod commands;
 mod configs;
 mod decisions;
+mod forms;
 mod joins;
 mod one;
 mod packed;
@@ -42,6 +43,7 @@ const GROUPS: [Group; 6] = [
         packed::families(run);
         reports::families(run);
         records::families(run);
+        forms::families(run);
     }),
     ("command", |run| {
         commands::families(run);

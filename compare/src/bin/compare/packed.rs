@@ -88,9 +88,11 @@ fn write_families(run: &mut Run) {
     let turns = run.turns(3_000_000);
     run.family("packed-write-random", "any figures, widths 0 to 7, rooms 0 to 9", |random, queue| {
         for _ in 0..turns {
-            let given = random.of(&[0, 1, 1, 1, 1, 2, u32::MAX]);
+            let given = random.of(&[0, 0, 1, 1, 1, 1, 1, 2, 3, 256, 1 << 31, u32::MAX]);
             let width = if random.percent(90) { 1 + random.below(5) } else { random.below(8) };
-            let number = if random.percent(50) {
+            let number = if given == 0 && random.percent(50) {
+                0
+            } else if random.percent(50) {
                 make::figure_of_digits(random, width.clamp(1, 5))
             } else {
                 make::any_figure(random)
@@ -101,7 +103,7 @@ fn write_families(run: &mut Run) {
     });
 }
 
-/// The figures round every width's two edges, round 0, and the ends of the numbers; given, and missing with a number.
+/// The figures round every width's two edges, round 0, and the ends of the numbers; given, and in each other form.
 fn edges() -> Vec<Figure> {
     let mut numbers = vec![i32::MIN, i32::MIN + 1, i32::MAX - 1, i32::MAX, -1, 0, 1];
     for digits in 1..=6 {
@@ -110,6 +112,6 @@ fn edges() -> Vec<Figure> {
             numbers.push(edge.clamp(i64::from(i32::MIN), i64::from(i32::MAX)) as i32);
         }
     }
-    let figure = |number| [0, 1, 2].map(|given| Figure { number, given });
+    let figure = |number| [0, 1, 2, 3, 256, 257, 1 << 31, u32::MAX].map(|given| Figure { number, given });
     numbers.into_iter().flat_map(figure).collect()
 }

@@ -4,6 +4,7 @@ use crate::queue;
 use crate::run::{Done, Run};
 use desk_compare::cases::report::Case;
 use desk_compare::make;
+use desk_compare::make::forms::observation;
 use desk_compare::meet;
 use desk_compare::ours::{Figure, Observation, Report};
 use desk_compare::random::Random;
@@ -12,16 +13,13 @@ use desk_compare::second::record::{Field, FIRST_FIELDS, LATER_FIELDS};
 type Queue = queue::Queue<Case>;
 
 /// No room, too little, just enough, and more.
-const ROOMS: [usize; 6] = [0, 1, 219, 220, 221, 230];
+pub const ROOMS: [usize; 6] = [0, 1, 219, 220, 221, 230];
 
 pub fn families(run: &mut Run) {
     let turns = run.turns(60_000);
     run.family("record-allowed", "random allowed records x rooms 0 to 230", |random, queue| {
         for _ in 0..turns {
-            let mut allowed = meet::record(&make::record(random));
-            if random.percent(70) {
-                make::litter(random, &mut allowed);
-            }
+            let allowed = meet::record(&make::record(random));
             for room in ROOMS {
                 write(queue, &allowed, room)?;
             }
@@ -59,9 +57,6 @@ pub fn families(run: &mut Run) {
     run.family("record-damaged", "random records, one to four members not allowed, x rooms", |random, queue| {
         for _ in 0..turns {
             let mut damaged = meet::record(&make::record(random));
-            if random.percent(50) {
-                make::litter(random, &mut damaged);
-            }
             for _ in 0..1 + random.below(4) {
                 damage(random, &mut damaged);
             }
@@ -73,7 +68,7 @@ pub fn families(run: &mut Run) {
     });
 }
 
-fn write(queue: &mut Queue, record: &Report, room: usize) -> Done {
+pub fn write(queue: &mut Queue, record: &Report, room: usize) -> Done {
     queue.case(Case::Record { record: Box::new(*record), room })
 }
 
@@ -81,13 +76,6 @@ fn edges(field: &Field) -> [Figure; 9] {
     let numbers =
         [field.low - 1, field.low, field.low + 1, 0, field.high - 1, field.high, field.high + 1, i32::MIN, i32::MAX];
     numbers.map(|number| Figure { number, given: 1 })
-}
-
-fn observation(report: &mut Report, index: usize) -> &mut Observation {
-    match index {
-        0 => &mut report.first,
-        _ => &mut report.later[index - 1],
-    }
 }
 
 /// The bytes of a record that are letters: 14 of names, then a kind and a quality of each observation.
@@ -107,8 +95,13 @@ fn named_byte(report: &mut Report, place: usize) -> &mut u8 {
     }
 }
 
-/// Makes one member something else; most of the time it is then not allowed.
-fn damage(random: &mut Random, report: &mut Report) {
+/// A figure that was given made missing, and a missing one given.
+fn turn(figure: &mut Figure) {
+    *figure = if figure.given == 0 { Figure { number: 0, given: 1 } } else { Figure::default() };
+}
+
+/// Makes one member something else, in its one form; most of the time it is then not allowed.
+pub fn damage(random: &mut Random, report: &mut Report) {
     let index = random.below(8);
     let fields = if index == 0 { FIRST_FIELDS } else { LATER_FIELDS };
     let place = random.below(9);
@@ -116,9 +109,12 @@ fn damage(random: &mut Random, report: &mut Report) {
         0 => *named_byte(report, random.below(14)) = make::odd_byte(random),
         1 => observation(report, index).kind = make::odd_byte(random),
         2 => observation(report, index).quality = make::odd_byte(random),
-        3 | 4 => observation(report, index).wind_direction.given ^= 1,
-        5 | 6 => observation(report, index).wind_speed.given ^= 1,
-        7 => report.later[random.below(7)].present ^= 1,
+        3 | 4 => turn(&mut observation(report, index).wind_direction),
+        5 | 6 => turn(&mut observation(report, index).wind_speed),
+        7 => {
+            let later = &mut report.later[random.below(7)];
+            *later = if later.present == 0 { report.first } else { Observation::default() };
+        }
         8 => report.later.swap(random.below(7), random.below(7)),
         9 => {
             let number = make::any_figure(random);

@@ -1,9 +1,9 @@
 //! Seeds of packed figures and reports.
 
 use desk_compare::figures::{PACKED, REPORT};
-use desk_compare::make::{figure_of_digits, record_of, text};
+use desk_compare::make::{figure_of_digits, forms, record_of, text};
 use desk_compare::meet;
-use desk_compare::ours::bytes_of;
+use desk_compare::ours::{bytes_of, Figure};
 use desk_compare::random::Random;
 
 /// The fields that document 01 prints.
@@ -11,10 +11,16 @@ pub fn packed_read(_: &mut Random, index: usize) -> Vec<u8> {
     PACKED[index].0.to_vec()
 }
 
-/// A figure that fits a width, with room for it.
+/// A figure that fits a width, with room for it; a missing one; and one of each other form.
 pub fn packed_write(random: &mut Random, index: usize) -> Vec<u8> {
     let width = 1 + index % 5;
-    let figure = meet::figure((index < 10).then(|| figure_of_digits(random, width)));
+    let number = figure_of_digits(random, width);
+    let figure = match index {
+        0..=8 => Figure { number, given: 1 },
+        9 => Figure::default(),
+        10 => Figure { number, given: 2 },
+        _ => Figure { number: 1, given: 0 },
+    };
     [bytes_of(&figure), &[width as u8, width as u8]].concat()
 }
 
@@ -26,8 +32,11 @@ pub fn report_text(random: &mut Random, index: usize) -> Vec<u8> {
     }
 }
 
-/// A record, with room for its text.
+/// A record, with room for its text; the last ones have a member of another form.
 pub fn report_write(random: &mut Random, index: usize) -> Vec<u8> {
-    let record = meet::record(&record_of(random, index % 8, 10 * (index % 3)));
+    let mut record = meet::record(&record_of(random, index % 8, 10 * (index % 3)));
+    if index >= 8 {
+        forms::other(random, &mut record, &forms::formed());
+    }
     [&[220], bytes_of(&record)].concat()
 }

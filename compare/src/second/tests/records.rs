@@ -79,7 +79,7 @@ fn an_unnamed_section_begins_at_the_end_of_a_short_text() {
 #[test]
 fn reset_as_printed() {
     let reset = config::reset();
-    assert!(config::valid(&reset));
+    assert_eq!(config::valid(&reset), Ok(()));
     let mut held = Configuration { flags: [0; 7], ..config::reset() };
     held.sections.hours = [5, 6];
     held.sections.enroute = [60, 0];
@@ -124,7 +124,7 @@ fn validity() {
         let mut held = config::reset();
         change(&mut held);
         let was = held;
-        assert!(!config::valid(&held), "case {index}");
+        assert_eq!(config::valid(&held), Err(code(12, 0)), "case {index}");
         assert_eq!(config::apply(&mut held, &[b'x'; 900]), Err(code(12, 0)), "12 before the text's 1");
         assert_eq!(held, was);
     }

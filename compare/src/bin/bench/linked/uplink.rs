@@ -8,7 +8,7 @@ extern "C" {
     fn esk_command_read(text: *const u8, length: usize) -> CommandGot;
     fn esk_command_write(command: *const Command, out: *mut u8, room: usize) -> Answer;
     fn esk_reset() -> Settings;
-    fn esk_settings_valid(settings: *const Settings) -> u8;
+    fn esk_settings_valid(settings: *const Settings) -> Answer;
     fn esk_apply(settings: *mut Settings, text: *const u8, length: usize) -> Applied;
     fn esk_decide(
         settings: *const Settings,
@@ -71,7 +71,7 @@ pub fn reset() -> Settings {
 }
 
 #[inline(always)]
-pub fn settings_valid(settings: &Settings) -> u8 {
+pub fn settings_valid(settings: &Settings) -> Answer {
     unsafe { esk_settings_valid(settings) }
 }
 
