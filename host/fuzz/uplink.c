@@ -17,14 +17,14 @@ static void command_check(input from)
     give_back("text", text);
 }
 
-/* The input is the text. The record's last byte is padding, and nobody's. */
+/* The input is the text. */
 static void command_read(input from)
 {
     lent text = lend_rest(&from);
     esk_command_got ours = esk_command_read(text.ours, text.length);
     esk_command_got second = second_command_read(text.second, text.length);
     hold("answer", &ours.answer, &second.answer, sizeof ours.answer);
-    hold("command", &ours.command, &second.command, offsetof(esk_command, named) + sizeof ours.command.named);
+    hold("command", &ours.command, &second.command, sizeof ours.command);
     give_back("text", text);
 }
 

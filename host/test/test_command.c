@@ -96,16 +96,16 @@ static int is_empty(const esk_command *command)
 {
     static const esk_command empty;
     checks++;
-    return memcmp(command, &empty, offsetof(esk_command, named) + 8) == 0;
+    return memcmp(command, &empty, sizeof empty) == 0;
 }
 
 static void write_holds(esk_command c, size_t room, unsigned code, unsigned long place, const char *text, size_t length,
                         const char *why)
 {
-    lent out;
-    const esk_command before = c;
-    esk_answer got = esk_command_write(&c, lend(&out, NULL, room, 1), room);
-    HOLD(memcmp(&c, &before, sizeof c) == 0);
+    lent in, out;
+    const esk_command *command = (const esk_command *)(const void *)lend(&in, &c, sizeof c, 0);
+    esk_answer got = esk_command_write(command, lend(&out, NULL, room, 1), room);
+    bytes_hold(&in, "", 0, "the command, lent for reading", why);
     answer_holds(got, code, place, code == 0 ? length : 0, 0, "esk_command_write", why);
     bytes_hold(&out, text, code == 0 ? length : 0, "esk_command_write", why);
 }
@@ -123,6 +123,7 @@ static void text_holds(const char *text, size_t length, unsigned code, unsigned 
         HOLD(is_empty(&got.command));
         return;
     }
+    HOLD(got.command.spare == 0);
     for (size_t room = 0; room <= length + 2; room++)
         write_holds(got.command, room, room < length ? 2 : 0, 0, text, length, why);
     write_holds(got.command, MOST, 0, 0, text, length, why);
@@ -186,6 +187,13 @@ static void routine6(esk_command *c) { c->settings.routine6 = 2; }
 static void routine8(esk_command *c) { c->settings.routine8 = 255; }
 static void hours(esk_command *c) { c->settings.hours.end = 24; }
 static void leftmost(esk_command *c) { hours(c), east(c), airfield(c); }
+static void spare(esk_command *c) { c->spare = 1; }
+static void spare_and_flag(esk_command *c) { spare(c), flag(c); }
+static void spare_and_downlink(esk_command *c) { spare(c), downlink(c); }
+static void spare_and_last(esk_command *c) { spare(c), c->named[7] = 8; }
+static void spare_and_count(esk_command *c) { spare(c), count_high(c); }
+static void spare_and_no_two(esk_command *c) { spare(c), no_two(c); }
+static void spare_and_hours(esk_command *c) { spare(c), hours(c); }
 
 static const record_case records[] = {
     {flag, 4, 5, "flag 2"},
@@ -222,6 +230,13 @@ static const record_case records[] = {
     {routine8, 5, 828, "section 8"},
     {hours, 5, 832, "end hour"},
     {leftmost, 5, 34, "the leftmost field"},
+    {spare, 7, 21, "spare"},
+    {spare_and_flag, 4, 5, "spare behind the flags"},
+    {spare_and_downlink, 4, 12, "spare behind the downlink digit"},
+    {spare_and_last, 4, 20, "spare behind the last indicator"},
+    {spare_and_count, 7, 21, "spare before section 2"},
+    {spare_and_no_two, 7, 21, "spare before a section that is not named"},
+    {spare_and_hours, 7, 21, "spare before section 9"},
 };
 
 static void write_all(void)
@@ -235,6 +250,13 @@ static void write_all(void)
             write_holds(c, rooms[j], records[i].code, records[i].place, "", 0, records[i].why);
     }
     esk_command four = esk_command_read(bytes(H4 "071/"), 26).command;
+    for (unsigned value = 1; value < 256; value++) {
+        four.spare = (uint8_t)value;
+        write_holds(four, MOST, 7, 21, "", 0, "every spare byte but 0");
+        write_holds(four, 25, 7, 21, "", 0, "7 before 2");
+    }
+    four.spare = 0;
+    write_holds(four, MOST, 0, 0, H4 "071/", 26, "spare 0");
     four.settings.hours.start = 1;
     write_holds(four, MOST, 7, 26, "", 0, "section 9 not named: the text's length");
     four.settings.airports.inhibited.descent.names[79] = 1;
@@ -252,7 +274,7 @@ static void members(void)
     esk_command c = esk_command_read(bytes(longest), ESK_COMMAND_BYTES).command;
     const esk_settings *s = &c.settings;
     HOLD(memcmp(s->flags, "\1\1\1\1\1\1\1", 7) == 0 && c.downlink == 2);
-    HOLD(memcmp(c.named, "\2\3\4\5\6\0\10\11", 8) == 0);
+    HOLD(memcmp(c.named, "\2\3\4\5\6\0\10\11", 8) == 0 && c.spare == 0);
     HOLD(s->regions.reporting.count == 16 && s->regions.inhibiting.count == 16);
     for (int i = 0; i < 16; i++) {
         esk_region r = s->regions.inhibiting.regions[i];

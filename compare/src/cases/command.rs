@@ -93,11 +93,10 @@ impl Case {
         Ok(())
     }
 
-    /// The answer of the reader, every member of its record; its padding may be anything.
+    /// The answer of the reader, every member of its record.
     fn read(&self, call: &'static str, second: &Result<settings::Command, Refusal>, replies: &mut Replies) -> Held {
         let want = meet_up::got(second);
-        let mut got: CommandGot = replies.one();
-        got.command.padding = 0;
+        let got: CommandGot = replies.one();
         if got != want {
             let words = |one: &CommandGot, other: &CommandGot| {
                 let [lines, others] = [one, other].map(|got| tell::uplink::command(&got.command));

@@ -8,11 +8,12 @@ use crate::random::Random;
 /// Makes one member of a command something else; mostly it is then not allowed.
 pub fn command(random: &mut Random, of: &mut Command) {
     let number = random.below(8);
-    match random.below(8) {
+    match random.below(9) {
         0 => of.settings.flags[random.below(7)] = random.of(&[2, 8, 10, b'0', b'1', b'9', 255, 9]),
         1 => of.downlink = random.of(&[3, 9, b'0', 255]),
         2 => of.named[number] = random.of(&[0, 1, 7, 9, number as u8 + 1, number as u8 + 2, number as u8 + 3, b'2']),
         3 => of.named[number] = 0,
+        4 => of.spare = random.of(&[1, 2, 9, b'/', 128, 255]),
         _ => settings(random, &mut of.settings),
     }
 }

@@ -131,7 +131,7 @@ pub fn command_of(random: &mut Random, bits: u32, lists: Lists) -> Command {
             _ => (),
         }
     }
-    Command { flags: flags(random, &[0, 1, 9]), downlink: random.below(3) as u8, named, sections }
+    Command { flags: flags(random, &[0, 1, 9]), downlink: random.below(3) as u8, named, spare: 0, sections }
 }
 
 fn flags(random: &mut Random, from: &[u8]) -> Flags {

@@ -49,14 +49,14 @@ pub fn command(from: &Command) -> ours::Command {
         settings: settings(from.flags, &from.sections),
         downlink: from.downlink,
         named: from.named,
-        padding: 0,
+        spare: from.spare,
     }
 }
 
-/// What the header's command means; its padding is not looked at.
+/// What the header's command means.
 pub fn meant_command(from: &ours::Command) -> Command {
     let Configuration { flags, sections } = meant_settings(&from.settings);
-    Command { flags, downlink: from.downlink, named: from.named, sections }
+    Command { flags, downlink: from.downlink, named: from.named, spare: from.spare, sections }
 }
 
 pub fn configuration(from: &Configuration) -> ours::Settings {

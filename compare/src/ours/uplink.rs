@@ -96,14 +96,13 @@ pub struct Settings {
     pub hours: Hours,
 }
 
-/// `padding` is no member of the header's: the byte that C adds at the end.
 #[repr(C)]
 #[derive(Clone, Copy, Debug, Default, PartialEq, Eq)]
 pub struct Command {
     pub settings: Settings,
     pub downlink: u8,
     pub named: [u8; 8],
-    pub padding: u8,
+    pub spare: u8,
 }
 
 #[repr(C)]
@@ -148,7 +147,7 @@ const _: () = {
     assert!(offset_of!(Settings, enroute) == 590 && offset_of!(Settings, ascent) == 592);
     assert!(offset_of!(Settings, routine6) == 602 && offset_of!(Settings, hours) == 604);
     assert!(size_of::<Command>() == 616 && offset_of!(Command, downlink) == 606);
-    assert!(offset_of!(Command, named) == 607 && offset_of!(Command, padding) == 615);
+    assert!(offset_of!(Command, named) == 607 && offset_of!(Command, spare) == 615);
     assert!(size_of::<CommandGot>() == 632 && offset_of!(CommandGot, command) == 16);
     assert!(size_of::<Applied>() == 16 && offset_of!(Applied, downlink) == 9);
     assert!(size_of::<Decided>() == 16 && offset_of!(Decided, code) == 8 && offset_of!(Decided, decision) == 9);

@@ -14,6 +14,7 @@ pub fn command(command: &Command) -> Result<usize, Refusal> {
         let own = index as u8 + 2;
         must(named == 0 || named == own && own != 7, BYTE, 13 + index)?;
     }
+    must(command.spare == 0, DISAGREE, SPARE)?;
     let mut at = HEAD;
     for number in 2..=9 {
         if command.named[number - 2] != 0 {

@@ -66,6 +66,8 @@ pub struct Command {
     pub downlink: u8,
     /// E2 to E9.
     pub named: [u8; 8],
+    /// 0; the header's record has it behind the indicators.
+    pub spare: u8,
     pub sections: Sections,
 }
 
@@ -140,6 +142,8 @@ impl Circle {
 /// The bytes in front of the sections, and where the indicator of section k stands behind `INDICATOR`.
 pub const HEAD: usize = 22;
 pub const INDICATOR: usize = 11;
+/// "Spare not 0 (at byte 21)."
+pub const SPARE: usize = 21;
 /// "Each section number has its own length": the longest of each, and of a command.
 const BOXES_MOST: usize = 2 * (2 + 16 * 14) + 1;
 const AIRFIELDS_MOST: usize = 4 * (2 + 20 * 4) + 1 + 1;

@@ -41,7 +41,7 @@ pub fn settings(of: &Settings) -> Vec<String> {
 
 /// The lines of a command.
 pub fn command(of: &Command) -> Vec<String> {
-    let mut lines = vec![format!("downlink {} named {:?}", of.downlink, of.named)];
+    let mut lines = vec![format!("downlink {} named {:?} spare {}", of.downlink, of.named, of.spare)];
     lines.extend(settings(&of.settings));
     lines
 }

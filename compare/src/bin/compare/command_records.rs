@@ -9,7 +9,6 @@ use desk_compare::meet::uplink as meet;
 use desk_compare::ours::uplink::Command;
 use desk_compare::ours::{bytes_of, of_bytes};
 use desk_compare::random::Random;
-use desk_compare::second::settings;
 
 type Queue = queue::Queue<Case>;
 
@@ -20,7 +19,7 @@ pub fn families(run: &mut Run) {
             let command = uplink::command(random);
             let length = uplink::text(&command).len();
             for room in rooms(length) {
-                write(queue, &litter(random, &command), room)?;
+                write(queue, &meet::command(&command), room)?;
             }
         }
         Ok(())
@@ -28,8 +27,7 @@ pub fn families(run: &mut Run) {
     run.family("command-record-bytes", "every byte of 3 commands made every other", |random, queue| {
         for (bits, lists) in [(0xff, Lists::Full), (0xff, Lists::Few), (0, Lists::Empty)] {
             let command = uplink::command_of(random, bits, lists);
-            let command = litter(random, &command);
-            bytes(&command, random, queue)?;
+            bytes(&meet::command(&command), random, queue)?;
         }
         Ok(())
     });
@@ -50,12 +48,33 @@ pub fn families(run: &mut Run) {
             Ok(())
         },
     );
+    let turns = run.turns(40_000);
+    run.family(
+        "command-record-spare",
+        "random commands, spare not 0, up to two members not allowed, x rooms",
+        |random, queue| {
+            for _ in 0..turns {
+                let mut command = any(random);
+                for _ in 0..random.below(3) {
+                    faults::command(random, &mut command);
+                }
+                command.spare = if random.percent(50) { random.byte() } else { random.of(&[1, 2, 9, b'/', 128, 255]) };
+                for room in [835, random.below(840)] {
+                    write(queue, &command, room)?;
+                }
+            }
+            Ok(())
+        },
+    );
     let turns = run.turns(20_000);
     run.family("command-record-noise", "any bytes as a command", |random, queue| {
         for _ in 0..turns {
             let mut noise = any(random);
             if random.percent(50) {
                 noise.settings = faults::noise(random);
+            }
+            if random.percent(20) {
+                noise.spare = random.byte();
             }
             if random.percent(50) {
                 noise.named = std::array::from_fn(|index| random.of(&[0, index as u8 + 2]));
@@ -71,14 +90,8 @@ fn rooms(length: usize) -> [usize; 6] {
     [0, 21, length - 1, length, length + 1, 840]
 }
 
-/// A command in the header's struct, with anything in its padding.
-fn litter(random: &mut Random, command: &settings::Command) -> Command {
-    Command { padding: random.byte(), ..meet::command(command) }
-}
-
 fn any(random: &mut Random) -> Command {
-    let command = uplink::command(random);
-    litter(random, &command)
+    meet::command(&uplink::command(random))
 }
 
 fn write(queue: &mut Queue, record: &Command, room: usize) -> Done {

@@ -30,9 +30,10 @@ pub fn command_text(random: &mut Random, index: usize) -> Vec<u8> {
     }
 }
 
-/// Room, record.
+/// Room, record; one has a spare byte that is not 0.
 pub fn command_write(random: &mut Random, index: usize) -> Vec<u8> {
-    [&short(MOST)[..], bytes_of(&meet::command(&command(random, index)))].concat()
+    let command = Command { spare: u8::from(index == 9), ..command(random, index) };
+    [&short(MOST)[..], bytes_of(&meet::command(&command))].concat()
 }
 
 pub fn settings(random: &mut Random, index: usize) -> Vec<u8> {

@@ -13,7 +13,7 @@ fn read(text: &str) -> Command {
 #[test]
 fn records_not_allowed() {
     type Change = fn(&mut Command);
-    let cases: [(Change, Refusal); 29] = [
+    let cases: [(Change, Refusal); 36] = [
         (|c| c.flags[0] = 2, code(4, 5)),
         (|c| c.flags[6] = b'1', code(4, 11)),
         (|c| c.downlink = 3, code(4, 12)),
@@ -43,6 +43,13 @@ fn records_not_allowed() {
         (|c| c.sections.ascent[0] = 2, code(4, 809)),
         (|c| c.sections.ascent[5] = 351, code(5, 820)),
         (|c| c.sections.hours[1] = 24, code(5, 832)),
+        (|c| c.spare = 1, code(7, 21)),
+        (|c| c.spare = 255, code(7, 21)),
+        (|c| (c.spare, c.flags[6]) = (1, 2), code(4, 11)),
+        (|c| (c.spare, c.downlink) = (1, 3), code(4, 12)),
+        (|c| (c.spare, c.named[7]) = (1, 8), code(4, 20)),
+        (|c| (c.spare, c.named[0]) = (1, 0), code(7, 21)),
+        (|c| (c.spare, c.sections.boxes[0].count) = (1, 17), code(7, 21)),
     ];
     for (index, (change, want)) in cases.into_iter().enumerate() {
         let mut record = read(&longest());
