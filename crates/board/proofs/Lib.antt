@@ -11,6 +11,7 @@ pub mod Words
 pub mod Night
 pub mod Lent
 pub mod Calls
+pub mod LentWords
 pub mod Bytes
 pub mod Coded
 pub mod Found

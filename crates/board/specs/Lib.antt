@@ -3,3 +3,4 @@ pub mod History
 pub mod Lent
 pub mod Calls
 pub mod Survey
+pub mod Words
