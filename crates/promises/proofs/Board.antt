@@ -12,11 +12,13 @@ use Rattle.text.specs.Equal.{sameBytes}
 use Rattle.text.proofs.Cases.{by-test}
 use Rattle.text.proofs.Equal.{same-equal}
 use Rattle.board.specs.Board.{isNone, waiting, Move, Stay, Put, Free, replyOf}
-use Rattle.board.specs.History.{isEmptyBoard}
+use Rattle.board.specs.History.{isEmptyBoard, Add as AddEvent, Take as TakeEvent}
 use Rattle.board.specs.Lent.{isValidLent, onSlots, onArea, onOut}
 use Rattle.board.specs.Calls.{Lent, boardIn}
 use Rattle.board.proofs.Places.{never}
-use Rattle.board.proofs.Calls.{run-lent, free-empty}
+use Rattle.board.specs.Words.{ValidBoard}
+use Rattle.board.proofs.Calls.{run-lent, free-empty, call-ten}
+use Rattle.board.proofs.LentWords.{valid-said, said-valid, adds}
 use Rattle.board.proofs.Coded.{Coded}
 use Rattle.board.proofs.Lent.{length-board}
 use Rattle.board.proofs.Words.{alike}
@@ -135,6 +137,26 @@ coded x c = go (moveOf x c) (move-coded x c)
     go (Put i d t) l = (λ z u. u, λ n. refl)
     go (Free i t) l = (λ z u. u, λ n. refl)
 
+-- ---- Validity
+
+board-zero : (t : Bool) → boardNumbers t .code ≡ 0 → t ≡ true
+board-zero true e = refl
+board-zero false e = absurd (omega arith)
+
+checked : (x : Lent) → (boardNumbers (isValidLent (x .slots) (x .area)) .code ≡ 0) ↔ ValidBoard (x .slots) (x .area)
+checked x = (
+  λ e. valid-said (x .slots) (x .area) (board-zero (isValidLent (x .slots) (x .area)) e),
+  λ v. ap (λ (t : Bool). boardNumbers t .code) (said-valid (x .slots) (x .area) v),
+)
+
+invalid : (x : Lent) → ¬ ValidBoard (x .slots) (x .area) → isValidLent (x .slots) (x .area) ≡ false
+invalid x n =
+    by-test (isValidLent (x .slots) (x .area)) (λ v. absurd (n (valid-said (x .slots) (x .area) v))) (λ v. v)
+
+ten-first : (x : Lent) (c : Call) → ¬ ValidBoard (x .slots) (x .area) → answerTo x c ≡ answerOf 10 0
+ten-first x (Add d t) n = ap (λ (m : Move). replyNumbers (replyOf m)) (call-ten x (AddEvent d t) (invalid x n))
+ten-first x (Take d out) n = ap (λ (m : Move). replyNumbers (replyOf m)) (call-ten x (TakeEvent d (length out)) (invalid x n))
+
 -- ---- All of it
 
 pub board-promises : BoardPromises
@@ -155,6 +177,10 @@ board-promises =
       never-ten = never-ten;
       determined = determined;
       no-text = λ x c. no-text (moveOf x c);
+      checked = checked;
+      ten = λ x n. ap boardNumbers (invalid x n);
+      ten-first = ten-first;
+      places = λ x d t i e w k. adds (x .slots) (x .area) d t i e w k;
       refusals = refusals;
       coded = coded;
     }

@@ -10,6 +10,7 @@ use Rattle.command.specs.Text.{checkCommand}
 use Rattle.config.specs.Config.{kept}
 use Rattle.board.specs.Board.{Move, Stay, Put, Free}
 use Rattle.board.specs.Lent.{isValidLent}
+use Rattle.board.specs.Words.{ValidBoard, Adds}
 use Rattle.board.specs.Calls.{Lent}
 use Rattle.desk.specs.Numbers.{accepted, answerOf, checkNumbers}
 use Rattle.desk.specs.Waiting.{boardNumbers}
@@ -133,6 +134,13 @@ pub record BoardPromises : Type 0 where
   pub never-ten : (r : Run) (c : Call) → ¬ (told r c .code ≡ 10)
   -- every answer follows from the calls and the number of slots
   pub determined : (r s : Run) → length (r .board .slots) ≡ length (s .board .slots) → r .calls ≡ s .calls → log r ≡ log s
+  -- of any lent board, empty or not: esk_board_check answers 0 just where it is valid, in document 01's words, and else 10, as do an
+  -- adding and a taking
+  pub checked : (x : Lent) → (boardNumbers (isValidLent (x .slots) (x .area)) .code ≡ 0) ↔ ValidBoard (x .slots) (x .area)
+  pub ten : (x : Lent) → ¬ ValidBoard (x .slots) (x .area) → boardNumbers (isValidLent (x .slots) (x .area)) ≡ answerOf 10 0
+  pub ten-first : (x : Lent) (c : Call) → ¬ ValidBoard (x .slots) (x .area) → answerTo x c ≡ answerOf 10 0
+  -- an adding joins onto that aircraft's text in its own slot, or uses the lowest free slot
+  pub places : (x : Lent) (d t : List ℕ) (i : ℕ) (e w : List ℕ) → moveOf x (Add d t) ≡ Put i e w → Adds (x .slots) (x .area) d t i e w
   -- of any lent board, empty or not: an answer names no text; a refusal leaves all as it was, and has another code than 0
   pub no-text : (x : Lent) (c : Call) → answerTo x c .text ≡ 0
   pub refusals : (x : Lent) (c : Call) → ¬ (answerTo x c .code ≡ 0) → Untouched x c
