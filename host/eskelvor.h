@@ -154,7 +154,9 @@ esk_report_got esk_report_read(const uint8_t *text, size_t length);
  *   7  one of wind direction and speed without the other (at the speed); a present observation behind an absent
  *      one (at its kind); and a member that is not of its one form: a figure (where it would stand), present neither
  *      0 nor 1, present 0 in the first observation, or 0 beside members that are not 0 (at the kind), spare not 0 (at
- *      byte 22). At one place the codes 4 and 5 come first
+ *      byte 22)
+ * Of several the one furthest left is answered, and at one place 4 and 5 come before 7. For 4 and 5 a figure counts as
+ * given where given is not 0, an observation as present where present is not 0, and the first one always does.
  * and then
  *   2  room below 220; place 0
  */
