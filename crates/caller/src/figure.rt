@@ -1,8 +1,8 @@
 // A figure of the caller, and back.
 use crate::HostFigure;
 use packed::Figure;
-use packed::lone::write_lone;
 use packed::write::code_of;
+use packed::write::write_lone;
 ghost use mathlib.Core.Path.{_≡_};
 ghost use lib.ListN.{length};
 ghost use Rattle.packed.specs.Packed.{fieldOf};

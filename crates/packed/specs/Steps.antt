@@ -1,10 +1,10 @@
 -- What the inner functions of the reader and the writer answer. No promise to a caller rests on these names.
 use mathlib.Core.Bool.{Bool, cond, _&&_}
 use mathlib.Core.List.{List}
-use Prim.Native.Nat.{ℕ, _+_, _*_, _%_}
-use lib.Dec.{leb, ltb}
+use Prim.Native.Nat.{ℕ, _+_, _%_}
+use lib.Dec.{ltb}
 use lib.ListN.{length}
-use Rattle.packed.specs.Packed.{worthOf, digitOf, number, allDigits, allSolidi, fault, spelt}
+use Rattle.packed.specs.Packed.{digitOf, number, allDigits, allSolidi, fault}
 use Rattle.packed.specs.declared.Figure.the-variants.{Missing}
 use Rattle.packed.specs.declared.Packed.{Packed}
 use Rattle.packed.specs.declared.Packed.the-variants.{Is, Refused}
@@ -19,18 +19,6 @@ numberOf ds = cond (ltb 0 (length ds) && allDigits ds) (Whole (number 0 ds)) Oth
 unfoldable pub otherField : List ℕ → Packed
 otherField f = cond (allSolidi f) (Is Missing) (Refused 4 (fault f))
 
--- a number and one digit more
-unfoldable pub oneMore : ℕ → ℕ → Number
-oneMore n b = cond (ltb (worthOf b) 40) (Whole (n * 40 + worthOf b)) Other
-
--- a field of which n is read, and ds are left, of k digits in all
-unfoldable pub runOf : List ℕ → ℕ → ℕ → List ℕ → Packed
-runOf f k n ds = cond (allDigits ds) (spelt (number n ds) k) (otherField f)
-
 -- the last digit of n: one that stands alone counts from half a digit on
 unfoldable pub lastDigit : ℕ → Bool → ℕ
 lastDigit n alone = digitOf ((n + cond alone 20 0) % 40)
-
--- the fewest digits that hold a figure of size m
-unfoldable pub neededFor : ℕ → ℕ
-neededFor m = 1 + cond (leb 20 m) 1 0 + cond (leb 800 m) 1 0 + cond (leb 32000 m) 1 0 + cond (leb 1280000 m) 1 0

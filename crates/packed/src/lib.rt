@@ -1,5 +1,4 @@
 // The packed field of document 01: a figure in base 40, given or missing, in 1 to 5 bytes.
-pub mod lone;
 pub mod read;
 pub mod sign;
 pub mod table;

@@ -4,12 +4,12 @@ use crate::Packed;
 use crate::sign::less;
 use crate::sign::size;
 use crate::table::worth;
-use crate::table::worth_of;
+use crate::table::worth_table;
 ghost use mathlib.Core.Path.{_≡_};
-ghost use Prim.Native.Nat.{_-_, _≤_, _<_, _^_};
+ghost use Prim.Native.Nat.{_≤_, _<_, _^_};
 ghost use lib.ListN.{length, drop};
 ghost use Rattle.packed.specs.Packed.{worths, readPacked, spelt, trim, allSolidi, halfOf};
-ghost use Rattle.packed.specs.Steps.{numberOf, otherField, oneMore, runOf};
+ghost use Rattle.packed.specs.Steps.{numberOf, otherField};
 
 // A run of digits as the number that it spells, or that it is no such run.
 enum Number {
@@ -128,109 +128,10 @@ pub fn read(t: &[u8; 256], f: &[u8]) -> Packed
     }
 }
 
-// ---- A field that stands alone, for which building the table would cost more than reading does
-
-// Where its digits begin: behind its leading spaces, but at its last byte at the latest, which is no digit where it is a space.
-fn digits_from(f: &[u8]) -> usize
-    requires { ⌜ (1 ≤ length (now f)) × (length (now f) ≤ 5) ⌝ }
-    ensures { λ r. ⌜
-        (r < length (now (f .entry)))
-        × (readPacked (now (f .entry)) ≡ runOf (now (f .entry)) (length (now (f .entry)) - r) 0 (drop r (now (f .entry))))
-        ⌝ }
-{
-    let last = f.len() - 1;
-    let mut i = 0;
-    while i < last {
-        if f[i] != b' ' {
-            return i;
-        }
-        i += 1;
-    }
-    i
-}
-
-// The number with one digit more, where the byte is one.
-fn one_more(n: u32, b: u8) -> Number
-    requires { ⌜ n < 2560000 ⌝ }
-    ensures { λ r. ⌜ r ≡ oneMore n b ⌝ }
-{
-    let d = worth_of(b);
-    if 40 <= d {
-        return Number::Other;
-    }
-    Number::Whole(n * 40 + wide(d))
-}
-
-// The digits from a place on, k in all.
-fn more_digits(f: &[u8], from: usize, n: u32, k: usize) -> Packed
-    requires { ⌜ (from ≤ length (now f)) × (length (now f) ≤ 5) × (n < 40 ^ from) × (1 ≤ k) × (k ≤ 5) ⌝ }
-    ensures { λ r. ⌜ r ≡ runOf (now (f .entry)) k n (drop from (now (f .entry))) ⌝ }
-{
-    let mut m = n;
-    let mut i = from;
-    while i < f.len() {
-        match one_more(m, f[i]) {
-            Number::Other => {
-                return other(f);
-            }
-            Number::Whole(more) => {
-                m = more;
-            }
-        }
-        i += 1;
-    }
-    figure_of(m, k)
-}
-
-// All of them. Most fields have three at the most: these are read without a loop, each number of them by itself.
-fn run_from(f: &[u8], start: usize) -> Packed
-    requires { ⌜ (start < length (now f)) × (length (now f) ≤ 5) ⌝ }
-    ensures { λ r. ⌜ r ≡ runOf (now (f .entry)) (length (now (f .entry)) - start) 0 (drop start (now (f .entry))) ⌝ }
-{
-    let w = f.len();
-    let second = start + 1;
-    let third = second + 1;
-    let fourth = third + 1;
-    let one = match one_more(0, f[start]) {
-        Number::Other => {
-            return other(f);
-        }
-        Number::Whole(n) => n,
-    };
-    if second == w {
-        return figure_of(one, 1);
-    }
-    let two = match one_more(one, f[second]) {
-        Number::Other => {
-            return other(f);
-        }
-        Number::Whole(n) => n,
-    };
-    if third == w {
-        return figure_of(two, 2);
-    }
-    let three = match one_more(two, f[third]) {
-        Number::Other => {
-            return other(f);
-        }
-        Number::Whole(n) => n,
-    };
-    if fourth == w {
-        return figure_of(three, 3);
-    }
-    more_digits(f, fourth, three, w - start)
-}
-
+// A field that stands alone: the table is built for it.
 pub fn read_lone(f: &[u8]) -> Packed
     ensures { λ r. ⌜ r ≡ readPacked (now (f .entry)) ⌝ }
 {
-    let w = f.len();
-    if w < 1 {
-        return Packed::Refused(1, 0);
-    }
-    if 5 < w {
-        return Packed::Refused(1, 0);
-    }
-    let start = digits_from(f);
-    run_from(f, start)
+    let t = worth_table();
+    read(&t, f)
 }

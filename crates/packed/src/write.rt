@@ -4,6 +4,7 @@ use crate::read::half;
 use crate::sign::plus;
 use crate::sign::size;
 use crate::table::digit;
+use crate::table::digit_table;
 ghost use mathlib.Core.Path.{_≡_};
 ghost use mathlib.Core.Bool.{true, cond};
 ghost use mathlib.Core.List.{[]};
@@ -20,6 +21,7 @@ ghost use Rattle.packed.specs.Packed.{
   fitting,
   halfOf,
   writeCode,
+  written,
 };
 ghost use Rattle.packed.specs.Steps.{lastDigit};
 
@@ -39,7 +41,7 @@ fn fewest_of(w: usize, m: u32) -> usize
     k
 }
 
-pub fn fill(out: &mut [u8], b: u8)
+fn fill(out: &mut [u8], b: u8)
     ensures { λ _. ⌜ now (out .exit) ≡ replicate (length (now (out .entry))) b ⌝ }
 {
     let mut i = 0;
@@ -92,7 +94,7 @@ fn put_any(t: &[u8; 40], x: i32, out: &mut [u8])
 }
 
 // A choice that costs no jump: how many digits a figure needs varies from field to field.
-pub fn either(t: bool, a: u8, b: u8) -> u8
+fn either(t: bool, a: u8, b: u8) -> u8
     ensures { λ r. ⌜ r ≡ cond t a b ⌝ }
 {
     if t {
@@ -206,4 +208,16 @@ pub fn code_of(figure: Figure, width: usize, room: usize) -> u8
         return 2;
     }
     0
+}
+
+// A field that stands alone, at the start of what is lent, or nothing and the refusal's code.
+pub fn write_lone(figure: Figure, width: usize, out: &mut [u8]) -> u8
+    ensures { λ r. ⌜ (r ≡ writeCode figure width (length (now (out .entry)))) × (now (out .exit) ≡ written figure width (now (out .entry))) ⌝ }
+{
+    let code = code_of(figure, width, out.len());
+    if code == 0 {
+        let t = digit_table();
+        put(&t, figure, &mut out[..width]);
+    }
+    code
 }

@@ -1,6 +1,6 @@
 use borrow.Author.Needs.{needs}
-use Rattle.packed.proofs.lone.write_lone.Statement.{statement}
-use Rattle.packed.proofs.lone.write_lone.Tie as tie
+use Rattle.packed.proofs.write.write_lone.Statement.{statement}
+use Rattle.packed.proofs.write.write_lone.Tie as tie
 use Rattle.packed.specs.Packed.{written, fieldOf}
 use Rattle.packed.proofs.Put.{Writes, writes}
 use mathlib.Core.Path.{_≡_, sym, _∙_, ap}
@@ -27,30 +27,40 @@ wide c =
 code-of-requires : tie.Need-code-of-requires
 code-of-requires c κs = search needs
 
-slice-relend-prefix-put-lone : tie.Need-slice-relend-prefix-put-lone
-slice-relend-prefix-put-lone c = fine c .fits
+-- src/write.rt:219:17
+digit-table-requires : tie.Need-digit-table-requires
+digit-table-requires c κs = search needs
 
-slice-aggregate-put-lone : tie.Need-slice-aggregate-put-lone
-slice-aggregate-put-lone c = sym (wide (c .before))
+-- src/write.rt:220:25
+slice-relend-prefix-put : tie.Need-slice-relend-prefix-put
+slice-relend-prefix-put c = fine (c .before .before) .fits
 
-put-lone-requires : tie.Need-put-lone-requires
-put-lone-requires c κs =
-    let f = fine (c .before) in
-    rw (wide (c .before)) (f .few, f .held)
+-- src/write.rt:220:25
+slice-aggregate-put : tie.Need-slice-aggregate-put
+slice-aggregate-put c = sym (wide (c .before .before .before))
 
+-- src/write.rt:220:9
+put-requires : tie.Need-put-requires
+put-requires c κs =
+    let f = fine (c .before .before .before) in
+    (c .before .before .digit-table .ensures, rw (wide (c .before .before .before)) (f .few, f .held))
+
+-- src/write.rt:214:1
 same-length : tie.Need-same-length
 same-length c = search needs
 
+-- src/write.rt:214:1
 returns : tie.Need-returns
 unfolding written
 returns c =
-    let t = c .before .before .before .before in
+    let t = c .before .before .before .before .before .before in
     let a = t .before .before .before .args in
     let e = t .before .code-of .ensures in
-    let p : c .before .before .put-lone .last .1 .0 ≡ fieldOf (a .width) (a .figure) =
-    c .before .before .put-lone .ensures ∙ ap (λ (n : ℕ). fieldOf n (a .figure)) (wide t) in
+    let p : c .before .before .put .last .1 .1 .0 ≡ fieldOf (a .width) (a .figure) =
+    c .before .before .put .ensures ∙ ap (λ (n : ℕ). fieldOf n (a .figure)) (wide t) in
     (e, rw (eq-eqb _ 0 (sym e ∙ t .if1 .taken)) (ap (λ (l : List ℕ). l ++ drop (a .width) (a .out .now)) p))
 
+-- src/write.rt:214:1
 returns-2 : tie.Need-returns-2
 unfolding written
 returns-2 c =
@@ -62,9 +72,10 @@ write-lone-spec =
     tie.close
     (tie.spec
     code-of-requires
-    slice-relend-prefix-put-lone
-    slice-aggregate-put-lone
-    put-lone-requires
+    digit-table-requires
+    slice-relend-prefix-put
+    slice-aggregate-put
+    put-requires
     same-length
     returns
     returns-2)
