@@ -6,7 +6,6 @@ pub mod Checked
 pub mod Codes
 pub mod Figures
 mod Fewest
-mod AllGiven
 pub mod Gathered
 pub mod Letters
 pub mod RoundTrip

@@ -25,7 +25,6 @@ ghost use mathlib.Core.List.{[], _∷_};
 ghost use Prim.Native.Nat.{_+_, _≤_};
 ghost use Rattle.observation.specs.Figures.{checkFigures};
 ghost use Rattle.observation.specs.Observation.{
-  firstRows,
   positionFigures,
   checkAir,
   checkWater,
@@ -120,23 +119,6 @@ fn check_fields(o: Observation, n: usize, at: usize, a: Row, b: Row, c: Row) -> 
     check_water(water, at + (10 + n))
 }
 
-// Those of the first observation: with one caller each, this and the later one's are laid out there.
-fn check_opening(o: Observation, at: usize) -> Seen
-    requires { ⌜ at ≤ 4096 ⌝ }
-    ensures { λ r. ⌜ r ≡ checkFields firstRows 11 at o ⌝ }
-{
-    let position = o.position;
-    let air = o.air;
-    let water = o.water;
-    if let Seen::Bad(code, place) = check_position(position, at + 1, LATITUDE, LONGITUDE, SECONDS) {
-        return Seen::Bad(code, place);
-    }
-    if let Seen::Bad(code, place) = check_air(air, at + 12) {
-        return Seen::Bad(code, place);
-    }
-    check_water(water, at + 21)
-}
-
 pub fn check_first(o: Observation, at: usize) -> Seen
     requires { ⌜ at ≤ 4096 ⌝ }
     ensures { λ r. ⌜ r ≡ checkFirst at o ⌝ }
@@ -144,7 +126,7 @@ pub fn check_first(o: Observation, at: usize) -> Seen
     if !is_kind(o.kind) {
         return Seen::Bad(4, at);
     }
-    check_opening(o, at)
+    check_fields(o, 11, at, LATITUDE, LONGITUDE, SECONDS)
 }
 
 // `ended` where an absent one came before, after which no present one follows.

@@ -97,7 +97,7 @@ pub fn pair_figure(t: &[u8; 256], a: u8, b: u8) -> i32
 }
 
 // The one spelling of a figure in the row's range.
-pub fn pair_given(t: &[u8; 256], a: u8, b: u8, row: Row) -> bool
+fn pair_given(t: &[u8; 256], a: u8, b: u8, row: Row) -> bool
     requires { ⌜ now t ≡ worths ⌝ }
     ensures { λ r. ⌜ r ≡ pairGiven row a b ⌝ }
 {
@@ -127,7 +127,7 @@ pub fn triple_figure(t: &[u8; 256], a: u8, b: u8, c: u8) -> i32
 }
 
 // The fewest digits are behind as many spaces as there are, and `middle` is too great where the second byte is no digit.
-pub fn triple_given(t: &[u8; 256], a: u8, b: u8, c: u8, row: Row) -> bool
+fn triple_given(t: &[u8; 256], a: u8, b: u8, c: u8, row: Row) -> bool
     requires { ⌜ now t ≡ worths ⌝ }
     ensures { λ r. ⌜ r ≡ tripleGiven row a b c ⌝ }
 {

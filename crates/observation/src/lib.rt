@@ -2,7 +2,6 @@
 mod byte;
 pub mod check;
 pub mod fine;
-pub mod given;
 pub mod quick;
 pub mod read;
 mod table;

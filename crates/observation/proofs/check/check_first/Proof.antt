@@ -13,12 +13,12 @@ returns : tie.Need-returns
 unfolding checkFirst
 returns c = rw (sym (c .before .is-kind .ensures) ∙ not-true _ (c .if1 .taken))
 
-check-opening-requires : tie.Need-check-opening-requires
-check-opening-requires c κs = search needs
+check-fields-requires : tie.Need-check-fields-requires
+check-fields-requires c κs = search needs
 
 returns-2 : tie.Need-returns-2
 unfolding checkFirst
-returns-2 c = rw (sym (c .before .before .is-kind .ensures) ∙ not-false _ (c .before .if1 .left)) (c .check-opening .ensures)
+returns-2 c = rw (sym (c .before .before .is-kind .ensures) ∙ not-false _ (c .before .if1 .left)) (c .check-fields .ensures)
 
 pub check-first-spec : {M : Type 1} → statement M
-check-first-spec = tie.close (tie.spec is-kind-requires returns check-opening-requires returns-2)
+check-first-spec = tie.close (tie.spec is-kind-requires returns check-fields-requires returns-2)
