@@ -1,10 +1,6 @@
 use borrow.Author.Needs.{needs}
 use Rattle.caller.proofs.figure.code_of_other.Statement.{statement}
 use Rattle.caller.proofs.figure.code_of_other.Tie as tie
-use Rattle.caller.proofs.figure.code_of_other.Reads as reads
-use Rattle.caller.proofs.figure.code_of_other.Lts as lts
-use Rattle.caller.proofs.figure.figure_from.Reads as figure-from-reads
-use Rattle.packed.proofs.write.code_of.Reads as code-of-reads
 use mathlib.Core.Path.{_≡_, refl, sym, _∙_, ap}
 use borrow.Author.Tests.{eq-eqb, ne-eqb}
 use Rattle.caller.proofs.Figures.{other-is}

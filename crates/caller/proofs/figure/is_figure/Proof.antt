@@ -1,9 +1,6 @@
 use borrow.Author.Needs.{needs}
 use Rattle.caller.proofs.figure.is_figure.Statement.{statement}
 use Rattle.caller.proofs.figure.is_figure.Tie as tie
-use Rattle.caller.proofs.figure.is_figure.Reads as reads
-use Rattle.caller.proofs.figure.is_figure.Lts as lts
-use Rattle.caller.proofs.figure.is_zero.Reads as is-zero-reads
 use mathlib.Core.Path.{_≡_, refl}
 use mir.Val.{toZ, ofZ}
 use mir.Syntax.{w32}

@@ -1,12 +1,6 @@
 use borrow.Author.Needs.{needs}
 use Rattle.caller.proofs.figure.write_figure.Statement.{statement}
 use Rattle.caller.proofs.figure.write_figure.Tie as tie
-use Rattle.caller.proofs.figure.write_figure.Reads as reads
-use Rattle.caller.proofs.figure.write_figure.Lts as lts
-use Rattle.caller.proofs.figure.code_of_other.Reads as code-of-other-reads
-use Rattle.caller.proofs.figure.figure_from.Reads as figure-from-reads
-use Rattle.caller.proofs.figure.is_figure.Reads as is-figure-reads
-use Rattle.packed.proofs.lone.write_lone.Reads as write-lone-reads
 use mathlib.Core.Path.{_≡_, refl, sym, _∙_, ap}
 use Rattle.caller.proofs.Figures.{formed-code, formed-over, other-code, other-over}
 
