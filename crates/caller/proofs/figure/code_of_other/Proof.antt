@@ -5,22 +5,18 @@ use mathlib.Core.Path.{_≡_, refl, sym, _∙_, ap}
 use borrow.Author.Tests.{eq-eqb, ne-eqb}
 use Rattle.caller.proofs.Figures.{other-is}
 
--- src/figure.rt:52:24
 figure-from-requires : tie.Need-figure-from-requires
 figure-from-requires c κs = search needs
 
--- src/figure.rt:52:9
 code-of-requires : tie.Need-code-of-requires
 code-of-requires c κs = search needs
 
--- src/figure.rt:54:9
 returns : tie.Need-returns
 returns c =
     let k = sym (c .before .code-of .ensures) ∙ c .if1 .taken in
     let f = c .before .before .figure-from .ensures in
     sym (other-is (c .before .before .before .args .f) (c .before .before .before .args .width) ∙ rw (← f, k))
 
--- src/figure.rt:49:1
 returns-2 : tie.Need-returns-2
 returns-2 c =
     let f = c .before .before .figure-from .ensures in

@@ -5,7 +5,6 @@ use mathlib.Core.Path.{_≡_, refl}
 use mir.Val.{toZ, ofZ}
 use mir.Syntax.{w32}
 
--- src/figure.rt:45:40
 is-zero-requires : tie.Need-is-zero-requires
 is-zero-requires c κs = search needs
 

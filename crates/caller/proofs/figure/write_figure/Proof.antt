@@ -4,23 +4,18 @@ use Rattle.caller.proofs.figure.write_figure.Tie as tie
 use mathlib.Core.Path.{_≡_, refl, sym, _∙_, ap}
 use Rattle.caller.proofs.Figures.{formed-code, formed-over, other-code, other-over}
 
--- src/figure.rt:63:8
 is-figure-requires : tie.Need-is-figure-requires
 is-figure-requires c κs = search needs
 
--- src/figure.rt:64:27
 figure-from-requires : tie.Need-figure-from-requires
 figure-from-requires c κs = search needs
 
--- src/figure.rt:64:9
 write-lone-requires : tie.Need-write-lone-requires
 write-lone-requires c κs = search needs
 
--- src/figure.rt:64:9
 same-length : tie.Need-same-length
 same-length c = search needs
 
--- src/figure.rt:64:9
 returns : tie.Need-returns
 returns c =
     let w = c .before .before .write-lone .ensures in
@@ -29,11 +24,9 @@ returns c =
     let e = sym (c .before .before .before .before .before .before .is-figure .ensures) ∙ c .before .before .before .before .before .if1 .taken in
     (w .0 ∙ rw f (sym (formed-code (a .f) (a .width) _ e)), w .1 ∙ rw f (sym (formed-over (a .f) (a .width) _ e)))
 
--- src/figure.rt:66:5
 code-of-other-requires : tie.Need-code-of-other-requires
 code-of-other-requires c κs = search needs
 
--- src/figure.rt:60:1
 returns-2 : tie.Need-returns-2
 returns-2 c =
     let a = c .before .before .before .before .args in

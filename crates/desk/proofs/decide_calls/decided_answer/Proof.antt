@@ -7,31 +7,24 @@ use Rattle.desk.proofs.decide_calls.host_decided.Reads as host-decided-
 use Rattle.desk.proofs.decide_calls.number_of.Reads as number-of-reads
 use mathlib.Core.Path.{_∙_}
 
--- src/decide_calls.rt:38:21
 enum-known-d : tie.Need-enum-known-d
 enum-known-d c = search needs
 
--- src/decide_calls.rt:38:50
 number-of-requires : tie.Need-number-of-requires
 number-of-requires c κs = search needs
 
--- src/decide_calls.rt:38:34
 host-decided-requires : tie.Need-host-decided-requires
 host-decided-requires c κs = search needs
 
--- src/decide_calls.rt:39:26
 enum-known-d-2 : tie.Need-enum-known-d-2
 enum-known-d-2 c = search needs
 
--- src/decide_calls.rt:39:35
 host-decided-requires-2 : tie.Need-host-decided-requires-2
 host-decided-requires-2 c κs = search needs
 
--- src/decide_calls.rt:34:1
 returns : tie.Need-returns
 returns c = c .host-decided .ensures ∙ rw (c .before .number-of .ensures, c .before .before .before .d .given .1)
 
--- src/decide_calls.rt:34:1
 returns-2 : tie.Need-returns-2
 returns-2 c = c .host-decided2 .ensures ∙ rw (c .before .before .d2 .given .1)
 

@@ -27,29 +27,23 @@ wide c =
 code-of-requires : tie.Need-code-of-requires
 code-of-requires c κs = search needs
 
--- src/write.rt:219:17
 digit-table-requires : tie.Need-digit-table-requires
 digit-table-requires c κs = search needs
 
--- src/write.rt:220:25
 slice-relend-prefix-put : tie.Need-slice-relend-prefix-put
 slice-relend-prefix-put c = fine (c .before .before) .fits
 
--- src/write.rt:220:25
 slice-aggregate-put : tie.Need-slice-aggregate-put
 slice-aggregate-put c = sym (wide (c .before .before .before))
 
--- src/write.rt:220:9
 put-requires : tie.Need-put-requires
 put-requires c κs =
     let f = fine (c .before .before .before) in
     (c .before .before .digit-table .ensures, rw (wide (c .before .before .before)) (f .few, f .held))
 
--- src/write.rt:214:1
 same-length : tie.Need-same-length
 same-length c = search needs
 
--- src/write.rt:214:1
 returns : tie.Need-returns
 unfolding written
 returns c =
@@ -60,7 +54,6 @@ returns c =
     c .before .before .put .ensures ∙ ap (λ (n : ℕ). fieldOf n (a .figure)) (wide t) in
     (e, rw (eq-eqb _ 0 (sym e ∙ t .if1 .taken)) (ap (λ (l : List ℕ). l ++ drop (a .width) (a .out .now)) p))
 
--- src/write.rt:214:1
 returns-2 : tie.Need-returns-2
 unfolding written
 returns-2 c =
