@@ -16,9 +16,9 @@ use Rattle.board.specs.History.{Event, Take}
 use Rattle.board.specs.Lent.{isShaped, takeLent, noSlot, onSlots, onArea, onOut}
 use Rattle.board.specs.Calls.{Lent, boardIn, call}
 use Rattle.board.specs.declared.Slot.{Slot}
-use Rattle.board.proofs.Slots.{take-own}
 use Rattle.board.proofs.Lent.{take-over, drop-over, shape, Sits}
 use Rattle.board.proofs.Calls.{call-sits}
+use Rattle.board.proofs.Slots.{take-own}
 
 -- ---- Other slots
 

@@ -56,13 +56,7 @@ for-one d e x h n = rw (← for-who d x h, n, for-used d x h)
 -- ---- The lowest place that passes a test
 
 module _ (test : Place → Bool) where
-  -- it passes, where any does
-  pub lowest-passes : (b : List Place) → any test b ≡ true → test (getD b (lowest test b) nowhere) ≡ true
-  unfolding any lowest
-  lowest-passes [] e = never e refl
-  lowest-passes (x ∷ b) e = by-test (test x) (λ h. rw h h) (λ h. rw h (lowest-passes b (rw h at e)))
-
-  -- no lower one does
+  -- no place before it passes
   pub lowest-first : (b : List Place) (j : ℕ) → j < lowest test b → test (getD b j nowhere) ≡ false
   unfolding lowest
   lowest-first [] j l = absurd (omega arith)
@@ -71,6 +65,12 @@ module _ (test : Place → Bool) where
       by-test (test x)
       (λ h. absurd (omega (arith, rw h at l)))
       (λ h. lowest-first b j (omega (arith, rw h at l)))
+
+  -- where any place passes, it does
+  pub lowest-passes : (b : List Place) → any test b ≡ true → test (getD b (lowest test b) nowhere) ≡ true
+  unfolding any lowest
+  lowest-passes [] e = never e refl
+  lowest-passes (x ∷ b) e = by-test (test x) (λ h. rw h h) (λ h. rw h (lowest-passes b (rw h at e)))
 
   -- where some place passes, the lowest is one of the board
   pub lowest-inside : (b : List Place) → any test b ≡ true → lowest test b < length b
