@@ -1,13 +1,16 @@
 -- Where the members of what is read stand in a command's text.
 use mathlib.Core.Path.{_≡_, refl, sym, ap, _∙_}
 use mathlib.Core.Bool.{true}
-use mathlib.Core.List.{List}
-use Prim.Native.Nat.{ℕ, _+_, _-_, _*_, _≤_, _<_}
+use mathlib.Core.List.{List, [], _∷_, _++_}
+use Prim.Native.Nat.{ℕ, zero, suc, _+_, _-_, _*_, _≤_, _<_}
 use native.Mathlib.Omega.{arith}
-use lib.ListN.{getD, List·getD-map}
+use lib.ListN.{getD, replicate, List·getD-map}
 use Rattle.text.specs.Parts.{part}
 use Rattle.text.specs.declared.Seen.the-variants.{Fine}
 use Rattle.field.proofs.Local.{part-byte}
+use Rattle.field.specs.Boxes.{noRegion, regionAt, edgeAt}
+use Rattle.field.specs.declared.Region.{Region}
+use Rattle.lists.specs.Lists.{countAt, regionsAt, boxesAt, airfieldsAt}
 use Rattle.section.specs.Layout.{layoutOf}
 use Rattle.section.specs.Contents.{Content, contentsAt}
 use Rattle.section.specs.Settings.{settingsFrom, regionsFrom, airportsFrom, enrouteFrom, ascentFrom, hoursFrom, amountIn}
@@ -15,7 +18,53 @@ use Rattle.command.specs.Text.{numbers, isNamed, checkCommand}
 use Rattle.command.specs.Record.{heldIn, digitsOf, commandOf}
 use Rattle.command.specs.Steps.{isOneOf, placeOf, Stands}
 use Rattle.command.proofs.Placed.{stands-held}
-use Rattle.promises.specs.Sections.{numberAt, Regions, Airports, Ascent, Means}
+use Rattle.promises.specs.Sections.{numberAt, pastBoxes, pastAirfields, BoxStands, BoxesStand, AirfieldsStand, Regions, Airports, Ascent, Means}
+
+-- ---- The entries of a list, each at its place
+
+-- the i-th of n boxes, the first at a place
+nth-box : (n i at : ℕ) (s : List ℕ) (rest : List Region) → i < n → getD (regionsAt n s at ++ rest) i noRegion ≡ regionAt s (at + 14 * i)
+unfolding regionsAt
+nth-box zero i at s rest h = absurd (omega arith)
+nth-box (suc n) zero at s rest h = let first : at + 14 * 0 ≡ at = omega arith in rw first
+nth-box (suc n) (suc i) at s rest h =
+    let next : at + 14 + 14 * i ≡ at + 14 * suc i = omega arith in
+    nth-box n i (at + 14) s rest (omega arith) ∙ ap (regionAt s) next
+
+box-stands : (s : List ℕ) (at : ℕ) → BoxStands s at (regionAt s at)
+unfolding regionAt edgeAt
+box-stands s at =
+    record {
+      north = record { degrees = refl; letter = refl };
+      south = record { degrees = refl; letter = refl };
+      west = record { degrees = refl; letter = refl };
+      east = record { degrees = refl; letter = refl };
+    }
+
+boxes-stand : (s : List ℕ) (at : ℕ) → BoxesStand s at (boxesAt s at)
+unfolding boxesAt
+boxes-stand s at =
+    record {
+      count = refl;
+      boxes = λ i h. rw (nth-box (countAt s at) i (at + 2) s _ h) (box-stands s (at + 2 + 14 * i));
+    }
+
+no-byte : (m i : ℕ) → _≡_ {A = ℕ} (getD (replicate m 0) i 0) 0
+no-byte zero i = refl
+no-byte (suc m) zero = refl
+no-byte (suc m) (suc i) = no-byte m i
+
+-- zeros behind bytes add none
+zeros-behind : (xs : List ℕ) (m i : ℕ) → getD (xs ++ replicate m 0) i 0 ≡ getD xs i 0
+zeros-behind [] m i = no-byte m i
+zeros-behind (x ∷ xs) m zero = refl
+zeros-behind (x ∷ xs) m (suc i) = zeros-behind xs m i
+
+airfields-stand : (s : List ℕ) (at : ℕ) → AirfieldsStand s at (airfieldsAt s at)
+unfolding airfieldsAt
+airfields-stand s at =
+    let n = 4 * countAt s at in
+    record { count = refl; names = λ i h. zeros-behind (part (at + 2) n s) (80 - n) i ∙ part-byte n s (at + 2) i h }
 
 module _ (s : List ℕ) (e : checkCommand s ≡ Fine) where
   -- a named section holds what stands at its place
@@ -24,17 +73,18 @@ module _ (s : List ℕ) (e : checkCommand s ≡ Fine) where
 
   regions-stand : isNamed s 2 ≡ true → Regions s (placeOf s 2) (commandOf s)
   unfolding commandOf settingsFrom regionsFrom layoutOf contentsAt
-  regions-stand n = let h = held-there 2 refl n in record { reporting = rw h; inhibiting = rw h }
+  regions-stand n = let h = held-there 2 refl n in record { reporting = rw h (boxes-stand s (placeOf s 2)); inhibiting = rw h (boxes-stand s (pastBoxes s (placeOf s 2))) }
 
   airports-stand : isNamed s 3 ≡ true → Airports s (placeOf s 3) (commandOf s)
   unfolding commandOf settingsFrom airportsFrom layoutOf contentsAt
   airports-stand n =
       let h = held-there 3 refl n in
+      let p = placeOf s 3 in
       record {
-        ascent-selected = rw h;
-        descent-selected = rw h;
-        ascent-inhibited = rw h;
-        descent-inhibited = rw h;
+        ascent-selected = rw h (airfields-stand s p);
+        descent-selected = rw h (airfields-stand s (pastAirfields s p));
+        ascent-inhibited = rw h (airfields-stand s (pastAirfields s (pastAirfields s p)));
+        descent-inhibited = rw h (airfields-stand s (pastAirfields s (pastAirfields s (pastAirfields s p))));
         routine = rw h;
       }
 

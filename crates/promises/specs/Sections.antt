@@ -6,7 +6,11 @@ use Prim.Native.Nat.{ℕ, _+_, _-_, _*_, _<_, _≤_}
 use lib.ListN.{getD}
 use Rattle.text.specs.Parts.{part}
 use Rattle.field.specs.Decimal.{value}
-use Rattle.lists.specs.Lists.{airfieldsAt, boxesAt}
+use Rattle.field.specs.Boxes.{noRegion}
+use Rattle.field.specs.declared.Edge.{Edge}
+use Rattle.field.specs.declared.Region.{Region}
+use Rattle.lists.specs.declared.Airfields.{Airfields}
+use Rattle.lists.specs.declared.Boxes.{Boxes}
 use Rattle.command.specs.Text.{isNamed}
 use Rattle.command.specs.Steps.{placeOf}
 use Rattle.command.specs.declared.Command.{Command}
@@ -22,18 +26,40 @@ pastBoxes s at = at + (2 + 14 * numberAt s at 2)
 abbrev pub pastAirfields : List ℕ → ℕ → ℕ
 pastAirfields s at = at + (2 + 4 * numberAt s at 2)
 
+-- "Each latitude or longitude with its letter": w digits and the letter behind them
+pub record EdgeStands (s : List ℕ) (at w : ℕ) (e : Edge) : Type 0 where
+  pub degrees : e .degrees ≡ numberAt s at w
+  pub letter : e .letter ≡ getD s (at + w) 0
+
+-- "A box is 14 bytes: two latitudes, north edge first .., two longitudes, west first"
+pub record BoxStands (s : List ℕ) (at : ℕ) (b : Region) : Type 0 where
+  pub north : EdgeStands s at 2 (b .north)
+  pub south : EdgeStands s (at + 3) 2 (b .south)
+  pub west : EdgeStands s (at + 6) 3 (b .west)
+  pub east : EdgeStands s (at + 10) 3 (b .east)
+
+-- a list from a place on: its count, and its entries in their order; that unused entries are zero is said of every record that is read
+pub record BoxesStand (s : List ℕ) (at : ℕ) (l : Boxes) : Type 0 where
+  pub count : l .count ≡ numberAt s at 2
+  pub boxes : (i : ℕ) → i < numberAt s at 2 → BoxStands s (at + 2 + 14 * i) (getD (l .regions) i noRegion)
+
+-- four bytes for each airfield
+pub record AirfieldsStand (s : List ℕ) (at : ℕ) (l : Airfields) : Type 0 where
+  pub count : l .count ≡ numberAt s at 2
+  pub names : (i : ℕ) → i < 4 * numberAt s at 2 → getD (l .names) i 0 ≡ getD s (at + 2 + i) 0
+
 -- section 2, which begins at p
 pub record Regions (s : List ℕ) (p : ℕ) (c : Command) : Type 0 where
-  pub reporting : c .settings .regions .reporting ≡ boxesAt s p
-  pub inhibiting : c .settings .regions .inhibiting ≡ boxesAt s (pastBoxes s p)
+  pub reporting : BoxesStand s p (c .settings .regions .reporting)
+  pub inhibiting : BoxesStand s (pastBoxes s p) (c .settings .regions .inhibiting)
 
 -- section 3: four lists, ascent selected, descent selected, ascent inhibited, descent inhibited; routine
 pub record Airports (s : List ℕ) (p : ℕ) (c : Command) : Type 0 where
-  pub ascent-selected : c .settings .airports .selected .ascent ≡ airfieldsAt s p
-  pub descent-selected : c .settings .airports .selected .descent ≡ airfieldsAt s (pastAirfields s p)
-  pub ascent-inhibited : c .settings .airports .inhibited .ascent ≡ airfieldsAt s (pastAirfields s (pastAirfields s p))
-  pub descent-inhibited : c .settings .airports .inhibited .descent
-      ≡ airfieldsAt s (pastAirfields s (pastAirfields s (pastAirfields s p)))
+  pub ascent-selected : AirfieldsStand s p (c .settings .airports .selected .ascent)
+  pub descent-selected : AirfieldsStand s (pastAirfields s p) (c .settings .airports .selected .descent)
+  pub ascent-inhibited : AirfieldsStand s (pastAirfields s (pastAirfields s p)) (c .settings .airports .inhibited .ascent)
+  pub descent-inhibited :
+      AirfieldsStand s (pastAirfields s (pastAirfields s (pastAirfields s p))) (c .settings .airports .inhibited .descent)
   pub routine : c .settings .airports .routine
       ≡ numberAt s (pastAirfields s (pastAirfields s (pastAirfields s (pastAirfields s p)))) 1
 
