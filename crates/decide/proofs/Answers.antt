@@ -1,62 +1,89 @@
 -- What is decided follows "Whether to report" sentence by sentence.
-use mathlib.Core.Path.{_≡_, _∙_}
+use mathlib.Core.Path.{_≡_, refl, _∙_}
 use mathlib.Core.Logic.{_⊎_, inl, inr}
-use mathlib.Core.Bool.{cond, _&&_}
+use mathlib.Core.Bool.{Bool, true, false, cond, _&&_, _||_}
 use mathlib.Core.List.{List}
 use Prim.Native.Nat.{ℕ, _<_}
 use native.Mathlib.Omega.{arith}
-use lib.Dec.{eqb}
+use lib.Dec.{ltb, eqb}
 use lib.Signed.{mag}
+use borrow.Author.Tests.{ne-eqb, eqb-true, eqb-false}
+use Rattle.text.proofs.Cases.{by-test}
 use Rattle.lists.specs.declared.Boxes.{Boxes}
 use Rattle.section.specs.declared.Settings.{Settings}
-use Rattle.decide.specs.Decide.{Question, amdar, inhibit, regions, inWindow, inAny, outside, admits, profile, byPhase, decisionFor, decided}
-use Rattle.decide.specs.Steps.{silenced}
-use Rattle.decide.specs.Words.{Amdar, InhibitHours, Regions, flagOf, InRange, SomeHolds, Has, Own, ofAscent, ofDescent}
+use Rattle.decide.specs.Question.{Question}
+use Rattle.decide.specs.Tests.{inWindow, minutes, firstHolding, has}
+use Rattle.decide.specs.Reason.{decisionOf, inhibitingBox, noReportingBox, isSilent, schemeReason, orRoutine, routineBy, phaseReason, reasonFor, explained, decided}
+use Rattle.decide.specs.Words.{Amdar, InhibitHours, Regions, Airports, flagOf, InRange, SomeHolds, Has, Own, ofAscent, ofDescent}
 use Rattle.decide.specs.Rules.{Window, Inhibiting, Reporting, Heard, Admitted, TurnedAway, switchedOff, inhibited, notSelected, Profile, Rules, Answers}
 use Rattle.decide.specs.declared.Decision.{Decision}
-use Rattle.decide.specs.declared.Decision.the-variants.{Silent}
+use Rattle.decide.specs.declared.Decision.the-variants.{Silent, Routine, Scheme}
+use Rattle.decide.specs.declared.Reason.{Reason}
+use Rattle.decide.proofs.First.{some-said, none-said}
 use Rattle.decide.proofs.Order.{silent-first}
 use Rattle.decide.proofs.Position.{in-span}
 use Rattle.decide.proofs.Sound.{SoundBoxes, Sound, sound}
-use Rattle.decide.proofs.Tests.{Says, says-no, reworded, not-said, both-said, either-said, lt-said, eq-said}
-use Rattle.decide.proofs.Words.{window-said, some-said, has-said, range-said, airfield-said}
+use Rattle.decide.proofs.Tests.{Says, says-no, reworded, not-said, never-said, both-said, either-said, lt-said, eq-said}
+use Rattle.decide.proofs.Words.{window-said, has-said, range-said, airfield-said}
+
+-- ---- Silence, and the digit that makes it routine
+
+silent-is : (d : Decision) → isSilent d ≡ true → d ≡ Silent
+silent-is Silent e = refl
+silent-is Routine e = let z : _≡_ {A = ℕ} 0 1 = cc in absurd (omega arith)
+silent-is Scheme e = let z : _≡_ {A = ℕ} 0 1 = cc in absurd (omega arith)
+
+module _ (section : ℕ) (r : Reason) (quiet : isSilent (decisionOf r) ≡ true) where
+  digit-on : decisionOf (orRoutine section 1 r) ≡ Routine
+  digit-on = rw quiet
+
+  digit-off : decisionOf (orRoutine section 0 r) ≡ Silent
+  digit-off = rw quiet (silent-is (decisionOf r) quiet)
 
 -- ---- Ascent and descent, by what the phase has of its own
 
-module _ (x : Settings) (own : Own) (airfield : List ℕ) where
+-- the flag is not the enroute flag
+module _ (x : Settings) (number section : ℕ) (other : eqb number 6 ≡ false) (own : Own) (airfield : List ℕ) where
+  -- the scheme, or what stands against it
+  abbrev scheme : Reason
+  scheme = schemeReason (flagOf x Airports) number (own .flag) (own .selected) (own .inhibited) airfield
+
   -- what is decided for the phase
   abbrev decision : Decision
-  decision = profile x (own .flag) (own .selected) (own .inhibited) (own .section) airfield
+  decision = decisionOf (routineBy (flagOf x Airports) section (own .section) (x .airports .routine) scheme)
 
-  -- the test that admits an airfield says what the words say
-  admitted-said : Says (eqb (own .flag) 1 && admits (own .selected) (own .inhibited) airfield) (Admitted own airfield)
-  admitted-said =
-      reworded
-      (both-said (eq-said (own .flag) 1)
-      (both-said (not-said (has-said airfield (own .inhibited)))
-      (either-said (eq-said (own .selected .count) 0) (has-said airfield (own .selected)))))
-      (λ p. record { flag = p .0; inhibited = p .1 .0; selected = p .1 .1 }) (λ a. (a .flag, (a .inhibited, a .selected)))
+  -- the test of the selected list says what the words say
+  selected-said : Says (eqb (own .selected .count) 0 || has (own .selected) airfield) ((own .selected .count ≡ 0) ⊎ Has (own .selected) airfield)
+  selected-said = either-said (eq-said (own .selected .count) 0) (has-said airfield (own .selected))
 
-  -- what is turned away is not admitted
-  turned-away : TurnedAway own airfield → ¬ Admitted own airfield
-  turned-away (switchedOff e) a = omega (arith, a .flag)
-  turned-away (inhibited h) a = a .inhibited h
-  turned-away (notSelected n h) a = neither (a .selected)
-    where
-      neither : (own .selected .count ≡ 0) ⊎ Has (own .selected) airfield → ⊥
-      neither (inl e) = omega arith
-      neither (inr g) = h g
+  -- what is turned away flies no scheme
+  turned-away : flagOf x Airports ≡ 1 → TurnedAway own airfield → isSilent (decisionOf scheme) ≡ true
+  unfolding schemeReason
+  turned-away z (switchedOff e) = rw e
+  turned-away z (inhibited h) =
+      by-test (eqb (own .flag) 1) (λ t. rw (t, z, has-said airfield (own .inhibited) .so-yes h)) (λ t. rw t)
+  turned-away z (notSelected n h) =
+      by-test (eqb (own .flag) 1)
+      (λ t.
+      by-test (has (own .inhibited) airfield) (λ i. rw (t, z, i))
+      (λ i. rw (t, z, i, ne-eqb (own .selected .count) 0 (λ e. omega arith), says-no (has-said airfield (own .selected)) h)))
+      (λ t. rw t)
+
+  -- with airports 1 section 3's digit decides
+  listed : flagOf x Airports ≡ 1 → decision ≡ decisionOf (orRoutine 3 (x .airports .routine) scheme)
+  listed z = rw (ne-eqb (flagOf x Airports) 0 (λ (e : flagOf x Airports ≡ 0). omega (arith, z)))
 
   -- the phase is decided as its sentences say
   profile-follows : Profile x own airfield decision
+  unfolding schemeReason
   profile-follows =
       record {
-        scheme = λ z f. rw (z, f);
+        scheme = λ z f. rw (z, f, other, other);
         routine = λ z f e. rw (z, f, e);
         silent = λ z f e. rw (z, f, e);
-        listed-scheme = λ z a. rw (z, admitted-said .so-yes a);
-        listed-routine = λ z t e. rw (z, says-no admitted-said (turned-away t), e);
-        listed-silent = λ z t e. rw (z, says-no admitted-said (turned-away t), e);
+        listed-scheme = λ z a. rw (z, a .flag, says-no (has-said airfield (own .inhibited)) (a .inhibited), selected-said .so-yes (a .selected), other, other);
+        listed-routine = λ z t e. listed z ∙ rw e (digit-on 3 scheme (turned-away z t));
+        listed-silent = λ z t e. listed z ∙ rw e (digit-off 3 scheme (turned-away z t));
       }
 
 -- ---- The rules in order
@@ -69,29 +96,49 @@ module _ (x : Settings) (q : Question) (ok : Sound x) (r : InRange q) where
   pub window-holds : Says (inWindow (x .hours .start) (x .hours .end) (q .hour)) (Window x q)
   window-holds = window-said (x .hours .start) (x .hours .end) (q .hour) (ok .hours .0) (ok .hours .1) (r .hour)
 
-  boxes-hold : (l : Boxes) → SoundBoxes l → Says (inAny l (q .north) (q .east)) (SomeHolds l (q .north) (q .east))
-  boxes-hold l b = some-said (q .north) (q .east) (small .0) (small .1) l (b .boxes)
+  pub inhibiting-holds : Says (ltb 0 (firstHolding (x .regions .inhibiting) (minutes (q .north)) (minutes (q .east)))) (Inhibiting x q)
+  inhibiting-holds = some-said (q .north) (q .east) (small .0) (small .1) (x .regions .inhibiting) (ok .regions .inhibiting .boxes)
 
-  pub inhibiting-holds : Says (inAny (x .regions .inhibiting) (q .north) (q .east)) (Inhibiting x q)
-  inhibiting-holds = boxes-hold (x .regions .inhibiting) (ok .regions .inhibiting)
+  pub reporting-holds : Says (ltb 0 (firstHolding (x .regions .reporting) (minutes (q .north)) (minutes (q .east)))) (Reporting x q)
+  reporting-holds = some-said (q .north) (q .east) (small .0) (small .1) (x .regions .reporting) (ok .regions .reporting .boxes)
 
-  pub reporting-holds : Says (inAny (x .regions .reporting) (q .north) (q .east)) (Reporting x q)
-  reporting-holds = boxes-hold (x .regions .reporting) (ok .regions .reporting)
+  -- the tests of section 2 as the rules have them
+  abbrev inside : ℕ
+  inside = inhibitingBox (flagOf x Regions) (x .regions .inhibiting) (minutes (q .north)) (minutes (q .east))
 
-  -- the position is inside an inhibiting box, or reporting boxes exist and none holds it
-  abbrev Outside : Type 0
-  Outside = Inhibiting x q ⊎ ((0 < x .regions .reporting .count) × ¬ Reporting x q)
+  abbrev outside : Bool
+  outside = noReportingBox (flagOf x Regions) (x .regions .reporting) (minutes (q .north)) (minutes (q .east))
+
+  inside-said : Says (ltb 0 inside) ((flagOf x Regions ≡ 1) × Inhibiting x q)
+  unfolding inhibitingBox
+  inside-said =
+      by-test (eqb (flagOf x Regions) 1)
+      (λ t. rw t (reworded inhibiting-holds (λ i. (eqb-true (flagOf x Regions) 1 t, i)) (λ p. p .1)))
+      (λ t. rw t (never-said (λ p. eqb-false (flagOf x Regions) 1 t (p .0))))
+
+  outside-said : Says outside ((flagOf x Regions ≡ 1) × ((0 < x .regions .reporting .count) × ¬ Reporting x q))
+  unfolding noReportingBox
+  outside-said =
+      both-said (eq-said (flagOf x Regions) 1)
+      (both-said (lt-said 0 (x .regions .reporting .count))
+      (none-said (q .north) (q .east) (small .0) (small .1) (x .regions .reporting) (ok .regions .reporting .boxes)))
 
   -- what silences every phase
-  abbrev Quiet : Type 0
-  Quiet = (flagOf x Amdar ≡ 0) ⊎ (((flagOf x InhibitHours ≡ 1) × Window x q) ⊎ ((flagOf x Regions ≡ 1) × Outside))
+  abbrev silenced : Bool
+  silenced =
+      eqb (flagOf x Amdar) 0
+      || ((eqb (flagOf x InhibitHours) 1 && inWindow (x .hours .start) (x .hours .end) (q .hour)) || (ltb 0 inside || outside))
 
-  quiet-said : Says (silenced x (q .north) (q .east) (q .hour)) Quiet
+  abbrev Quiet : Type 0
+  Quiet =
+      (flagOf x Amdar ≡ 0)
+      ⊎ (((flagOf x InhibitHours ≡ 1) × Window x q)
+      ⊎ (((flagOf x Regions ≡ 1) × Inhibiting x q) ⊎ ((flagOf x Regions ≡ 1) × ((0 < x .regions .reporting .count) × ¬ Reporting x q))))
+
+  quiet-said : Says silenced Quiet
   quiet-said =
-      either-said (eq-said (amdar x) 0)
-      (either-said (both-said (eq-said (inhibit x) 1) window-holds)
-      (both-said (eq-said (regions x) 1)
-      (either-said inhibiting-holds (both-said (lt-said 0 (x .regions .reporting .count)) (not-said reporting-holds)))))
+      either-said (eq-said (flagOf x Amdar) 0)
+      (either-said (both-said (eq-said (flagOf x InhibitHours) 1) window-holds) (either-said inside-said outside-said))
 
   heard-loud : Heard x q → ¬ Quiet
   heard-loud h (inl e) = omega (arith, h .amdar)
@@ -100,49 +147,53 @@ module _ (x : Settings) (q : Question) (ok : Sound x) (r : InRange q) where
       in-window : (flagOf x InhibitHours ≡ 0) ⊎ ¬ Window x q → ⊥
       in-window (inl e) = omega (arith, p .0)
       in-window (inr n) = n (p .1)
-  heard-loud h (inr (inr p)) = in-places (h .places) (p .1)
+  heard-loud h (inr (inr p)) = in-places (h .places) p
     where
-      in-places : (flagOf x Regions ≡ 0) ⊎ (¬ Inhibiting x q × ((x .regions .reporting .count ≡ 0) ⊎ Reporting x q)) → Outside → ⊥
-      in-places (inl e) o = omega (arith, p .0)
-      in-places (inr (n, b)) (inl i) = n i
-      in-places (inr (n, inl e)) (inr o) = omega (arith, o .0)
-      in-places (inr (n, inr b)) (inr o) = o .1 b
+      in-places : (flagOf x Regions ≡ 0) ⊎ (¬ Inhibiting x q × ((x .regions .reporting .count ≡ 0) ⊎ Reporting x q))
+          → ((flagOf x Regions ≡ 1) × Inhibiting x q) ⊎ ((flagOf x Regions ≡ 1) × ((0 < x .regions .reporting .count) × ¬ Reporting x q)) → ⊥
+      in-places (inl e) (inl o) = omega (arith, o .0)
+      in-places (inl e) (inr o) = omega (arith, o .0)
+      in-places (inr (n, b)) (inl o) = n (o .1)
+      in-places (inr (n, inl e)) (inr o) = omega (arith, o .1 .0)
+      in-places (inr (n, inr b)) (inr o) = o .1 .1 b
 
-  in-order : decisionFor x q ≡ cond (silenced x (q .north) (q .east) (q .hour)) Silent (byPhase x q)
-  unfolding decisionFor
+  in-order : decisionOf (reasonFor x q) ≡ cond silenced Silent (decisionOf (phaseReason x (q .phase) (q .airfield)))
+  unfolding reasonFor
   in-order =
-      silent-first (eqb (amdar x) 0) (eqb (inhibit x) 1 && inWindow (x .hours .start) (x .hours .end) (q .hour))
-      (eqb (regions x) 1 && outside x (q .north) (q .east)) (byPhase x q)
+      silent-first (eqb (flagOf x Amdar) 0) (eqb (flagOf x InhibitHours) 1 && inWindow (x .hours .start) (x .hours .end) (q .hour))
+      (ltb 0 inside) outside inside (phaseReason x (q .phase) (q .airfield))
 
-  quiet-silent : Quiet → decisionFor x q ≡ Silent
+  quiet-silent : Quiet → decisionOf (reasonFor x q) ≡ Silent
   quiet-silent e = in-order ∙ rw (quiet-said .so-yes e)
 
   -- where nothing silences the aircraft, its phase decides
-  heard : {d : Decision} → Heard x q → byPhase x q ≡ d → decisionFor x q ≡ d
+  heard : {d : Decision} → Heard x q → decisionOf (phaseReason x (q .phase) (q .airfield)) ≡ d → decisionOf (reasonFor x q) ≡ d
   heard h e = in-order ∙ rw (says-no quiet-said (heard-loud h)) e
 
   -- a question in range is decided as the sentences say
-  rules-follow : Rules x q (decisionFor x q)
+  rules-follow : Rules x q (decisionOf (reasonFor x q))
+  unfolding phaseReason
   rules-follow =
       record {
         amdar-off = λ e. quiet-silent (inl e);
         in-window = λ o w. quiet-silent (inr (inl (o, w)));
-        in-inhibiting = λ o i. quiet-silent (inr (inr (o, inl i)));
-        in-no-reporting = λ o s n. quiet-silent (inr (inr (o, inr (s, n))));
+        in-inhibiting = λ o i. quiet-silent (inr (inr (inl (o, i))));
+        in-no-reporting = λ o s n. quiet-silent (inr (inr (inr (o, (s, n)))));
         level = λ h p. record { on = λ e. heard h (rw (p, e)); off = λ e. heard h (rw (p, e)) };
-        ascent = λ h p. by-own h (ofAscent x) (rw p);
-        descent = λ h p. by-own h (ofDescent x) (rw p);
+        ascent = λ h p. by-own h 5 6 refl (ofAscent x) (rw p);
+        descent = λ h p. by-own h 7 8 refl (ofDescent x) (rw p);
       }
     where
-      by-own : Heard x q → (own : Own) → byPhase x q ≡ decision x own (q .airfield)
-          → Profile x own (q .airfield) (decisionFor x q)
-      by-own h own e = rw (heard h e) (profile-follows x own (q .airfield))
+      by-own : Heard x q → (number section : ℕ) (other : eqb number 6 ≡ false) (own : Own)
+          → decisionOf (phaseReason x (q .phase) (q .airfield)) ≡ decision x number section other own (q .airfield)
+          → Profile x own (q .airfield) (decisionOf (reasonFor x q))
+      by-own h number section other own e = rw (heard h e) (profile-follows x number section other own (q .airfield))
 
 -- ---- The theorem
 
 -- every question to every configuration is answered as document 01 says
 pub answers : (x : Settings) (q : Question) → Answers x q (decided x q)
-unfolding decided
+unfolding decided explained
 answers x q =
     record {
       twelve = λ v. rw v;
@@ -150,7 +201,7 @@ answers x q =
       four = λ v r n. rw (v, range-said q .so-yes r, says-no (airfield-said (q .airfield)) n);
       decided = λ v r a.
           record {
-            decision = decisionFor x q;
+            decision = decisionOf (reasonFor x q);
             is = rw (v, range-said q .so-yes r, airfield-said (q .airfield) .so-yes a);
             rules = rules-follow x q (sound x v) r;
           };

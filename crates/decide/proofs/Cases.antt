@@ -17,7 +17,9 @@ use Rattle.section.specs.Contents.{Content, Amount, Names, Areas, contentsAllow
 use Rattle.section.specs.Settings.{contentsOf, settingsFrom, regionsFrom, airportsFrom, enrouteFrom, ascentFrom, hoursFrom}
 use Rattle.section.specs.declared.Settings.{Settings}
 use Rattle.config.specs.Config.{resetHolds, reset, flagsValid, sectionsValid, valid}
-use Rattle.decide.specs.Decide.{Question, holds, anyHolds, hasAirfield, decisionFor, decided}
+use Rattle.decide.specs.Question.{Question}
+use Rattle.decide.specs.Tests.{holds, firstFrom, hasAirfield}
+use Rattle.decide.specs.Reason.{inhibitingBox, noReportingBox, schemeReason, phaseReason, reasonFor, explained, decided}
 use Rattle.decide.specs.declared.Decided.{Decided}
 use Rattle.decide.specs.declared.Decided.the-variants.{Is, Refused}
 use Rattle.decide.specs.declared.Decision.the-variants.{Silent, Routine, Scheme}
@@ -133,5 +135,5 @@ cases =
 
 -- every case is decided as the table says
 pub all-cases : map (λ (c : Case). decided (c .held) (c .asked)) cases ≡ map (λ (c : Case). c .answer) cases
-unfolding cases reset decided decisionFor holds anyHolds hasAirfield valid flagsValid sectionsValid settingsFrom contentsOf contentsAllowed layoutOf regionsFrom airportsFrom enrouteFrom ascentFrom hoursFrom airfieldsAllowed allZero namesAllowed boxesAllowed regionsZero regionsAllowed regionAllowed edgeAllowed lineOf sameBytes allowed allAllowed
+unfolding cases reset decided explained reasonFor phaseReason schemeReason inhibitingBox noReportingBox holds firstFrom hasAirfield valid flagsValid sectionsValid settingsFrom contentsOf contentsAllowed layoutOf regionsFrom airportsFrom enrouteFrom ascentFrom hoursFrom airfieldsAllowed allZero namesAllowed boxesAllowed regionsZero regionsAllowed regionAllowed edgeAllowed lineOf sameBytes allowed allAllowed
 all-cases = refl

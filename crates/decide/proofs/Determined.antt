@@ -7,7 +7,7 @@ use native.Mathlib.Omega.{arith}
 use Rattle.text.proofs.Cases.{by-test, by-eq}
 use Rattle.section.specs.declared.Settings.{Settings}
 use Rattle.config.specs.Config.{valid}
-use Rattle.decide.specs.Decide.{Question}
+use Rattle.decide.specs.Question.{Question}
 use Rattle.decide.specs.Words.{Amdar, InhibitHours, Regions, Airports, Enroute, flagOf, InRange, Own, ofAscent, ofDescent}
 use Rattle.decide.specs.Rules.{Window, Heard, Level, Admitted, TurnedAway, switchedOff, inhibited, notSelected, Profile, Rules, Answers}
 use Rattle.decide.specs.declared.Decision.the-variants.{Silent, Routine, Scheme}

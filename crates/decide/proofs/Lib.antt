@@ -2,6 +2,7 @@
 pub mod Answers
 pub mod Cases
 pub mod Determined
+pub mod First
 pub mod Inside
 pub mod Listed
 pub mod Order

@@ -11,7 +11,7 @@ use lib.Seq.{take-all, drop-drop}
 use Rattle.text.specs.Equal.{sameBytes}
 use Rattle.text.specs.Table.{values}
 use Rattle.text.proofs.Parts.{part-bytes}
-use Rattle.decide.specs.Decide.{hasAirfield}
+use Rattle.decide.specs.Tests.{hasAirfield}
 
 -- four bytes one by one
 pub four : (l : List ℕ) → length l ≡ 4 → l ≡ values (λ i. getD l i 0) 0 4

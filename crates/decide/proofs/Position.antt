@@ -6,7 +6,8 @@ use native.Mathlib.Omega.{arith}
 use lib.Dec.{leb→le, lit<}
 use lib.IntN.{ℤ, pos, negsuc}
 use lib.Signed.{mag, _≤ℤ_}
-use Rattle.decide.specs.Decide.{Question, inRange}
+use Rattle.decide.specs.Question.{Question}
+use Rattle.decide.specs.Tests.{inRange}
 use Rattle.decide.proofs.Words.{range-said}
 
 -- from -(low + 1) up to high

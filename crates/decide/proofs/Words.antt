@@ -16,15 +16,15 @@ use Rattle.text.specs.Parts.{part}
 use Rattle.text.proofs.Cases.{by-le, by-lt, by-test}
 use Rattle.text.proofs.Equal.{same-equal, equal-same}
 use Rattle.packed.specs.Packed.{above}
-use Rattle.field.specs.Boxes.{latitude, longitude, lineOf, noRegion}
+use Rattle.field.specs.Boxes.{latitude, longitude, lineOf}
 use Rattle.field.specs.declared.Circle.{Circle}
 use Rattle.field.specs.declared.Edge.{Edge}
 use Rattle.field.specs.declared.Region.{Region}
 use Rattle.field.proofs.RoundTrip.{Allowed, AllowedBox}
 use Rattle.lists.specs.declared.Airfields.{Airfields}
-use Rattle.lists.specs.declared.Boxes.{Boxes}
-use Rattle.decide.specs.Decide.{Question, inWindow, minutes, holds, anyHolds, inAny, hasAirfield, has, inRange, isAirfield}
-use Rattle.decide.specs.Words.{InRange, AllowedByte, FourAllowed, InWindow, liesAt, Holds, SomeHolds, Has}
+use Rattle.decide.specs.Question.{Question}
+use Rattle.decide.specs.Tests.{inWindow, minutes, holds, hasAirfield, has, inRange, isAirfield}
+use Rattle.decide.specs.Words.{InRange, AllowedByte, FourAllowed, InWindow, liesAt, Holds, Has}
 use Rattle.decide.proofs.Tests.{Says, never-said, reworded, both-said, either-said, le-said, lt-said, eq-said, leZ-said}
 
 -- ---- The window
@@ -157,7 +157,7 @@ module _ (c : Circle) (most : c .most ≤ 180)
 
 module _ (n e : ℤ) (small : mag n < 60000) (little : mag e < 60000) where
   -- whether a box holds the position
-  holds-said : (b : Region) → AllowedBox b → Says (holds b n e) (Holds b n e)
+  pub holds-said : (b : Region) → AllowedBox b → Says (holds b (minutes n) (minutes e)) (Holds b n e)
   unfolding holds
   holds-said b ok =
       reworded
@@ -169,40 +169,6 @@ module _ (n e : ℤ) (small : mag n < 60000) (little : mag e < 60000) where
       (to-said longitude (omega arith) refl refl (b .east) (ok .east) e little))
       (λ p. record { south = p .0 .0 .0; north = p .0 .0 .1; west = p .0 .1; east = p .1 })
       (λ h. (((h .south, h .north), h .west), h .east))
-
-  -- the first box of a list, or one behind it
-  some-in : (k : ℕ) (b : Region) (bs : List Region) → Holds b n e ⊎ SomeHolds (record { count = k; regions = bs }) n e
-      → SomeHolds (record { count = suc k; regions = b ∷ bs }) n e
-  some-in k b bs (inl h) = record { which = 0; counted = omega arith; there = omega arith; holds = h }
-  some-in k b bs (inr w) = record { which = suc (w .which); counted = omega arith; there = omega arith; holds = w .holds }
-
-  some-out : (k : ℕ) (b : Region) (bs : List Region) → SomeHolds (record { count = suc k; regions = b ∷ bs }) n e
-      → Holds b n e ⊎ SomeHolds (record { count = k; regions = bs }) n e
-  some-out k b bs w = at (w .which) (w .counted) (w .there) (w .holds)
-    where
-      at : (i : ℕ) → i < suc k → i < length (b ∷ bs) → Holds (getD (b ∷ bs) i noRegion) n e
-          → Holds b n e ⊎ SomeHolds (record { count = k; regions = bs }) n e
-      at zero l m h = inl h
-      at (suc i) l m h = inr (record { which = i; counted = omega arith; there = omega arith; holds = h })
-
-  -- whether one of the first k boxes does
-  boxes-said : (k : ℕ) (bs : List Region) → ((i : ℕ) → i < k → i < length bs → AllowedBox (getD bs i noRegion))
-      → Says (anyHolds (take k bs) n e) (SomeHolds (record { count = k; regions = bs }) n e)
-  unfolding anyHolds
-  boxes-said zero bs ok = never-said (λ (w : SomeHolds (record { count = 0; regions = bs }) n e). omega (arith, w .counted))
-  boxes-said (suc k) [] ok =
-      never-said (λ (w : SomeHolds (record { count = suc k; regions = [] }) n e). omega (arith, w .there))
-  boxes-said (suc k) (b ∷ bs) ok =
-      reworded
-      (either-said (holds-said b (ok 0 (omega arith) (omega arith)))
-      (boxes-said k bs (λ i l m. ok (suc i) (omega arith) (omega arith))))
-      (some-in k b bs) (some-out k b bs)
-
-  -- whether a box of a list holds the position
-  pub some-said : (l : Boxes)
-      → ((i : ℕ) → i < l .count → i < length (l .regions) → AllowedBox (getD (l .regions) i noRegion))
-      → Says (inAny l n e) (SomeHolds l n e)
-  some-said l ok = boxes-said (l .count) (l .regions) ok
 
 -- ---- Airfields
 

@@ -1,4 +1,5 @@
-pub mod Decide
+pub mod Question
+pub mod Reason
 pub mod Rules
-pub mod Steps
+pub mod Tests
 pub mod Words

@@ -7,7 +7,7 @@ use mathlib.Core.List.{List}
 use Prim.Native.Nat.{ℕ, _<_}
 use Rattle.section.specs.declared.Settings.{Settings}
 use Rattle.config.specs.Config.{valid}
-use Rattle.decide.specs.Decide.{Question}
+use Rattle.decide.specs.Question.{Question}
 use Rattle.decide.specs.Words.{
   Amdar,
   InhibitHours,

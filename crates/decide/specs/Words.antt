@@ -1,5 +1,5 @@
--- The words of document 01, "Whether to report", each said by itself: none of what decides (Decide) is used here, so
--- that a rule that is wrong there is refused also where the code agrees with it.
+-- The words of document 01, "Whether to report", each said by itself: none of what decides (Tests, Reason) is used here,
+-- so that a rule that is wrong there is refused also where the code agrees with it.
 use mathlib.Core.Path.{_≡_}
 use mathlib.Core.Logic.{_⊎_}
 use mathlib.Core.Bool.{cond, _||_}
@@ -16,7 +16,7 @@ use Rattle.field.specs.declared.Region.{Region}
 use Rattle.lists.specs.declared.Airfields.{Airfields}
 use Rattle.lists.specs.declared.Boxes.{Boxes}
 use Rattle.section.specs.declared.Settings.{Settings}
-use Rattle.decide.specs.Decide.{Question}
+use Rattle.decide.specs.Question.{Question}
 
 -- ---- "Seven flags: AMDAR, inhibit hours, regions, airports, ascent, enroute, descent"
 

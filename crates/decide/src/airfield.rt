@@ -1,15 +1,15 @@
 // The airfield against the lists of section 3.
+use crate::Reason;
 use field::record::wide;
 use lists::Airfields;
 use text::all_allowed;
 ghost use mathlib.Core.Path.{_≡_};
-ghost use mathlib.Core.Bool.{_&&_};
 ghost use mathlib.Core.List.{_∷_, []};
 ghost use Prim.Native.Nat.{_≤_};
-ghost use lib.Dec.{eqb};
 ghost use lib.ListN.{length};
 ghost use Rattle.text.specs.Equal.{sameBytes};
-ghost use Rattle.decide.specs.Decide.{isAirfield, has, admits};
+ghost use Rattle.decide.specs.Tests.{isAirfield, has};
+ghost use Rattle.decide.specs.Reason.{schemeReason};
 
 // Four allowed bytes.
 pub fn is_airfield(s: &[u8]) -> bool
@@ -53,19 +53,32 @@ fn has_name(l: Airfields, name: [u8; 4]) -> bool
     false
 }
 
-// The phase's flag is 1, the airfield isn't inhibited, and the selected list is empty or has it.
-pub fn is_admitted(flag: u8, selected: Airfields, inhibited: Airfields, name: [u8; 4]) -> bool
+// A scheme by the phase's flag, or the first thing that stands against it. The lists count with the airports flag alone.
+pub fn scheme_reason(
+    airports: u8,
+    number: u8,
+    flag: u8,
+    selected: Airfields,
+    inhibited: Airfields,
+    name: [u8; 4],
+) -> Reason
     requires { ⌜ (selected .count ≤ 20) × (inhibited .count ≤ 20) ⌝ }
-    ensures { λ r. ⌜ r ≡ (eqb flag 1 && admits selected inhibited name) ⌝ }
+    ensures { λ r. ⌜ r ≡ schemeReason airports number flag selected inhibited name ⌝ }
 {
     if flag != 1 {
-        return false;
+        return Reason::FlagOff(number);
+    }
+    if airports == 0 {
+        return Reason::FlagOn(number);
     }
     if has_name(inhibited, name) {
-        return false;
+        return Reason::AirfieldInhibited;
     }
     if selected.count == 0 {
-        return true;
+        return Reason::FlagOn(number);
     }
-    has_name(selected, name)
+    if has_name(selected, name) {
+        return Reason::FlagOn(number);
+    }
+    Reason::AirfieldNotSelected
 }

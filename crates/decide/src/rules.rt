@@ -1,23 +1,25 @@
-// The rules in their order, and the refusals before them.
+// The rules in their order, as the first reason that holds, and the refusals before them. The decision is read off the reason.
 use crate::Decided;
 use crate::Decision;
-use crate::airfield::is_admitted;
+use crate::Explained;
+use crate::Reason;
 use crate::airfield::is_airfield;
 use crate::airfield::name_of;
-use crate::area::is_outside;
+use crate::airfield::scheme_reason;
+use crate::boxes::inhibiting_box;
+use crate::boxes::minutes_of;
+use crate::boxes::no_reporting_box;
 use crate::window::in_window;
 use config::settings::is_valid;
-use lists::Airfields;
 use section::Settings;
 ghost use mathlib.Core.Path.{_≡_};
 ghost use mathlib.Core.Bool.{true};
 ghost use mathlib.Core.List.{[]};
-ghost use Prim.Native.Nat.{_≤_, _<_};
-ghost use lib.IntN.{pos};
+ghost use Prim.Native.Nat.{_<_};
 ghost use lib.Signed.{mag};
 ghost use Rattle.config.specs.Config.{valid};
-ghost use Rattle.decide.specs.Decide.{routineIf, byPhase, decisionFor, inRange, decided};
-ghost use Rattle.decide.specs.Steps.{profileBy, silenced};
+ghost use Rattle.decide.specs.Tests.{inRange};
+ghost use Rattle.decide.specs.Reason.{byFlag, decisionOf, isSilent, orRoutine, routineBy, phaseReason, reasonFor, explained, decidedBy, decided};
 
 // Phase, hour and position: a first observation's limits. Gathered: any of them is 5.
 fn in_range(phase: u8, north: i32, east: i32, hour: u8) -> bool
@@ -31,50 +33,73 @@ fn in_range(phase: u8, north: i32, east: i32, hour: u8) -> bool
         & (east <= 10800)
 }
 
-fn routine_if(digit: u8) -> Decision
-    ensures { λ r. ⌜ r ≡ routineIf digit ⌝ }
+// An enroute flag of 1 is routine, an ascent or descent flag of 1 a scheme.
+fn by_flag(flag: u8) -> Decision
+    ensures { λ r. ⌜ r ≡ byFlag flag ⌝ }
 {
-    if digit == 1 {
+    if flag == 6 {
         return Decision::Routine;
     }
-    Decision::Silent
+    Decision::Scheme
 }
 
-// Ascent, or descent alike. Without airports its own section says whether it is routine, with them section 3.
-fn profile(
-    airports: u8,
-    flag: u8,
-    selected: Airfields,
-    inhibited: Airfields,
-    without: u8,
-    with: u8,
-    name: [u8; 4],
-) -> Decision
-    requires { ⌜ (selected .count ≤ 20) × (inhibited .count ≤ 20) ⌝ }
-    ensures { λ r. ⌜ r ≡ profileBy airports flag selected inhibited without with name ⌝ }
+fn decision_of(reason: Reason) -> Decision
+    ensures { λ r. ⌜ r ≡ decisionOf reason ⌝ }
+{
+    match reason {
+        Reason::AmdarOff => Decision::Silent,
+        Reason::Hours => Decision::Silent,
+        Reason::InhibitingBox(_) => Decision::Silent,
+        Reason::NoReportingBox => Decision::Silent,
+        Reason::FlagOn(flag) => by_flag(flag),
+        Reason::Digit(_) => Decision::Routine,
+        Reason::FlagOff(_) => Decision::Silent,
+        Reason::AirfieldInhibited => Decision::Silent,
+        Reason::AirfieldNotSelected => Decision::Silent,
+    }
+}
+
+fn is_silent(decision: Decision) -> bool
+    ensures { λ r. ⌜ r ≡ isSilent decision ⌝ }
+{
+    match decision {
+        Decision::Silent => true,
+        Decision::Routine => false,
+        Decision::Scheme => false,
+    }
+}
+
+// Where no scheme is flown, a digit of 1 makes silence routine.
+fn or_routine(section: u8, digit: u8, reason: Reason) -> Reason
+    ensures { λ r. ⌜ r ≡ orRoutine section digit reason ⌝ }
+{
+    if is_silent(decision_of(reason)) & (digit == 1) {
+        return Reason::Digit(section);
+    }
+    reason
+}
+
+// Without airports the phase's own section says whether it is routine, with them section 3.
+fn routine_by(airports: u8, section: u8, own: u8, third: u8, reason: Reason) -> Reason
+    ensures { λ r. ⌜ r ≡ routineBy airports section own third reason ⌝ }
 {
     if airports == 0 {
-        if flag == 1 {
-            return Decision::Scheme;
-        }
-        return routine_if(without);
+        return or_routine(section, own, reason);
     }
-    if is_admitted(flag, selected, inhibited, name) {
-        return Decision::Scheme;
-    }
-    routine_if(with)
+    or_routine(3, third, reason)
 }
 
 // The enroute flag alone decides level flight. Position and hour play no part in any phase.
-fn by_phase(x: Settings, phase: u8, name: [u8; 4]) -> Decision
+fn phase_reason(x: Settings, phase: u8, name: [u8; 4]) -> Reason
     requires { ⌜ valid x ≡ true ⌝ }
-    ensures { λ r. ⌜
-        r ≡ byPhase x (record { phase = phase; north = pos 0; east = pos 0; hour = 0; airfield = name })
-        ⌝ }
+    ensures { λ r. ⌜ r ≡ phaseReason x phase name ⌝ }
 {
     let flags = x.flags;
     if phase == 1 {
-        return routine_if(flags[5]);
+        if flags[5] == 1 {
+            return Reason::FlagOn(6);
+        }
+        return Reason::FlagOff(6);
     }
     let airports = x.airports;
     let selected = airports.selected;
@@ -82,78 +107,84 @@ fn by_phase(x: Settings, phase: u8, name: [u8; 4]) -> Decision
     if phase == 0 {
         let ours = selected.ascent;
         let barred = inhibited.ascent;
-        return profile(
-            flags[3],
-            flags[4],
-            ours,
-            barred,
-            x.routine6,
-            airports.routine,
-            name,
-        );
+        let reason = scheme_reason(flags[3], 5, flags[4], ours, barred, name);
+        return routine_by(flags[3], 6, x.routine6, airports.routine, reason);
     }
     let ours = selected.descent;
     let barred = inhibited.descent;
-    profile(
-        flags[3],
-        flags[6],
-        ours,
-        barred,
-        x.routine8,
-        airports.routine,
-        name,
-    )
+    let reason = scheme_reason(flags[3], 7, flags[6], ours, barred, name);
+    routine_by(flags[3], 8, x.routine8, airports.routine, reason)
 }
 
-// AMDAR 0, an hour in the window, a position outside: each silences every phase.
-fn is_silenced(x: Settings, north: i32, east: i32, hour: u8) -> bool
+fn reason_for(x: Settings, phase: u8, north: i32, east: i32, hour: u8, name: [u8; 4]) -> Reason
     requires { ⌜ valid x ≡ true ⌝ }
     requires { ⌜ (mag north < 60000) × (mag east < 60000) ⌝ }
-    ensures { λ r. ⌜ r ≡ silenced x north east hour ⌝ }
+    ensures { λ r. ⌜
+        r ≡ reasonFor x (record { phase = phase; north = north; east = east; hour = hour; airfield = name })
+        ⌝ }
 {
     let flags = x.flags;
     let hours = x.hours;
     if flags[0] == 0 {
-        return true;
+        return Reason::AmdarOff;
     }
     if (flags[1] == 1) & in_window(hours.start, hours.end, hour) {
-        return true;
+        return Reason::Hours;
     }
-    if flags[2] != 1 {
-        return false;
-    }
+    let n = minutes_of(north);
+    let e = minutes_of(east);
     let regions = x.regions;
-    is_outside(regions, north, east)
-}
-
-fn decision_for(x: Settings, phase: u8, north: i32, east: i32, hour: u8, name: [u8; 4]) -> Decision
-    requires { ⌜ valid x ≡ true ⌝ }
-    requires { ⌜ (mag north < 60000) × (mag east < 60000) ⌝ }
-    ensures { λ r. ⌜
-        r ≡ decisionFor x (record { phase = phase; north = north; east = east; hour = hour; airfield = name })
-        ⌝ }
-{
-    if is_silenced(x, north, east, hour) {
-        return Decision::Silent;
+    let inhibiting = regions.inhibiting;
+    let number = inhibiting_box(flags[2], inhibiting, n, e);
+    if number != 0 {
+        return Reason::InhibitingBox(number);
     }
-    by_phase(x, phase, name)
+    let reporting = regions.reporting;
+    if no_reporting_box(flags[2], reporting, n, e) {
+        return Reason::NoReportingBox;
+    }
+    phase_reason(x, phase, name)
 }
 
 // A configuration that isn't valid is 12; then 5 for phase, hour or position; then 4 for the airfield, in every phase.
+pub fn explain(
+    x: Settings,
+    phase: u8,
+    north: i32,
+    east: i32,
+    hour: u8,
+    airfield: &[u8],
+) -> Explained
+    ensures { λ r. ⌜
+        r ≡ explained x (record { phase = phase; north = north; east = east; hour = hour; airfield = now (airfield .entry) })
+        ⌝ }
+{
+    if !is_valid(x) {
+        return Explained::Refusal(12);
+    }
+    if !in_range(phase, north, east, hour) {
+        return Explained::Refusal(5);
+    }
+    if !is_airfield(airfield) {
+        return Explained::Refusal(4);
+    }
+    let name = name_of(airfield);
+    Explained::Because(reason_for(x, phase, north, east, hour, name))
+}
+
+fn decided_by(e: Explained) -> Decided
+    ensures { λ r. ⌜ r ≡ decidedBy e ⌝ }
+{
+    match e {
+        Explained::Because(reason) => Decided::Is(decision_of(reason)),
+        Explained::Refusal(code) => Decided::Refused(code),
+    }
+}
+
 pub fn decide(x: Settings, phase: u8, north: i32, east: i32, hour: u8, airfield: &[u8]) -> Decided
     ensures { λ r. ⌜
         r ≡ decided x (record { phase = phase; north = north; east = east; hour = hour; airfield = now (airfield .entry) })
         ⌝ }
 {
-    if !is_valid(x) {
-        return Decided::Refused(12);
-    }
-    if !in_range(phase, north, east, hour) {
-        return Decided::Refused(5);
-    }
-    if !is_airfield(airfield) {
-        return Decided::Refused(4);
-    }
-    let name = name_of(airfield);
-    Decided::Is(decision_for(x, phase, north, east, hour, name))
+    decided_by(explain(x, phase, north, east, hour, airfield))
 }

@@ -5,7 +5,7 @@ use decide::Decision;
 use decide::rules::decide;
 use section::Settings;
 ghost use mathlib.Core.Path.{_≡_};
-ghost use Rattle.decide.specs.Decide.{decided};
+ghost use Rattle.decide.specs.Reason.{decided};
 ghost use Rattle.desk.specs.Decisions.{decisionNumber, hostDecided, decidedNumbers};
 
 fn number_of(decision: Decision) -> u8

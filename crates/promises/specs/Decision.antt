@@ -3,7 +3,8 @@
 use mathlib.Core.Path.{_≡_}
 use Prim.Native.Nat.{ℕ}
 use Rattle.section.specs.declared.Settings.{Settings}
-use Rattle.decide.specs.Decide.{Question, decided}
+use Rattle.decide.specs.Question.{Question}
+use Rattle.decide.specs.Reason.{decided}
 use Rattle.decide.specs.Rules.{Answers}
 use Rattle.decide.specs.declared.Decided.{Decided}
 use Rattle.decide.specs.declared.Decided.the-variants.{Is, Refused}

@@ -8,7 +8,7 @@ use mathlib.Core.List.{List}
 use Prim.Native.Nat.{ℕ, _+_, _-_, _*_, _≤_}
 use lib.ListN.{length, take, drop}
 use Rattle.text.specs.Equal.{sameBytes}
-use Rattle.decide.specs.Decide.{hasAirfield}
+use Rattle.decide.specs.Tests.{hasAirfield}
 use Rattle.decide.proofs.Listed.{name-at, has-turn, has-stop, has-end}
 
 abbrev Inv-loop : tie.InvT-loop

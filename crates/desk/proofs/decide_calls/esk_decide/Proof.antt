@@ -43,7 +43,7 @@ use denote.Exit.{yes}
 use Rattle.section.specs.declared.Settings.{Settings}
 use Rattle.section.proofs.Settings as T
 use Rattle.section.proofs.Settings.Laws as T′
-use Rattle.decide.specs.Decide.{decided}
+use Rattle.decide.specs.Reason.{decided}
 use Rattle.desk.specs.Decisions.{decidedNumbers}
 use Rattle.desk.specs.declared.HostDecided.{HostDecided}
 use Rattle.desk.proofs.HostDecided as N
