@@ -37,10 +37,10 @@ fn in_range(phase: u8, north: i32, east: i32, hour: u8) -> bool
 fn by_flag(flag: u8) -> Decision
     ensures { λ r. ⌜ r ≡ byFlag flag ⌝ }
 {
-    if flag == 6 {
-        return Decision::Routine;
+    match flag {
+        6 => Decision::Routine,
+        _ => Decision::Scheme,
     }
-    Decision::Scheme
 }
 
 fn decision_of(reason: Reason) -> Decision
