@@ -17,18 +17,17 @@ use Rattle.command.specs.Text.{longest, checkCommand}
 use Rattle.command.proofs.Accepted.{longest-is, accepted}
 use Rattle.join.specs.Join.{Joined, Joins, Refuses, joinText, join}
 use Rattle.join.proofs.Laws.{join-short}
-use Rattle.board.specs.Board.{isDesignator, Place, nowhere, isFree, isFor, any, lowest, waiting, isValid, Move, Stay, Put, Free, onSeen, placed, add, takeOut}
+use Rattle.board.specs.Board.{isDesignator, Place, nowhere, isFree, isFor, any, lowest, waiting, isValid, Move, Stay, Put, Free, placed, handedOut, add, takeOut}
 use Rattle.board.specs.Lent.{boardOf, lengthsFit, isShaped, addLent, takeLent, isValidLent, noSlot, onSlots}
-use Rattle.board.specs.Survey.{wantedBy, startOf, scanFrom, scanned, fitsAt, waitsAt, joinsTo, ownMove, freeMove, placedMove, addMove, takeMove, doneOf}
+use Rattle.board.specs.Survey.{wantedBy, startOf, scanFrom, scanned, fitsAt, waitsAt, joinsTo, ownMove, freeMove, placedMove, handedMove, addMove, takeMove, doneOf}
 use Rattle.board.specs.declared.Slot.{Slot}
 use Rattle.board.specs.declared.Survey.{Survey}
 use Rattle.board.specs.declared.Wanted.{Wanted}
 use Rattle.board.proofs.Places.{never, for-who, lowest-passes, lowest-inside, inside-any}
 use Rattle.board.proofs.Valid.{waiting-fine}
 use Rattle.board.proofs.Steps.{is-fine}
-use Rattle.board.specs.History.{Add, Take}
-use Rattle.board.proofs.Calls.{call-move, call-ten}
 use Rattle.board.proofs.Lent.{Shape, shape, length-board, slot-at, text-at, fit-at}
+use Rattle.board.proofs.Turn.{turn-all, placing-all, handing-all, turn-same, placing-same, handing-same, turn-shaped}
 use Rattle.board.proofs.Scanned.{cond-true, cond-false, stays-bad, valid-all, scan-count, Owns, scan-own, scan-free}
 
 -- some place passes exactly where the lowest is one of the board
@@ -55,21 +54,6 @@ shape-false false e f v h = refl
 join-is : (s t : List ℕ) → checkCommand s ≡ Fine → checkCommand t ≡ Fine → join s t 835 ≡ Joins (joinText s t)
 unfolding join
 join-is s t e f = rw (e, f, le-leb (length (joinText s t)) 835 (join-short s t e f))
-
--- what is done once the board is valid and the designator well formed
-abbrev takenMove : Survey → Wanted → List ℕ → ℕ → Move
-takenMove v w area room =
-    cond (ltb (v .own) (v .count))
-    (cond (leb (v .length) room)
-    (cond (fitsAt (v .own) (v .length) (length area)) (Free (v .own) (waitsAt v area)) (Stay 10 0))
-    (Stay 2 0))
-    (Stay 11 0)
-
-abbrev takenBy : List Place → List ℕ → ℕ → Move
-takenBy b d room =
-    cond (any (isFor d) b)
-    (cond (leb (length (waiting d b)) room) (Free (lowest (isFor d) b) (waiting d b)) (Stay 2 0))
-    (Stay 11 0)
 
 module _ (area : List ℕ) (w : Wanted) (xs : List Slot) where
   abbrev v : Survey
@@ -203,44 +187,22 @@ module _ (area : List ℕ) (w : Wanted) (xs : List Slot) where
 
     placed-is : (t : List ℕ) → checkCommand t ≡ Fine → placedMove v w area t ≡ placed b (w .designator) t
     placed-is t e =
-        let own = ownMove v w area t in
-        let free = freeMove v w area t in
-        let joined = Put (lowest (isFor (w .designator)) b) (w .designator) (joinText (waiting (w .designator) b) t) in
-        let put = Put (lowest isFree b) (w .designator) t in
-        by-test (any (isFor (w .designator)) b)
-        (λ (k : any (isFor (w .designator)) b ≡ true).
-        cond-true (ltb (v .own) (v .count)) own (cond (ltb (v .free) (v .count)) free (Stay 9 0)) (own-any ∙ k)
-        ∙ own-move k t e
-        ∙ sym (cond-true (any (isFor (w .designator)) b) joined (cond (any isFree b) put (Stay 9 0)) k))
-        (λ (k : any (isFor (w .designator)) b ≡ false).
-        cond-false (ltb (v .own) (v .count)) own (cond (ltb (v .free) (v .count)) free (Stay 9 0)) (own-any ∙ k)
-        ∙ by-test (any isFree b)
-        (λ (f : any isFree b ≡ true).
-        cond-true (ltb (v .free) (v .count)) free (Stay 9 0) (free-any ∙ f)
-        ∙ free-move t e f
-        ∙ sym (cond-true (any isFree b) put (Stay 9 0) f))
-        (λ (f : any isFree b ≡ false).
-        cond-false (ltb (v .free) (v .count)) free (Stay 9 0) (free-any ∙ f) ∙ sym (cond-false (any isFree b) put (Stay 9 0) f))
-        ∙ sym (cond-false (any (isFor (w .designator)) b) joined (cond (any isFree b) put (Stay 9 0)) k))
+        placing-same Stay (ltb (v .own) (v .count)) (any (isFor (w .designator)) b) (ltb (v .free) (v .count)) (any isFree b)
+        (ownMove v w area t) (Put (lowest (isFor (w .designator)) b) (w .designator) (joinText (waiting (w .designator) b) t))
+        (freeMove v w area t) (Put (lowest isFree b) (w .designator) t) own-any free-any
+        (λ k. own-move (sym own-any ∙ k) t e) (λ k f. free-move t e (sym free-any ∙ f))
 
-    taken-is : (room : ℕ) → takenMove v w area room ≡ takenBy b (w .designator) room
-    taken-is room =
+    handed-is : (room : ℕ) → handedMove v area room ≡ handedOut b (w .designator) room
+    handed-is room =
         let d = w .designator in
         let out = Free (v .own) (waitsAt v area) in
-        let inner = cond (fitsAt (v .own) (v .length) (length area)) out (Stay 10 0) in
-        let given = Free (lowest (isFor d) b) (waiting d b) in
-        by-test (any (isFor d) b)
-        (λ (k : any (isFor d) b ≡ true).
-        cond-true (ltb (v .own) (v .count)) (cond (leb (v .length) room) inner (Stay 2 0)) (Stay 11 0) (own-any ∙ k)
-        ∙ ap (λ (m : Move). cond (leb (v .length) room) m (Stay 2 0))
-        (cond-true (fitsAt (v .own) (v .length) (length area)) out (Stay 10 0) (own-fits k)
-        ∙ ap (λ (s : List ℕ). Free (v .own) s) (waits-is k)
+        handing-same Stay (ltb (v .own) (v .count)) (any (isFor d) b) (leb (v .length) room) (leb (length (waiting d b)) room)
+        (cond (fitsAt (v .own) (v .length) (length area)) out (Stay 10 0)) (Free (lowest (isFor d) b) (waiting d b)) own-any
+        (λ k. ap (λ (n : ℕ). leb n room) (sym (waits-length (sym own-any ∙ k))))
+        (λ k f.
+        cond-true (fitsAt (v .own) (v .length) (length area)) out (Stay 10 0) (own-fits (sym own-any ∙ k))
+        ∙ ap (λ (s : List ℕ). Free (v .own) s) (waits-is (sym own-any ∙ k))
         ∙ ap (λ (n : ℕ). Free n (waiting d b)) own-is)
-        ∙ ap (λ (n : ℕ). cond (leb n room) given (Stay 2 0)) (sym (waits-length k))
-        ∙ sym (cond-true (any (isFor d) b) (cond (leb (length (waiting d b)) room) given (Stay 2 0)) (Stay 11 0) k))
-        (λ (k : any (isFor d) b ≡ false).
-        cond-false (ltb (v .own) (v .count)) (cond (leb (v .length) room) inner (Stay 2 0)) (Stay 11 0) (own-any ∙ k)
-        ∙ sym (cond-false (any (isFor d) b) (cond (leb (length (waiting d b)) room) given (Stay 2 0)) (Stay 11 0) k))
 
 -- ---- The calls
 
@@ -249,13 +211,10 @@ wanted-fine : (d : List ℕ) → isDesignator d ≡ true → (wantedBy d .design
 unfolding wantedBy
 wanted-fine d e = rw e (refl, refl)
 
-wanted-not : (d : List ℕ) → isDesignator d ≡ false → wantedBy d .fine ≡ false
+-- and it is asked for just where it is
+wanted-is : (d : List ℕ) → wantedBy d .fine ≡ isDesignator d
 unfolding wantedBy
-wanted-not d e = rw e
-
-seen-same : (s : Seen) (m n : Move) → (s ≡ Fine → m ≡ n) → onSeen s m ≡ onSeen s n
-seen-same Fine m n e = e refl
-seen-same (Bad code place) m n e = refl
+wanted-is d = by-test (isDesignator d) (λ e. rw e) (λ e. rw e)
 
 module _ (area : List ℕ) (xs : List Slot) (d : List ℕ) where
   abbrev wanted : Wanted
@@ -267,57 +226,29 @@ module _ (area : List ℕ) (xs : List Slot) (d : List ℕ) where
   abbrev board : List Place
   board = boardOf xs area
 
+  -- the designator is the one asked for
+  asked-is : wanted .fine ≡ true → wanted .designator ≡ d
+  asked-is n = wanted-fine d (sym (wanted-is d) ∙ n) .0
+
   -- what adding does
   pub add-is : (t : List ℕ) → addMove found wanted area t ≡ addLent xs area d t
-  unfolding addMove add
+  unfolding addMove addLent add isValidLent
   add-is t =
-      let s = checkCommand t in
-      let mine = placedMove found wanted area t in
-      let asked = cond (wanted .fine) (onSeen s mine) (Stay 4 0) in
-      let told = cond (isDesignator d) (onSeen s (placed board d t)) (Stay 4 0) in
-      by-test (isValidLent xs area)
-      (λ (h : isValidLent xs area ≡ true).
-      cond-true (found .valid) asked (Stay 10 0) (valid-is area wanted xs ∙ h)
-      ∙ by-test (isDesignator d)
-      (λ (e : isDesignator d ≡ true).
-      let f = wanted-fine d e in
-      cond-true (wanted .fine) (onSeen s mine) (Stay 4 0) (f .1)
-      ∙ seen-same s mine (placed board d t) (λ z. placed-is area wanted xs h t z ∙ ap (λ (q : List ℕ). placed board q t) (f .0))
-      ∙ sym (cond-true (isDesignator d) (onSeen s (placed board d t)) (Stay 4 0) e))
-      (λ (e : isDesignator d ≡ false).
-      cond-false (wanted .fine) (onSeen s mine) (Stay 4 0) (wanted-not d e)
-      ∙ sym (cond-false (isDesignator d) (onSeen s (placed board d t)) (Stay 4 0) e))
-      ∙ sym (cond-true (isValid board) told (Stay 10 0) (sound area wanted xs h))
-      ∙ sym (call-move (record { slots = xs; area = area }) (Add d t) (shaped area wanted xs h)))
-      (λ (h : isValidLent xs area ≡ false).
-      cond-false (found .valid) asked (Stay 10 0) (valid-is area wanted xs ∙ h)
-      ∙ sym (call-ten (record { slots = xs; area = area }) (Add d t) h))
+      turn-same Stay (found .valid) (isValidLent xs area) (wanted .fine) (isDesignator d) (checkCommand t)
+      (placedMove found wanted area t) (placed board d t) (valid-is area wanted xs) (wanted-is d)
+      (λ h n s.
+      placed-is area wanted xs (sym (valid-is area wanted xs) ∙ h) t s ∙ ap (λ (q : List ℕ). placed board q t) (asked-is n))
+      ∙ sym (turn-shaped Stay (isShaped xs area) (isValid board) (isDesignator d) (checkCommand t) (placed board d t))
 
   -- what taking does
   pub take-is : (room : ℕ) → takeMove found wanted area room ≡ takeLent xs area d room
-  unfolding takeMove takeOut
+  unfolding takeMove takeLent takeOut isValidLent
   take-is room =
-      let mine = takenMove found wanted area room in
-      let asked = cond (wanted .fine) mine (Stay 4 0) in
-      let told = cond (isDesignator d) (takenBy board d room) (Stay 4 0) in
-      by-test (isValidLent xs area)
-      (λ (h : isValidLent xs area ≡ true).
-      cond-true (found .valid) asked (Stay 10 0) (valid-is area wanted xs ∙ h)
-      ∙ by-test (isDesignator d)
-      (λ (e : isDesignator d ≡ true).
-      let f = wanted-fine d e in
-      cond-true (wanted .fine) mine (Stay 4 0) (f .1)
-      ∙ taken-is area wanted xs h room
-      ∙ ap (λ (q : List ℕ). takenBy board q room) (f .0)
-      ∙ sym (cond-true (isDesignator d) (takenBy board d room) (Stay 4 0) e))
-      (λ (e : isDesignator d ≡ false).
-      cond-false (wanted .fine) mine (Stay 4 0) (wanted-not d e)
-      ∙ sym (cond-false (isDesignator d) (takenBy board d room) (Stay 4 0) e))
-      ∙ sym (cond-true (isValid board) told (Stay 10 0) (sound area wanted xs h))
-      ∙ sym (call-move (record { slots = xs; area = area }) (Take d room) (shaped area wanted xs h)))
-      (λ (h : isValidLent xs area ≡ false).
-      cond-false (found .valid) asked (Stay 10 0) (valid-is area wanted xs ∙ h)
-      ∙ sym (call-ten (record { slots = xs; area = area }) (Take d room) h))
+      turn-same Stay (found .valid) (isValidLent xs area) (wanted .fine) (isDesignator d) Fine
+      (handedMove found area room) (handedOut board d room) (valid-is area wanted xs) (wanted-is d)
+      (λ h n s.
+      handed-is area wanted xs (sym (valid-is area wanted xs) ∙ h) room ∙ ap (λ (q : List ℕ). handedOut board q room) (asked-is n))
+      ∙ sym (turn-shaped Stay (isShaped xs area) (isValid board) (isDesignator d) Fine (handedOut board d room))
 
 -- ---- The slot that is stored
 
@@ -343,10 +274,6 @@ joins-agree : (w : Wanted) (xs : List Slot) (j : Joined) (i : ℕ) → Agrees w 
 joins-agree w xs (Joins t) i = refl
 joins-agree w xs (Refuses code place which) i = tt
 
-seen-agree : (w : Wanted) (xs : List Slot) (s : Seen) (m : Move) → Agrees w xs m → Agrees w xs (onSeen s m)
-seen-agree w xs Fine m e = e
-seen-agree w xs (Bad code place) m e = tt
-
 module _ (v : Survey) (w : Wanted) (area : List ℕ) (xs : List Slot) where
   own-agrees : (t : List ℕ) → Agrees w xs (ownMove v w area t)
   unfolding ownMove
@@ -362,33 +289,25 @@ module _ (v : Survey) (w : Wanted) (area : List ℕ) (xs : List Slot) where
   add-agrees : (t : List ℕ) → Agrees w xs (addMove v w area t)
   unfolding addMove
   add-agrees t =
-      agrees-cond w xs (v .valid) (cond (w .fine) (onSeen (checkCommand t) (placedMove v w area t)) (Stay 4 0)) (Stay 10 0)
-      (λ z. agrees-cond w xs (w .fine) (onSeen (checkCommand t) (placedMove v w area t)) (Stay 4 0)
-      (λ y. seen-agree w xs (checkCommand t) (placedMove v w area t)
-      (agrees-cond w xs (ltb (v .own) (v .count)) (ownMove v w area t) (cond (ltb (v .free) (v .count)) (freeMove v w area t) (Stay 9 0))
-      (λ x. own-agrees t)
-      (λ x. agrees-cond w xs (ltb (v .free) (v .count)) (freeMove v w area t) (Stay 9 0) (λ u. free-agrees t) (λ u. tt))))
-      (λ y. tt))
-      (λ z. tt)
+      turn-all (Agrees w xs) Stay (v .valid) (w .fine) (checkCommand t) (placedMove v w area t) tt tt (λ code place e. tt)
+      (λ h n s.
+      placing-all (Agrees w xs) Stay (ltb (v .own) (v .count)) (ltb (v .free) (v .count)) (ownMove v w area t) (freeMove v w area t)
+      tt (λ k. own-agrees t) (λ k f. free-agrees t))
 
 take-agrees : (area : List ℕ) (w : Wanted) (xs : List Slot) (room : ℕ) → Agrees w xs (takeMove (scanned area w xs) w area room)
 unfolding takeMove
 take-agrees area w xs room =
     let v = scanned area w xs in
     let out = cond (fitsAt (v .own) (v .length) (length area)) (Free (v .own) (waitsAt v area)) (Stay 10 0) in
-    agrees-cond w xs (v .valid) (cond (w .fine) (takenMove v w area room) (Stay 4 0)) (Stay 10 0)
-    (λ h. agrees-cond w xs (w .fine) (takenMove v w area room) (Stay 4 0)
-    (λ f. agrees-cond w xs (ltb (v .own) (v .count)) (cond (leb (v .length) room) out (Stay 2 0)) (Stay 11 0)
-    (λ k. agrees-cond w xs (leb (v .length) room) out (Stay 2 0)
-    (λ r. agrees-cond w xs (fitsAt (v .own) (v .length) (length area)) (Free (v .own) (waitsAt v area)) (Stay 10 0)
+    turn-all (Agrees w xs) Stay (v .valid) (w .fine) Fine (handedMove v area room) tt tt (λ code place e. tt)
+    (λ h n s.
+    handing-all (Agrees w xs) Stay (ltb (v .own) (v .count)) (leb (v .length) room) out tt tt
+    (λ k r.
+    agrees-cond w xs (fitsAt (v .own) (v .length) (length area)) (Free (v .own) (waitsAt v area)) (Stay 10 0)
     (λ g.
     let valid = sym (valid-is area w xs) ∙ h in
     ap (λ (i : ℕ). getD xs i noSlot .designator) (own-is area w xs valid) ∙ who-is area w xs valid (sym (own-any area w xs valid) ∙ k))
-    (λ g. tt))
-    (λ r. tt))
-    (λ k. tt))
-    (λ f. tt))
-    (λ h. tt)
+    (λ g. tt)))
 
 -- ---- For the calls over the lent slots
 

@@ -12,13 +12,14 @@ use Rattle.text.specs.declared.Seen.the-variants.{Fine, Bad}
 use Rattle.text.proofs.Cases.{by-test, both-left, both-right}
 use Rattle.command.specs.Text.{longest, checkCommand}
 use Rattle.join.specs.Join.{joinText}
-use Rattle.board.specs.Board.{isDesignator, Place, isFree, isFor, any, waiting, isValid, Move, Stay, onSeen, placed, add, takeOut, onBoard, replyOf}
+use Rattle.board.specs.Board.{isDesignator, Place, isFree, isFor, any, lowest, waiting, isValid, Move, Stay, Put, Free, placed, handedOut, add, takeOut, onBoard, replyOf}
 use Rattle.board.specs.History.{Event, Add, Take, move, after, logged, isEmptyBoard, calledFor}
 use Rattle.board.specs.Lent.{boardOf, isShaped, addLent, takeLent, isValidLent, onSlots, onArea}
 use Rattle.board.specs.Calls.{Lent, boardIn, call, onLent, afterCalls, loggedCalls, allFree, Demand3Lent}
 use Rattle.board.specs.declared.Slot.{Slot}
 use Rattle.board.proofs.Places.{lowest-inside}
 use Rattle.board.proofs.Valid.{waiting-fine}
+use Rattle.board.proofs.Turn.{turn-all, placing-all, handing-all}
 use Rattle.board.proofs.Steps.{joins}
 use Rattle.board.proofs.Joined.{accepted-short}
 use Rattle.board.proofs.Demand.{demand3}
@@ -30,26 +31,18 @@ use Rattle.board.proofs.Lent.{shape, shaped, length-board, Sits, moved,
 pub sits : (b : List Place) (e : Event) → Sits (length b) (move b e)
 unfolding add takeOut
 sits b (Add d t) =
-    by-test (isValid b) (λ v. rw v (by-test (isDesignator d) (λ n. rw n (go v (checkCommand t) refl)) (λ n. rw n tt))) (λ v. rw v tt)
-  where
-    go : isValid b ≡ true → (s : Seen) → checkCommand t ≡ s → Sits (length b) (onSeen s (placed b d t))
-    go v (Bad code place) k = tt
-    go v Fine k =
-        let f : isFine (checkCommand t) ≡ true = rw k in
-        by-test (any (isFor d) b)
-        (λ h. rw h
-        (lowest-inside (isFor d) b h, accepted-short (joinText (waiting d b) t) (joins (waiting d b) t (waiting-fine d b v h) f)))
-        (λ h. rw h (by-test (any isFree b) (λ g. rw g (lowest-inside isFree b g, accepted-short t f)) (λ g. rw g tt)))
+    turn-all (Sits (length b)) Stay (isValid b) (isDesignator d) (checkCommand t) (placed b d t) tt tt (λ code place k. tt)
+    (λ v n s.
+    let f : isFine (checkCommand t) ≡ true = rw s in
+    placing-all (Sits (length b)) Stay (any (isFor d) b) (any isFree b) (Put (lowest (isFor d) b) d (joinText (waiting d b) t))
+    (Put (lowest isFree b) d t) tt
+    (λ h. (lowest-inside (isFor d) b h, accepted-short (joinText (waiting d b) t) (joins (waiting d b) t (waiting-fine d b v h) f)))
+    (λ h g. (lowest-inside isFree b g, accepted-short t f)))
 sits b (Take d room) =
-    by-test (isValid b)
-    (λ v. rw v
-    (by-test (isDesignator d)
-    (λ n. rw n
-    (by-test (any (isFor d) b)
-    (λ h. rw h (by-test (leb (length (waiting d b)) room) (λ l. rw l (lowest-inside (isFor d) b h)) (λ l. rw l tt)))
-    (λ h. rw h tt)))
-    (λ n. rw n tt)))
-    (λ v. rw v tt)
+    turn-all (Sits (length b)) Stay (isValid b) (isDesignator d) Fine (handedOut b d room) tt tt (λ code place k. tt)
+    (λ v n s.
+    handing-all (Sits (length b)) Stay (any (isFor d) b) (leb (length (waiting d b)) room) (Free (lowest (isFor d) b) (waiting d b)) tt
+    tt (λ h l. lowest-inside (isFor d) b h))
 
 -- on what is shaped a call is the event on the board
 pub call-move : (x : Lent) (e : Event) → isShaped (x .slots) (x .area) ≡ true → call x e ≡ move (boardIn x) e

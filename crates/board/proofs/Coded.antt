@@ -11,10 +11,11 @@ use Rattle.text.specs.declared.Seen.the-variants.{Fine, Bad}
 use Rattle.command.specs.Text.{checkCommand}
 use Rattle.command.proofs.Codes.{check-coded}
 use Rattle.join.specs.Join.{joinText}
-use Rattle.board.specs.Board.{isDesignator, Place, isFree, isFor, any, lowest, waiting, isValid, Move, Stay, Put, Free, onSeen, placed, add, takeOut}
+use Rattle.board.specs.Board.{isDesignator, Place, isFree, isFor, any, lowest, waiting, isValid, Move, Stay, Put, Free, placed, handedOut, add, takeOut}
 use Rattle.board.specs.History.{Event, Add, Take}
 use Rattle.board.specs.Lent.{isShaped, addLent, takeLent, onArea}
 use Rattle.board.specs.Calls.{Lent, boardIn, call}
+use Rattle.board.proofs.Turn.{turn-all, placing-all, handing-all}
 
 -- what holds of both ways holds of a choice
 either : (P : Move → Type 0) (t : Bool) (m n : Move) → P m → P n → P (cond t m n)
@@ -30,17 +31,11 @@ Coded (Free i t) = Unit
 add-coded : (b : List Place) (d t : List ℕ) → Coded (add b d t)
 unfolding add
 add-coded b d t =
-    either Coded (isValid b) (cond (isDesignator d) (onSeen (checkCommand t) (placed b d t)) (Stay 4 0)) (Stay 10 0)
-    (either Coded (isDesignator d) (onSeen (checkCommand t) (placed b d t)) (Stay 4 0) (go (checkCommand t) refl) (omega arith))
-    (omega arith)
-  where
-    go : (s : Seen) → checkCommand t ≡ s → Coded (onSeen s (placed b d t))
-    go (Bad code place) k = check-coded t code place k .0
-    go Fine k =
-        let joined = Put (lowest (isFor d) b) d (joinText (waiting d b) t) in
-        let put = Put (lowest isFree b) d t in
-        either Coded (any (isFor d) b) joined (cond (any isFree b) put (Stay 9 0)) tt
-        (either Coded (any isFree b) put (Stay 9 0) tt (omega arith))
+    turn-all Coded Stay (isValid b) (isDesignator d) (checkCommand t) (placed b d t) (omega arith) (omega arith)
+    (λ code place k. check-coded t code place k .0)
+    (λ v n s.
+    placing-all Coded Stay (any (isFor d) b) (any isFree b) (Put (lowest (isFor d) b) d (joinText (waiting d b) t))
+    (Put (lowest isFree b) d t) (omega arith) (λ k. tt) (λ k f. tt))
 
 -- a taking hands over or is refused
 abbrev Hands : Move → Type 0
@@ -49,16 +44,14 @@ Hands m = Coded m × ((area : List ℕ) → onArea m area ≡ area)
 take-hands : (b : List Place) (d : List ℕ) (room : ℕ) → Hands (takeOut b d room)
 unfolding takeOut
 take-hands b d room =
-    let out = Free (lowest (isFor d) b) (waiting d b) in
-    let fits = cond (leb (length (waiting d b)) room) out (Stay 2 0) in
-    let waits = cond (any (isFor d) b) fits (Stay 11 0) in
-    either Hands (isValid b) (cond (isDesignator d) waits (Stay 4 0)) (Stay 10 0)
-    (either Hands (isDesignator d) waits (Stay 4 0)
-    (either Hands (any (isFor d) b) fits (Stay 11 0)
-    (either Hands (leb (length (waiting d b)) room) out (Stay 2 0) (tt, λ area. refl) (omega arith, λ area. refl))
-    (omega arith, λ area. refl))
-    (omega arith, λ area. refl))
-    (omega arith, λ area. refl)
+    turn-all Hands Stay (isValid b) (isDesignator d) Fine (handedOut b d room) (omega arith, λ area. refl)
+    (omega arith, λ area. refl) (λ code place k. never-bad k)
+    (λ v n s.
+    handing-all Hands Stay (any (isFor d) b) (leb (length (waiting d b)) room) (Free (lowest (isFor d) b) (waiting d b))
+    (omega arith, λ area. refl) (omega arith, λ area. refl) (λ k l. (tt, λ area. refl)))
+  where
+    never-bad : {code place : ℕ} → Fine ≡ Bad code place → Hands (Stay code place)
+    never-bad e = let z : _≡_ {A = ℕ} 0 1 = cc in absurd (omega arith)
 
 -- no call is refused with code 0
 pub call-coded : (x : Lent) (e : Event) → Coded (call x e)

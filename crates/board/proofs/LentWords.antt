@@ -18,7 +18,7 @@ use Rattle.text.proofs.Equal.{same-equal, equal-same}
 use Rattle.command.specs.Text.{longest, checkCommand}
 use Rattle.command.proofs.Accepted.{longest-is}
 use Rattle.join.specs.Join.{joinText}
-use Rattle.board.specs.Board.{isDesignator, Place, nowhere, isNone, isFree, isFor, any, lowest, waiting, isValid, Stay, Put, onSeen, add}
+use Rattle.board.specs.Board.{isDesignator, Place, nowhere, isNone, isFree, isFor, any, lowest, waiting, isValid, Stay, Put, inTurn, placing, add}
 use Rattle.board.specs.History.{Add}
 use Rattle.board.specs.Lent.{boardOf, lengthsFit, isShaped, addLent, isValidLent}
 use Rattle.board.specs.Words.{slotAt, InUse, textIn, WellFormed, ValidBoard, IsOwn, Adds}
@@ -193,7 +193,7 @@ module _ (xs : List Slot) (area d t : List ℕ) (i : ℕ) (e w : List ℕ) (k : 
 
   -- a text is put for the aircraft that was asked for
   put-for : (v n : Bool) (s : Seen) (own free : Bool) (p q : ℕ) (x : List ℕ)
-      → cond v (cond n (onSeen s (cond own (Put p d x) (cond free (Put q d t) (Stay 9 0)))) (Stay 4 0)) (Stay 10 0) ≡ Put i e w
+      → inTurn Stay v n s (placing Stay own free (Put p d x) (Put q d t)) ≡ Put i e w
       → e ≡ d
   put-for true true Fine true free p q x r = cc
   put-for true true Fine false true p q x r = cc

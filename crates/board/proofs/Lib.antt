@@ -1,5 +1,6 @@
 -- The laws that the layers above cite.
 pub mod Places
+pub mod Turn
 pub mod Valid
 pub mod Steps
 pub mod Slots

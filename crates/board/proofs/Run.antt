@@ -10,8 +10,8 @@ use Rattle.text.specs.declared.Seen.{Seen}
 use Rattle.text.specs.declared.Seen.the-variants.{Fine, Bad}
 use Rattle.text.proofs.Cases.{by-test, both-left, both-right}
 use Rattle.command.specs.Text.{checkCommand}
-use Rattle.board.specs.Board.{isDesignator, Place, isNone, isFree, any, waiting, isSound, isValid, Move, Stay, Put, Free, onBoard, Reply, Given, Refused, replyOf}
-use Rattle.board.specs.History.{Event, Add, Take, Entry, aircraft, heard, sinceFrom, since, onto, joined, move, after, logged, isEmptyBoard, toldSeen, due}
+use Rattle.board.specs.Board.{isDesignator, Place, isNone, isFree, any, waiting, isSound, isValid, inTurn, placing, Move, Stay, Put, Free, onBoard, Reply, Given, Refused, replyOf}
+use Rattle.board.specs.History.{Event, Add, Take, Entry, aircraft, heard, sinceFrom, since, onto, joined, move, after, logged, isEmptyBoard, due}
 use Rattle.board.proofs.Places.{both, waiting-cons, free-for}
 use Rattle.board.proofs.Steps.{next, right}
 use Rattle.board.proofs.Joined.{allFine, fine-snoc}
@@ -50,7 +50,7 @@ joined-heard d cs (Add e t) (Refused code place) = refl
 joined-heard d cs (Take e room) (Given w) = by-test (sameBytes d e) (λ y. rw y) (λ n. rw n)
 joined-heard d cs (Take e room) (Refused code place) = refl
 
-given-fine : (n : Bool) (s : Seen) (r : Reply) (w : List ℕ) → Given w ≡ cond n (toldSeen s r) (Refused 4 0) → isFine s ≡ true
+given-fine : (n : Bool) (s : Seen) (r : Reply) (w : List ℕ) → Given w ≡ inTurn Refused true n s r → isFine s ≡ true
 given-fine true Fine r w e = refl
 given-fine true (Bad code place) r w e = cc
 given-fine false s r w e = cc
@@ -62,7 +62,7 @@ unfolding allFine
 heard-fine d cs (Add e t) (Given x) free w f k =
     by-test (sameBytes d e)
     (λ q. rw q (fine-snoc cs t f
-    (given-fine (isDesignator e) (checkCommand t) (cond (isNone w && not free) (Refused 9 0) (Given (onto w t))) x k)))
+    (given-fine (isDesignator e) (checkCommand t) (placing Refused (not (isNone w)) free (Given (onto w t)) (Given (onto w t))) x k)))
     (λ q. rw q f)
 heard-fine d cs (Add e t) (Refused code place) free w f k = f
 heard-fine d cs (Take e room) (Given x) free w f k = by-test (sameBytes d e) (λ q. rw q) (λ q. rw q f)

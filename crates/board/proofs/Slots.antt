@@ -11,14 +11,14 @@ use Rattle.text.specs.declared.Seen.the-variants.{Fine, Bad}
 use Rattle.text.proofs.Cases.{by-test}
 use Rattle.command.specs.Text.{checkCommand}
 use Rattle.join.specs.Join.{joinText}
-use Rattle.board.specs.Board.{isDesignator, Place, nowhere, isNone, isFree, isFor, any, lowest, waiting, isValid, Stay, Put, Free, onSeen, add, takeOut}
+use Rattle.board.specs.Board.{isDesignator, Place, nowhere, isNone, isFree, isFor, any, lowest, waiting, isValid, Stay, Put, Free, inTurn, placing, add, takeOut}
 use Rattle.board.proofs.Places.{never, lowest-passes, lowest-first, waiting-any, some-for}
 
 -- ---- Adding
 
 module _ (p q : ℕ) (d x t : List ℕ) (i : ℕ) (e w : List ℕ) where
   held : (v n : Bool) (s : Seen) (f : Bool)
-      → cond v (cond n (onSeen s (cond true (Put p d x) (cond f (Put q d t) (Stay 9 0)))) (Stay 4 0)) (Stay 10 0) ≡ Put i e w
+      → inTurn Stay v n s (placing Stay true f (Put p d x) (Put q d t)) ≡ Put i e w
       → (i ≡ p) × (w ≡ x)
   held true true Fine f k = (cc, cc)
   held true true (Bad code place) f k = (cc, cc)
@@ -26,7 +26,7 @@ module _ (p q : ℕ) (d x t : List ℕ) (i : ℕ) (e w : List ℕ) where
   held false n s f k = (cc, cc)
 
   fresh : (v n : Bool) (s : Seen) (f : Bool)
-      → cond v (cond n (onSeen s (cond false (Put p d x) (cond f (Put q d t) (Stay 9 0)))) (Stay 4 0)) (Stay 10 0) ≡ Put i e w
+      → inTurn Stay v n s (placing Stay false f (Put p d x) (Put q d t)) ≡ Put i e w
       → (f ≡ true) × ((i ≡ q) × (w ≡ t))
   fresh true true Fine true k = (refl, (cc, cc))
   fresh true true Fine false k = (cc, (cc, cc))

@@ -16,7 +16,7 @@ use Rattle.command.specs.Text.{checkCommand}
 use Rattle.command.proofs.Accepted.{accepted}
 use Rattle.join.specs.Join.{joinText}
 use Rattle.join.proofs.Laws.{join-fine}
-use Rattle.board.specs.Board.{isDesignator, Place, nowhere, isNone, isFree, isFor, any, lowest, waiting, isValid, Move, Stay, Put, Free, onSeen, placed, add, takeOut, onBoard, Reply, Given, Refused, replyOf}
+use Rattle.board.specs.Board.{isDesignator, Place, nowhere, isNone, isFree, isFor, any, lowest, waiting, isValid, Move, Stay, Put, Free, unlessRefused, placed, add, takeOut, onBoard, Reply, Given, Refused, replyOf}
 use Rattle.board.specs.History.{Event, Add, Take, aircraft, onto, move, due}
 use Rattle.board.proofs.Places.{never, none-is, free-for, for-one, lowest-passes, lowest-inside, none-passes, waiting-any, waiting-kept, waiting-set}
 use Rattle.board.proofs.Valid.{waiting-fine, only, valid-set, freed-none}
@@ -118,7 +118,7 @@ module _ (b : List Place) (v : isValid b ≡ true) where
       rw v
       (by-test (isDesignator d) (λ n. rw n (go n (checkCommand t) refl)) (λ n. rw n (stays b (Add d t) 4 0 v (rw n))))
     where
-      go : isDesignator d ≡ true → (s : Seen) → checkCommand t ≡ s → Right b (Add d t) (onSeen s (placed b d t))
+      go : isDesignator d ≡ true → (s : Seen) → checkCommand t ≡ s → Right b (Add d t) (unlessRefused Stay s (placed b d t))
       go n (Bad code place) k = stays b (Add d t) code place v (rw (n, k))
       go n Fine k =
           by-test (any (isFor d) b)

@@ -15,8 +15,8 @@ use Rattle.section.specs.declared.Settings.{Settings}
 use Rattle.command.specs.Text.{checkCommand}
 use Rattle.command.proofs.Codes.{check-coded}
 use Rattle.config.specs.Config.{applyTo}
-use Rattle.board.specs.Board.{isDesignator, Place, isNone, isFree, any, waiting, isValid, Move, Stay, Put, Free, onBoard, Given, Refused, replyOf}
-use Rattle.board.specs.History.{Event, Add, Take, Entry, aircraft, heard, since, onto, joined, move, after, logged, isEmptyBoard, toldSeen, due, noCommands, calledFor, act}
+use Rattle.board.specs.Board.{isDesignator, Place, isNone, isFree, any, waiting, isValid, inTurn, placing, handing, Move, Stay, Put, Free, onBoard, Reply, Given, Refused, replyOf}
+use Rattle.board.specs.History.{Event, Add, Take, Entry, aircraft, heard, since, onto, joined, move, after, logged, isEmptyBoard, due, noCommands, calledFor, act}
 use Rattle.board.proofs.Places.{never, none-is, some-for}
 use Rattle.board.proofs.Valid.{waiting-fine, waiting-named}
 use Rattle.board.proofs.Steps.{is-fine, right}
@@ -41,14 +41,14 @@ logged-snoc b (x ∷ es) e = ap (λ (l : List Entry). entry b x ∷ l) (logged-s
 -- ---- What a reply says of what was due
 
 due-taken : (n none fits : Bool) (w x : List ℕ)
-    → cond n (cond none (Refused 11 0) (cond fits (Given w) (Refused 2 0))) (Refused 4 0) ≡ Given x → (x ≡ w) × (none ≡ false)
+    → inTurn Refused true n Fine (handing Refused (not none) fits (Given w)) ≡ Given x → (x ≡ w) × (none ≡ false)
 due-taken true true fits w x e = (cc, cc)
 due-taken true false true w x e = (cc, refl)
 due-taken true false false w x e = (cc, refl)
 due-taken false none fits w x e = (cc, cc)
 
 due-nine : (n : Bool) (t : List ℕ) (s : Seen) (none free : Bool) (w : List ℕ) (place : ℕ) → checkCommand t ≡ s
-    → cond n (toldSeen s (cond (none && not free) (Refused 9 0) (Given w))) (Refused 4 0) ≡ Refused 9 place
+    → inTurn Refused true n s (placing Refused (not none) free (Given w) (Given w)) ≡ Refused 9 place
     → (none ≡ true) × (free ≡ false)
 due-nine true t (Bad code p) none free w place k e =
     let l : code ≤ 8 = check-coded t code p k .1 in let z : code ≡ 9 = cc in absurd (omega arith)
@@ -58,23 +58,29 @@ due-nine true t Fine false free w place k e = (cc, cc)
 due-nine false t s none free w place k e = let z : _≡_ {A = ℕ} 4 9 = cc in absurd (omega arith)
 
 due-ten : (free : Bool) (w : List ℕ) (e : Event) (place : ℕ) → due free w e ≡ Refused 10 place → ⊥
-due-ten free w (Add d t) place h = go (isDesignator d) (checkCommand t) refl (isNone w && not free) h
+due-ten free w (Add d t) place h = go (isDesignator d) (checkCommand t) refl (not (isNone w)) free h
   where
-    go : (n : Bool) (s : Seen) → checkCommand t ≡ s → (none : Bool)
-        → cond n (toldSeen s (cond none (Refused 9 0) (Given (onto w t)))) (Refused 4 0) ≡ Refused 10 place → ⊥
-    go true (Bad code p) k none e =
+    go : (n : Bool) (s : Seen) → checkCommand t ≡ s → (waits free : Bool)
+        → inTurn Refused true n s (placing Refused waits free (Given (onto w t)) (Given (onto w t))) ≡ Refused 10 place → ⊥
+    go true (Bad code p) k waits free e =
         let l : code ≤ 8 = check-coded t code p k .1 in let z : code ≡ 10 = cc in omega arith
-    go true Fine k true e = let z : _≡_ {A = ℕ} 9 10 = cc in omega arith
-    go true Fine k false e = let z : _≡_ {A = ℕ} 0 1 = cc in omega arith
-    go false s k none e = let z : _≡_ {A = ℕ} 4 10 = cc in omega arith
-due-ten free w (Take d room) place h = go (isDesignator d) (isNone w) (leb (length w) room) h
+    go true Fine k true free e = let z : _≡_ {A = ℕ} 0 1 = cc in omega arith
+    go true Fine k false true e = let z : _≡_ {A = ℕ} 0 1 = cc in omega arith
+    go true Fine k false false e = let z : _≡_ {A = ℕ} 9 10 = cc in omega arith
+    go false s k waits free e = let z : _≡_ {A = ℕ} 4 10 = cc in omega arith
+due-ten free w (Take d room) place h = go (isDesignator d) (not (isNone w)) (leb (length w) room) h
   where
-    go : (n none fits : Bool)
-        → cond n (cond none (Refused 11 0) (cond fits (Given w) (Refused 2 0))) (Refused 4 0) ≡ Refused 10 place → ⊥
-    go true true fits e = let z : _≡_ {A = ℕ} 11 10 = cc in omega arith
-    go true false true e = let z : _≡_ {A = ℕ} 0 1 = cc in omega arith
-    go true false false e = let z : _≡_ {A = ℕ} 2 10 = cc in omega arith
-    go false none fits e = let z : _≡_ {A = ℕ} 4 10 = cc in omega arith
+    go : (n waits fits : Bool) → inTurn Refused true n Fine (handing Refused waits fits (Given w)) ≡ Refused 10 place → ⊥
+    go true true true e = let z : _≡_ {A = ℕ} 0 1 = cc in omega arith
+    go true true false e = let z : _≡_ {A = ℕ} 2 10 = cc in omega arith
+    go true false fits e = let z : _≡_ {A = ℕ} 11 10 = cc in omega arith
+    go false waits fits e = let z : _≡_ {A = ℕ} 4 10 = cc in omega arith
+
+-- where something waits or a slot is free, an accepted command is
+due-given : (none free : Bool) (r : Reply) → (none && not free) ≡ false → placing Refused (not none) free r r ≡ r
+due-given true true r e = refl
+due-given true false r e = never refl e
+due-given false free r e = refl
 
 -- ---- Determined
 
@@ -136,7 +142,7 @@ module _ (b : List Place) (es : List Event) (o : isEmptyBoard b ≡ true) where
       → (isNone (waiting d (after b es)) && not (any isFree (after b es))) ≡ false
       → since d (logged b (es ++ (Add d t ∷ []))) ≡ since d (logged b es) ++ (t ∷ [])
   accepts d t n k h =
-      let r : replyOf (move now (Add d t)) ≡ Given (onto (waiting d now) t) = reply-due (Add d t) ∙ rw (n, k, h) in
+      let r : replyOf (move now (Add d t)) ≡ Given (onto (waiting d now) t) = reply-due (Add d t) ∙ rw (n, k) (due-given (isNone (waiting d now)) (any isFree now) (Given (onto (waiting d now) t)) h) in
       ap (since d) (logged-snoc b es (Add d t))
       ∙ since-snoc d log (entry now (Add d t)) []
       ∙ ap (heard d (since d log) (Add d t)) r

@@ -65,32 +65,46 @@ pub data Move : Type 0 where
   Put : ℕ → List ℕ → List ℕ → Move  -- slot i then holds the text t for the aircraft d
   Free : ℕ → List ℕ → Move  -- slot i is freed and its text t handed over
 
-abbrev pub onSeen : Seen → Move → Move
-onSeen Fine m = m
-onSeen (Bad code place) m = Stay code place
+-- ---- The order of refusals: 10, designator (4), what the command's admission refuses; then what the call itself does
+
+-- what a check refuses, else what is then done; `refuse` makes a refusal of its code and place
+abbrev pub unlessRefused : {A : Type 0} → (ℕ → ℕ → A) → Seen → A → A
+unlessRefused refuse Fine act = act
+unlessRefused refuse (Bad code place) act = refuse code place
+
+-- by whether the board is valid, whether the designator is well formed, and what admission saw
+abbrev pub inTurn : {A : Type 0} → (ℕ → ℕ → A) → Bool → Bool → Seen → A → A
+inTurn refuse valid named admission act =
+    cond valid (cond named (unlessRefused refuse admission act) (refuse 4 0)) (refuse 10 0)
+
+-- adding: onto what waits for the aircraft, or into a free slot, or 9
+abbrev pub placing : {A : Type 0} → (ℕ → ℕ → A) → Bool → Bool → A → A → A
+placing refuse waits free onto into = cond waits onto (cond free into (refuse 9 0))
+
+-- taking: where nothing waits 11, where the room is less than that 2
+abbrev pub handing : {A : Type 0} → (ℕ → ℕ → A) → Bool → Bool → A → A
+handing refuse waits fits out = cond waits (cond fits out (refuse 2 0)) (refuse 11 0)
+
+-- ---- Adding and taking
 
 -- join onto that aircraft's text, or use the lowest free slot, or 9
 abbrev pub placed : List Place → List ℕ → List ℕ → Move
 placed b d t =
-    cond (any (isFor d) b) (Put (lowest (isFor d) b) d (joinText (waiting d b) t))
-    (cond (any isFree b) (Put (lowest isFree b) d t)
-    (Stay 9 0))
+    placing Stay (any (isFor d) b) (any isFree b) (Put (lowest (isFor d) b) d (joinText (waiting d b) t))
+    (Put (lowest isFree b) d t)
 
 -- adding: 10, designator (4), the command's own refusals
 unfoldable pub add : List Place → List ℕ → List ℕ → Move
-add b d t =
-    cond (isValid b) (cond (isDesignator d) (onSeen (checkCommand t) (placed b d t)) (Stay 4 0)) (Stay 10 0)
+add b d t = inTurn Stay (isValid b) (isDesignator d) (checkCommand t) (placed b d t)
+
+-- exactly what waits is handed over, or 11, or 2
+abbrev pub handedOut : List Place → List ℕ → ℕ → Move
+handedOut b d room =
+    handing Stay (any (isFor d) b) (leb (length (waiting d b)) room) (Free (lowest (isFor d) b) (waiting d b))
 
 -- taking: 10, 4, 11, 2
 unfoldable pub takeOut : List Place → List ℕ → ℕ → Move
-takeOut b d room =
-    cond (isValid b)
-    (cond (isDesignator d)
-    (cond (any (isFor d) b)
-    (cond (leb (length (waiting d b)) room) (Free (lowest (isFor d) b) (waiting d b)) (Stay 2 0))
-    (Stay 11 0))
-    (Stay 4 0))
-    (Stay 10 0)
+takeOut b d room = inTurn Stay (isValid b) (isDesignator d) Fine (handedOut b d room)
 
 abbrev pub onBoard : Move → List Place → List Place
 onBoard (Stay code place) b = b

@@ -7,13 +7,12 @@ use lib.Dec.{leb, ltb}
 use lib.ListN.{length}
 use Rattle.text.specs.Checks.{isFine}
 use Rattle.text.specs.Equal.{sameBytes}
-use Rattle.text.specs.declared.Seen.{Seen}
-use Rattle.text.specs.declared.Seen.the-variants.{Fine, Bad}
+use Rattle.text.specs.declared.Seen.the-variants.{Fine}
 use Rattle.section.specs.declared.Settings.{Settings}
 use Rattle.command.specs.Text.{checkCommand, longest}
 use Rattle.config.specs.Config.{applyTo}
 use Rattle.join.specs.Join.{joinText}
-use Rattle.board.specs.Board.{isDesignator, Place, isNone, isFree, any, waiting, Move, Reply, Given, Refused, replyOf, onBoard, add, takeOut}
+use Rattle.board.specs.Board.{isDesignator, Place, isNone, isFree, any, waiting, inTurn, placing, handing, Move, Reply, Given, Refused, replyOf, onBoard, add, takeOut}
 
 -- ---- Events, and the log of events with their replies
 
@@ -77,19 +76,13 @@ isEmptyBoard (x ∷ b) = isFree x && isEmptyBoard b
 
 -- ---- What each event is due: w is what waits for its aircraft, free whether a slot is
 
-abbrev pub toldSeen : Seen → Reply → Reply
-toldSeen Fine r = r
-toldSeen (Bad code place) r = Refused code place
-
+-- the board of a run is valid, so that 10 never comes
 abbrev pub due : Bool → List ℕ → Event → Reply
 due free w (Add d t) =
-    cond (isDesignator d)
-    (toldSeen (checkCommand t) (cond (isNone w && not free) (Refused 9 0) (Given (onto w t))))
-    (Refused 4 0)
+    inTurn Refused true (isDesignator d) (checkCommand t)
+    (placing Refused (not (isNone w)) free (Given (onto w t)) (Given (onto w t)))
 due free w (Take d room) =
-    cond (isDesignator d)
-    (cond (isNone w) (Refused 11 0) (cond (leb (length w) room) (Given w) (Refused 2 0)))
-    (Refused 4 0)
+    inTurn Refused true (isDesignator d) Fine (handing Refused (not (isNone w)) (leb (length w) room) (Given w))
 
 -- ---- From the events and the number of slots alone
 

@@ -7,9 +7,10 @@ use lib.ListN.{length, take, replicate}
 use Rattle.text.specs.Checks.{isFine}
 use Rattle.text.specs.Parts.{part}
 use Rattle.text.specs.Equal.{sameBytes}
+use Rattle.text.specs.declared.Seen.the-variants.{Fine}
 use Rattle.command.specs.Text.{checkCommand}
 use Rattle.join.specs.Join.{Joined, Joins, Refuses, join}
-use Rattle.board.specs.Board.{isDesignator, Move, Stay, Put, Free, onSeen}
+use Rattle.board.specs.Board.{isDesignator, Move, Stay, Put, Free, inTurn, placing, handing}
 use Rattle.board.specs.Lent.{noSlot}
 use Rattle.board.specs.declared.Slot.{Slot}
 use Rattle.board.specs.declared.Wanted.{Wanted}
@@ -111,23 +112,19 @@ freeMove v w area t =
 
 abbrev pub placedMove : Survey → Wanted → List ℕ → List ℕ → Move
 placedMove v w area t =
-    cond (ltb (v .own) (v .count)) (ownMove v w area t) (cond (ltb (v .free) (v .count)) (freeMove v w area t) (Stay 9 0))
+    placing Stay (ltb (v .own) (v .count)) (ltb (v .free) (v .count)) (ownMove v w area t) (freeMove v w area t)
 
 unfoldable pub addMove : Survey → Wanted → List ℕ → List ℕ → Move
 addMove v w area t =
-    cond (v .valid) (cond (w .fine) (onSeen (checkCommand t) (placedMove v w area t)) (Stay 4 0)) (Stay 10 0)
+    inTurn Stay (v .valid) (w .fine) (checkCommand t) (placedMove v w area t)
+
+abbrev pub handedMove : Survey → List ℕ → ℕ → Move
+handedMove v area room =
+    handing Stay (ltb (v .own) (v .count)) (leb (v .length) room)
+    (cond (fitsAt (v .own) (v .length) (length area)) (Free (v .own) (waitsAt v area)) (Stay 10 0))
 
 unfoldable pub takeMove : Survey → Wanted → List ℕ → ℕ → Move
-takeMove v w area room =
-    cond (v .valid)
-    (cond (w .fine)
-    (cond (ltb (v .own) (v .count))
-    (cond (leb (v .length) room)
-    (cond (fitsAt (v .own) (v .length) (length area)) (Free (v .own) (waitsAt v area)) (Stay 10 0))
-    (Stay 2 0))
-    (Stay 11 0))
-    (Stay 4 0))
-    (Stay 10 0)
+takeMove v w area room = inTurn Stay (v .valid) (w .fine) Fine (handedMove v area room)
 
 -- what is answered, and which slot is stored where
 abbrev pub doneOf : ℕ → Wanted → Move → Done

@@ -13,7 +13,7 @@ use Rattle.command.specs.Text.{checkCommand}
 use Rattle.command.proofs.Accepted.{longest-is}
 use Rattle.join.specs.Join.{joinText}
 use Rattle.decide.proofs.Tests.{Says, says-no, reworded, not-said, both-said}
-use Rattle.board.specs.Board.{isDesignator, isNone, isFree, isFor, any, lowest, waiting, Move, Put, add, Given, Refused, replyOf}
+use Rattle.board.specs.Board.{isDesignator, isNone, isFree, isFor, any, lowest, waiting, placing, Move, Put, add, Given, Refused, replyOf}
 use Rattle.board.specs.History.{Add as AddFor, onto}
 use Rattle.board.specs.Lent.{onSlots, onArea}
 use Rattle.board.specs.Calls.{Lent, boardIn}
@@ -56,11 +56,12 @@ module _ (r : Run) (d t : List ℕ) where
       (subst (λ (u : List ℕ). Says (isNone u) (NothingWaits (now r) d)) (i .waits d) (nothing-said (now r) (i .shaped) d (i .valid)))
       (none-free-said (now r) (i .shaped))
 
-  pub codes : AddingCodes (told r (Add d t)) (isDesignator d) (checkCommand t) full (onto (joinOf (acceptedFor r d)) t)
+  pub codes : AddingCodes (told r (Add d t)) (isDesignator d) (checkCommand t) full
   codes =
-      subst (λ (a : Answer). AddingCodes a (isDesignator d) (checkCommand t) full (onto (joinOf (acceptedFor r d)) t))
+      subst (λ (a : Answer). AddingCodes a (isDesignator d) (checkCommand t) full)
       (sym (answer-due r (Add d t)))
-      (adding-codes (isDesignator d) t (checkCommand t) full (onto (joinOf (acceptedFor r d)) t) refl)
+      (adding-codes (isDesignator d) t (checkCommand t) (isNone (joinOf (acceptedFor r d))) (any isFree (boardIn (now r)))
+      (onto (joinOf (acceptedFor r d)) t) refl)
 
   pub addings : AddingAnswers r d t
   addings =
@@ -68,12 +69,13 @@ module _ (r : Run) (d t : List ℕ) where
       let named = designator-said d in
       let fine = accepted-said t in
       let k = codes in
+      let given = Given (onto (joinOf (acceptedFor r d)) t) in
       record {
         four = λ n. answer-due r (Add d t) ∙ rw (says-no named n);
         own = λ n q.
             answer-due r (Add d t)
             ∙ rw (named .so-yes n)
-            (own-numbers (checkCommand t) (cond full (Refused 9 0) (Given (onto (joinOf (acceptedFor r d)) t))) q);
+            (own-numbers (checkCommand t) (placing Refused (not (isNone (joinOf (acceptedFor r d)))) (any isFree (boardIn (now r))) given given) q);
         nine =
             told-where code 9 (k .nine)
             (reworded (both-said named (both-said fine full-said))

@@ -15,8 +15,7 @@ use Rattle.command.specs.Text.{checkCommand}
 use Rattle.command.proofs.Codes.{check-coded}
 use Rattle.decide.proofs.Tests.{Says, reworded, both-said, eq-said}
 use Rattle.decide.proofs.Words.{bytes-said}
-use Rattle.board.specs.Board.{isDesignator, Reply, Given, Refused}
-use Rattle.board.specs.History.{toldSeen}
+use Rattle.board.specs.Board.{isDesignator, unlessRefused, inTurn, placing, handing, Reply, Given, Refused}
 use Rattle.board.proofs.Steps.{is-fine}
 use Rattle.desk.specs.Numbers.{checkNumbers}
 use Rattle.desk.specs.Waiting.{replyNumbers}
@@ -53,14 +52,14 @@ accepted-said t =
     record { yes-so = λ f. fine-accepted t (is-fine (checkCommand t) f); so-yes = λ a. rw (accepted-fine t a) }
 
 -- a command's own refusal is answered as its check answers it
-pub own-numbers : (s : Seen) (r : Reply) → ¬ (checkNumbers s .code ≡ 0) → replyNumbers (toldSeen s r) ≡ checkNumbers s
+pub own-numbers : (s : Seen) (r : Reply) → ¬ (checkNumbers s .code ≡ 0) → replyNumbers (unlessRefused Refused s r) ≡ checkNumbers s
 own-numbers Fine r n = absurd (n refl)
 own-numbers (Bad code place) r n = refl
 
 -- ---- A taking: whether the designator is well formed, nothing waits, and the buffer has room
 
 abbrev taken : Bool → Bool → Bool → List ℕ → Reply
-taken named none fits w = cond named (cond none (Refused 11 0) (cond fits (Given w) (Refused 2 0))) (Refused 4 0)
+taken named none fits w = inTurn Refused true named Fine (handing Refused (not none) fits (Given w))
 
 pub record TakingCodes (a : Answer) (named none fits : Bool) : Type 0 where
   pub four : eqb (a .code) 4 ≡ not named
@@ -76,22 +75,23 @@ taking-codes true false true w = record { four = refl; eleven = refl; two = refl
 taking-codes true false false w = record { four = refl; eleven = refl; two = refl; zero = refl; ten = refl; place = refl }
 taking-codes false none fits w = record { four = refl; eleven = refl; two = refl; zero = refl; ten = refl; place = refl }
 
--- ---- An adding: whether the designator is well formed, what the check said, and whether a slot is wanting
+-- ---- An adding: whether the designator is well formed, what the check said, whether nothing waits, and whether a slot is free
 
-abbrev added : Bool → Seen → Bool → List ℕ → Reply
-added named s full w = cond named (toldSeen s (cond full (Refused 9 0) (Given w))) (Refused 4 0)
+abbrev added : Bool → Seen → Bool → Bool → List ℕ → Reply
+added named s none free w = inTurn Refused true named s (placing Refused (not none) free (Given w) (Given w))
 
-pub record AddingCodes (a : Answer) (named : Bool) (s : Seen) (full : Bool) (w : List ℕ) : Type 0 where
+pub record AddingCodes (a : Answer) (named : Bool) (s : Seen) (full : Bool) : Type 0 where
   pub nine : eqb (a .code) 9 ≡ (named && (isFine s && full))
   pub zero : eqb (a .code) 0 ≡ (named && (isFine s && not full))
   pub ten : eqb (a .code) 10 ≡ false
   pub place : s ≡ Fine → a .place ≡ 0
 
-pub adding-codes : (named : Bool) (t : List ℕ) (s : Seen) (full : Bool) (w : List ℕ) → checkCommand t ≡ s
-    → AddingCodes (replyNumbers (added named s full w)) named s full w
-adding-codes true t Fine true w k = record { nine = refl; zero = refl; ten = refl; place = λ e. refl }
-adding-codes true t Fine false w k = record { nine = refl; zero = refl; ten = refl; place = λ e. refl }
-adding-codes true t (Bad code place) full w k =
+pub adding-codes : (named : Bool) (t : List ℕ) (s : Seen) (none free : Bool) (w : List ℕ) → checkCommand t ≡ s
+    → AddingCodes (replyNumbers (added named s none free w)) named s (none && not free)
+adding-codes true t Fine true true w k = record { nine = refl; zero = refl; ten = refl; place = λ e. refl }
+adding-codes true t Fine true false w k = record { nine = refl; zero = refl; ten = refl; place = λ e. refl }
+adding-codes true t Fine false free w k = record { nine = refl; zero = refl; ten = refl; place = λ e. refl }
+adding-codes true t (Bad code place) none free w k =
     let l = check-coded t code place k in
     record {
       nine = ne-eqb code 9 (λ (z : code ≡ 9). omega arith);
@@ -99,4 +99,4 @@ adding-codes true t (Bad code place) full w k =
       ten = ne-eqb code 10 (λ (z : code ≡ 10). omega arith);
       place = λ e. let z : _≡_ {A = ℕ} 0 1 = cc in absurd (omega arith);
     }
-adding-codes false t s full w k = record { nine = refl; zero = refl; ten = refl; place = λ e. refl }
+adding-codes false t s none free w k = record { nine = refl; zero = refl; ten = refl; place = λ e. refl }
