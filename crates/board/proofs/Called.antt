@@ -17,21 +17,21 @@ use Rattle.command.specs.Text.{longest, checkCommand}
 use Rattle.command.proofs.Accepted.{longest-is, accepted}
 use Rattle.join.specs.Join.{Joined, Joins, Refuses, joinText, join}
 use Rattle.join.proofs.Laws.{join-short}
-use Rattle.board.specs.Board.{isDesignator, Place, nowhere, isFree, isFor, any, lowest, waiting, isValid, Move, Stay, Put, Free, placed, handedOut, add, takeOut}
+use Rattle.board.specs.Board.{isDesignator, WaitingSlot, emptySlot, isFree, isFor, any, lowest, waiting, isValid, Move, Stay, Put, Free, placed, handedOut, add, takeOut}
 use Rattle.board.specs.Lent.{boardOf, lengthsFit, isShaped, addLent, takeLent, isValidLent, noSlot, onSlots}
-use Rattle.board.specs.Survey.{wantedBy, startOf, scanFrom, scanned, fitsAt, waitsAt, joinsTo, ownMove, freeMove, placedMove, handedMove, addMove, takeMove, doneOf}
+use Rattle.board.specs.Inner.{wantedBy, startOf, scanFrom, scanned, fitsAt, waitsAt, joinsTo, ownMove, freeMove, placedMove, handedMove, addMove, takeMove, doneOf}
 use Rattle.board.specs.declared.Slot.{Slot}
-use Rattle.board.specs.declared.Survey.{Survey}
+use Rattle.board.specs.declared.Findings.{Findings}
 use Rattle.board.specs.declared.Wanted.{Wanted}
-use Rattle.board.proofs.Places.{never, for-who, lowest-passes, lowest-inside, inside-any}
+use Rattle.board.proofs.WaitingSlots.{never, for-who, lowest-passes, lowest-inside, inside-any}
 use Rattle.board.proofs.Valid.{waiting-fine}
 use Rattle.board.proofs.Steps.{is-fine}
 use Rattle.board.proofs.Lent.{Shape, shape, length-board, slot-at, text-at, fit-at}
-use Rattle.board.proofs.Turn.{turn-all, placing-all, handing-all, turn-same, placing-same, handing-same, turn-shaped}
+use Rattle.board.proofs.Refusals.{refusals-all, placing-all, handing-all, refusals-same, placing-same, handing-same, refusals-shaped}
 use Rattle.board.proofs.Scanned.{cond-true, cond-false, stays-bad, valid-all, scan-count, Owns, scan-own, scan-free}
 
 -- some place passes exactly where the lowest is one of the board
-lowest-any : (test : Place → Bool) (b : List Place) → ltb (lowest test b) (length b) ≡ any test b
+lowest-any : (test : WaitingSlot → Bool) (b : List WaitingSlot) → ltb (lowest test b) (length b) ≡ any test b
 lowest-any test b =
     by-test (any test b)
     (λ (h : any test b ≡ true). lt-ltb (lowest test b) (length b) (lowest-inside test b h) ∙ sym h)
@@ -56,10 +56,10 @@ unfolding join
 join-is s t e f = rw (e, f, le-leb (length (joinText s t)) 835 (join-short s t e f))
 
 module _ (area : List ℕ) (w : Wanted) (xs : List Slot) where
-  abbrev v : Survey
+  abbrev v : Findings
   v = scanned area w xs
 
-  abbrev b : List Place
+  abbrev b : List WaitingSlot
   b = boardOf xs area
 
   abbrev sized : Bool
@@ -77,7 +77,7 @@ module _ (area : List ℕ) (w : Wanted) (xs : List Slot) where
       valid-all area w xs (startOf (length xs) (length area)) (rw zero-add few) (rw zero-add bytes)
       ∙ shape-true (leb (length xs) 64) (eqb (length area) (835 * length xs)) (lengthsFit xs) (isValid b) t)
       (λ (t : sized ≡ false).
-      ap (λ (z : Survey). z .valid) (stays-bad area w xs (startOf (length xs) (length area)) 0 xs t)
+      ap (λ (z : Findings). z .valid) (stays-bad area w xs (startOf (length xs) (length area)) 0 xs t)
       ∙ t
       ∙ sym (shape-false (leb (length xs) 64) (eqb (length area) (835 * length xs)) (lengthsFit xs) (isValid b) t)))
 
@@ -155,8 +155,8 @@ module _ (area : List ℕ) (w : Wanted) (xs : List Slot) where
       who-is : getD xs i noSlot .designator ≡ w .designator
       who-is =
           sym
-          (for-who (w .designator) (getD b i nowhere) (lowest-passes (isFor (w .designator)) b k)
-          ∙ ap (λ (p : Place). p .who) (slot-at xs area i inside))
+          (for-who (w .designator) (getD b i emptySlot) (lowest-passes (isFor (w .designator)) b k)
+          ∙ ap (λ (p : WaitingSlot). p .who) (slot-at xs area i inside))
 
       -- what waits is joined with the command
       own-move : (t : List ℕ) → checkCommand t ≡ Fine → ownMove v w area t ≡ Put i (w .designator) (joinText (waiting (w .designator) b) t)
@@ -220,10 +220,10 @@ module _ (area : List ℕ) (xs : List Slot) (d : List ℕ) where
   abbrev wanted : Wanted
   wanted = wantedBy d
 
-  abbrev found : Survey
+  abbrev found : Findings
   found = scanned area wanted xs
 
-  abbrev board : List Place
+  abbrev board : List WaitingSlot
   board = boardOf xs area
 
   -- the designator is the one asked for
@@ -234,21 +234,21 @@ module _ (area : List ℕ) (xs : List Slot) (d : List ℕ) where
   pub add-is : (t : List ℕ) → addMove found wanted area t ≡ addLent xs area d t
   unfolding addMove addLent add isValidLent
   add-is t =
-      turn-same Stay (found .valid) (isValidLent xs area) (wanted .fine) (isDesignator d) (checkCommand t)
+      refusals-same Stay (found .valid) (isValidLent xs area) (wanted .fine) (isDesignator d) (checkCommand t)
       (placedMove found wanted area t) (placed board d t) (valid-is area wanted xs) (wanted-is d)
       (λ h n s.
       placed-is area wanted xs (sym (valid-is area wanted xs) ∙ h) t s ∙ ap (λ (q : List ℕ). placed board q t) (asked-is n))
-      ∙ sym (turn-shaped Stay (isShaped xs area) (isValid board) (isDesignator d) (checkCommand t) (placed board d t))
+      ∙ sym (refusals-shaped Stay (isShaped xs area) (isValid board) (isDesignator d) (checkCommand t) (placed board d t))
 
   -- what taking does
   pub take-is : (room : ℕ) → takeMove found wanted area room ≡ takeLent xs area d room
   unfolding takeMove takeLent takeOut isValidLent
   take-is room =
-      turn-same Stay (found .valid) (isValidLent xs area) (wanted .fine) (isDesignator d) Fine
+      refusals-same Stay (found .valid) (isValidLent xs area) (wanted .fine) (isDesignator d) Fine
       (handedMove found area room) (handedOut board d room) (valid-is area wanted xs) (wanted-is d)
       (λ h n s.
       handed-is area wanted xs (sym (valid-is area wanted xs) ∙ h) room ∙ ap (λ (q : List ℕ). handedOut board q room) (asked-is n))
-      ∙ sym (turn-shaped Stay (isShaped xs area) (isValid board) (isDesignator d) Fine (handedOut board d room))
+      ∙ sym (refusals-shaped Stay (isShaped xs area) (isValid board) (isDesignator d) Fine (handedOut board d room))
 
 -- ---- The slot that is stored
 
@@ -274,7 +274,7 @@ joins-agree : (w : Wanted) (xs : List Slot) (j : Joined) (i : ℕ) → Agrees w 
 joins-agree w xs (Joins t) i = refl
 joins-agree w xs (Refuses code place which) i = tt
 
-module _ (v : Survey) (w : Wanted) (area : List ℕ) (xs : List Slot) where
+module _ (v : Findings) (w : Wanted) (area : List ℕ) (xs : List Slot) where
   own-agrees : (t : List ℕ) → Agrees w xs (ownMove v w area t)
   unfolding ownMove
   own-agrees t =
@@ -289,7 +289,7 @@ module _ (v : Survey) (w : Wanted) (area : List ℕ) (xs : List Slot) where
   add-agrees : (t : List ℕ) → Agrees w xs (addMove v w area t)
   unfolding addMove
   add-agrees t =
-      turn-all (Agrees w xs) Stay (v .valid) (w .fine) (checkCommand t) (placedMove v w area t) tt tt (λ code place e. tt)
+      refusals-all (Agrees w xs) Stay (v .valid) (w .fine) (checkCommand t) (placedMove v w area t) tt tt (λ code place e. tt)
       (λ h n s.
       placing-all (Agrees w xs) Stay (ltb (v .own) (v .count)) (ltb (v .free) (v .count)) (ownMove v w area t) (freeMove v w area t)
       tt (λ k. own-agrees t) (λ k f. free-agrees t))
@@ -299,7 +299,7 @@ unfolding takeMove
 take-agrees area w xs room =
     let v = scanned area w xs in
     let out = cond (fitsAt (v .own) (v .length) (length area)) (Free (v .own) (waitsAt v area)) (Stay 10 0) in
-    turn-all (Agrees w xs) Stay (v .valid) (w .fine) Fine (handedMove v area room) tt tt (λ code place e. tt)
+    refusals-all (Agrees w xs) Stay (v .valid) (w .fine) Fine (handedMove v area room) tt tt (λ code place e. tt)
     (λ h n s.
     handing-all (Agrees w xs) Stay (ltb (v .own) (v .count)) (leb (v .length) room) out tt tt
     (λ k r.
@@ -315,7 +315,7 @@ module _ (area : List ℕ) (xs : List Slot) (d : List ℕ) where
   abbrev asked : Wanted
   asked = wantedBy d
 
-  abbrev seen : Survey
+  abbrev seen : Findings
   seen = scanned area asked xs
 
   -- what was done, by document 01's move

@@ -12,14 +12,14 @@ use Rattle.text.specs.declared.Seen.the-variants.{Fine, Bad}
 use Rattle.text.proofs.Cases.{by-test, both-left, both-right}
 use Rattle.command.specs.Text.{longest, checkCommand}
 use Rattle.join.specs.Join.{joinText}
-use Rattle.board.specs.Board.{isDesignator, Place, isFree, isFor, any, lowest, waiting, isValid, Move, Stay, Put, Free, placed, handedOut, add, takeOut, onBoard, replyOf}
+use Rattle.board.specs.Board.{isDesignator, WaitingSlot, isFree, isFor, any, lowest, waiting, isValid, Move, Stay, Put, Free, placed, handedOut, add, takeOut, onBoard, replyOf}
 use Rattle.board.specs.History.{Event, Add, Take, move, after, logged, isEmptyBoard, calledFor}
 use Rattle.board.specs.Lent.{boardOf, isShaped, addLent, takeLent, isValidLent, onSlots, onArea}
 use Rattle.board.specs.Calls.{Lent, boardIn, call, onLent, afterCalls, loggedCalls, allFree, Demand3Lent}
 use Rattle.board.specs.declared.Slot.{Slot}
-use Rattle.board.proofs.Places.{lowest-inside}
+use Rattle.board.proofs.WaitingSlots.{lowest-inside}
 use Rattle.board.proofs.Valid.{waiting-fine}
-use Rattle.board.proofs.Turn.{turn-all, placing-all, handing-all}
+use Rattle.board.proofs.Refusals.{refusals-all, placing-all, handing-all}
 use Rattle.board.proofs.Steps.{joins}
 use Rattle.board.proofs.Joined.{accepted-short}
 use Rattle.board.proofs.Demand.{demand3}
@@ -28,10 +28,10 @@ use Rattle.board.proofs.Lent.{shape, shaped, length-board, Sits, moved,
 -- ---- One call
 
 -- every move of a board names one of its slots and a text that a slot holds
-pub sits : (b : List Place) (e : Event) → Sits (length b) (move b e)
+pub sits : (b : List WaitingSlot) (e : Event) → Sits (length b) (move b e)
 unfolding add takeOut
 sits b (Add d t) =
-    turn-all (Sits (length b)) Stay (isValid b) (isDesignator d) (checkCommand t) (placed b d t) tt tt (λ code place k. tt)
+    refusals-all (Sits (length b)) Stay (isValid b) (isDesignator d) (checkCommand t) (placed b d t) tt tt (λ code place k. tt)
     (λ v n s.
     let f : isFine (checkCommand t) ≡ true = rw s in
     placing-all (Sits (length b)) Stay (any (isFor d) b) (any isFree b) (Put (lowest (isFor d) b) d (joinText (waiting d b) t))
@@ -39,7 +39,7 @@ sits b (Add d t) =
     (λ h. (lowest-inside (isFor d) b h, accepted-short (joinText (waiting d b) t) (joins (waiting d b) t (waiting-fine d b v h) f)))
     (λ h g. (lowest-inside isFree b g, accepted-short t f)))
 sits b (Take d room) =
-    turn-all (Sits (length b)) Stay (isValid b) (isDesignator d) Fine (handedOut b d room) tt tt (λ code place k. tt)
+    refusals-all (Sits (length b)) Stay (isValid b) (isDesignator d) Fine (handedOut b d room) tt tt (λ code place k. tt)
     (λ v n s.
     handing-all (Sits (length b)) Stay (any (isFor d) b) (leb (length (waiting d b)) room) (Free (lowest (isFor d) b) (waiting d b)) tt
     tt (λ h l. lowest-inside (isFor d) b h))
@@ -90,10 +90,10 @@ run-lent (e ∷ es) x h =
     call-board x e h ∙ ap (λ (m : Move). onBoard m (boardIn x)) (call-move x e h) in
     record {
       is-shaped = r .is-shaped;
-      board = r .board ∙ ap (λ (b : List Place). after b es) k;
+      board = r .board ∙ ap (λ (b : List WaitingSlot). after b es) k;
       log =
           ap₂ _∷_ (ap (λ (m : Move). record { event = e; reply = replyOf m }) (call-move x e h))
-          (r .log ∙ ap (λ (b : List Place). logged b es) k);
+          (r .log ∙ ap (λ (b : List WaitingSlot). logged b es) k);
     }
 
 -- ---- Demand 3 of what is lent

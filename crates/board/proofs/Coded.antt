@@ -11,11 +11,11 @@ use Rattle.text.specs.declared.Seen.the-variants.{Fine, Bad}
 use Rattle.command.specs.Text.{checkCommand}
 use Rattle.command.proofs.Codes.{check-coded}
 use Rattle.join.specs.Join.{joinText}
-use Rattle.board.specs.Board.{isDesignator, Place, isFree, isFor, any, lowest, waiting, isValid, Move, Stay, Put, Free, placed, handedOut, add, takeOut}
+use Rattle.board.specs.Board.{isDesignator, WaitingSlot, isFree, isFor, any, lowest, waiting, isValid, Move, Stay, Put, Free, placed, handedOut, add, takeOut}
 use Rattle.board.specs.History.{Event, Add, Take}
 use Rattle.board.specs.Lent.{isShaped, addLent, takeLent, onArea}
 use Rattle.board.specs.Calls.{Lent, boardIn, call}
-use Rattle.board.proofs.Turn.{turn-all, placing-all, handing-all}
+use Rattle.board.proofs.Refusals.{refusals-all, placing-all, handing-all}
 
 -- what holds of both ways holds of a choice
 either : (P : Move → Type 0) (t : Bool) (m n : Move) → P m → P n → P (cond t m n)
@@ -28,10 +28,10 @@ Coded (Stay code place) = 1 ≤ code
 Coded (Put i d t) = Unit
 Coded (Free i t) = Unit
 
-add-coded : (b : List Place) (d t : List ℕ) → Coded (add b d t)
+add-coded : (b : List WaitingSlot) (d t : List ℕ) → Coded (add b d t)
 unfolding add
 add-coded b d t =
-    turn-all Coded Stay (isValid b) (isDesignator d) (checkCommand t) (placed b d t) (omega arith) (omega arith)
+    refusals-all Coded Stay (isValid b) (isDesignator d) (checkCommand t) (placed b d t) (omega arith) (omega arith)
     (λ code place k. check-coded t code place k .0)
     (λ v n s.
     placing-all Coded Stay (any (isFor d) b) (any isFree b) (Put (lowest (isFor d) b) d (joinText (waiting d b) t))
@@ -41,10 +41,10 @@ add-coded b d t =
 abbrev Hands : Move → Type 0
 Hands m = Coded m × ((area : List ℕ) → onArea m area ≡ area)
 
-take-hands : (b : List Place) (d : List ℕ) (room : ℕ) → Hands (takeOut b d room)
+take-hands : (b : List WaitingSlot) (d : List ℕ) (room : ℕ) → Hands (takeOut b d room)
 unfolding takeOut
 take-hands b d room =
-    turn-all Hands Stay (isValid b) (isDesignator d) Fine (handedOut b d room) (omega arith, λ area. refl)
+    refusals-all Hands Stay (isValid b) (isDesignator d) Fine (handedOut b d room) (omega arith, λ area. refl)
     (omega arith, λ area. refl) (λ code place k. never-bad k)
     (λ v n s.
     handing-all Hands Stay (any (isFor d) b) (leb (length (waiting d b)) room) (Free (lowest (isFor d) b) (waiting d b))

@@ -10,9 +10,9 @@ use borrow.Author.Tests.{lt-ltb, le-ltb}
 use Rattle.text.specs.Equal.{sameBytes}
 use Rattle.text.proofs.Cases.{by-test, both-left, both-right}
 use Rattle.text.proofs.Equal.{same-equal, same-self}
-use Rattle.board.specs.Board.{Place, isNone, isFree, isFor, any, waiting, isValid, Reply, Given, Refused}
+use Rattle.board.specs.Board.{WaitingSlot, isNone, isFree, isFor, any, waiting, isValid, Reply, Given, Refused}
 use Rattle.board.specs.History.{Event, Add, Take, Entry, aircraft, heard, sinceFrom, since, member, callers, noCommands, busyAmong, busy}
-use Rattle.board.proofs.Places.{never, both, waiting-any}
+use Rattle.board.proofs.WaitingSlots.{never, both, waiting-any}
 use Rattle.board.proofs.Valid.{used, valid-first, valid-rest}
 use Rattle.board.proofs.Joined.{joined-none}
 use Rattle.board.proofs.Run.{InStep}
@@ -63,22 +63,22 @@ no-longer (x ∷ xs) ys d h =
 
 -- ---- The aircraft that a board has slots for
 
-unfoldable pub holders : List Place → List (List ℕ)
+unfoldable pub holders : List WaitingSlot → List (List ℕ)
 holders [] = []
 holders (x ∷ b) = cond (isFree x) (holders b) (x .who ∷ holders b)
 
-holders-any : (d : List ℕ) (b : List Place) → member d (holders b) ≡ any (isFor d) b
+holders-any : (d : List ℕ) (b : List WaitingSlot) → member d (holders b) ≡ any (isFor d) b
 unfolding holders member any isFor
 holders-any d [] = refl
 holders-any d (x ∷ b) =
     by-test (isFree x) (λ f. rw f (holders-any d b)) (λ f. rw f (ap (λ (t : Bool). sameBytes d (x .who) || t) (holders-any d b)))
 
 -- one has a slot exactly where something waits for it
-pub holders-wait : (d : List ℕ) (b : List Place) → not (member d (holders b)) ≡ isNone (waiting d b)
+pub holders-wait : (d : List ℕ) (b : List WaitingSlot) → not (member d (holders b)) ≡ isNone (waiting d b)
 holders-wait d b = ap not (holders-any d b) ∙ sym (waiting-any d b)
 
 -- and on a valid board one slot
-pub holders-distinct : (b : List Place) → isValid b ≡ true → distinct (holders b) ≡ true
+pub holders-distinct : (b : List WaitingSlot) → isValid b ≡ true → distinct (holders b) ≡ true
 unfolding holders distinct
 holders-distinct [] v = refl
 holders-distinct (x ∷ b) v =
@@ -88,21 +88,21 @@ holders-distinct (x ∷ b) v =
     (both (not (member (x .who) (holders b))) (distinct (holders b))
     (holders-wait (x .who) b ∙ used x b f (valid-first x b v) .alone) r))
 
-holders-few : (b : List Place) → length (holders b) ≤ length b
+holders-few : (b : List WaitingSlot) → length (holders b) ≤ length b
 unfolding holders
 holders-few [] = omega arith
 holders-few (x ∷ b) =
     by-test (isFree x) (λ f. rw f (omega (arith, holders-few b))) (λ f. rw f (omega (arith, holders-few b)))
 
 -- a slot is free exactly where they are fewer than the slots
-pub holders-free : (b : List Place) → any isFree b ≡ true → length (holders b) < length b
+pub holders-free : (b : List WaitingSlot) → any isFree b ≡ true → length (holders b) < length b
 unfolding holders any
 holders-free [] e = never e refl
 holders-free (x ∷ b) e =
     by-test (isFree x) (λ f. rw f (omega (arith, holders-few b))) (λ f. rw f (omega (arith, holders-free b (rw f at e))))
 
 -- and none is where they are as many
-pub holders-full : (b : List Place) → any isFree b ≡ false → length (holders b) ≡ length b
+pub holders-full : (b : List WaitingSlot) → any isFree b ≡ false → length (holders b) ≡ length b
 unfolding holders any
 holders-full [] e = refl
 holders-full (x ∷ b) e = by-test (isFree x) (λ f. never (rw f) e) (λ f. rw f (ap suc (holders-full b (rw f at e))))
@@ -181,7 +181,7 @@ busy-distinct log = among-distinct log (callers log) (callers-distinct log)
 
 -- ---- Both
 
-module _ (b : List Place) (log : List Entry) (s : InStep b log) where
+module _ (b : List WaitingSlot) (log : List Entry) (s : InStep b log) where
   same-members : (d : List ℕ) → member d (holders b) ≡ member d (busy log)
   same-members d =
       sym (Bool·not-not (member d (holders b)))

@@ -4,7 +4,7 @@ use mathlib.Core.Bool.{Bool, true}
 use mathlib.Core.List.{List, [], _∷_, _++_}
 use Prim.Native.Nat.{ℕ}
 use lib.ListN.{length}
-use Rattle.board.specs.Board.{Place, Move, onBoard, Reply, replyOf}
+use Rattle.board.specs.Board.{WaitingSlot, Move, onBoard, Reply, replyOf}
 use Rattle.board.specs.History.{Event, Entry, aircraft, since, move, after, logged, isEmptyBoard, due, replyTo, calledFor, Demand3}
 use Rattle.board.proofs.Steps.{right}
 use Rattle.board.proofs.Joined.{waiting-short, joined-acts}
@@ -12,13 +12,13 @@ use Rattle.board.proofs.Run.{InStep, entry, empty-in-step, event-in-ste
 use Rattle.board.proofs.Counted.{free-slots}
 
 -- what a board in step with its log replies is what the log calls for
-pub reply-called : (b : List Place) (log : List Entry) (e : Event) → InStep b log → replyOf (move b e) ≡ replyTo (length b) log e
+pub reply-called : (b : List WaitingSlot) (log : List Entry) (e : Event) → InStep b log → replyOf (move b e) ≡ replyTo (length b) log e
 reply-called b log e s =
     right b (s .valid) e .reply
     ∙ ap₂ (λ (free : Bool) (w : List ℕ). due free w e) (free-slots b log s) (s .waits (aircraft e))
 
 -- and so is every reply of a run
-pub run-called : (es : List Event) (b : List Place) (log : List Entry) → InStep b log → logged b es ≡ calledFor (length b) log es
+pub run-called : (es : List Event) (b : List WaitingSlot) (log : List Entry) → InStep b log → logged b es ≡ calledFor (length b) log es
 unfolding logged calledFor
 run-called [] b log s = refl
 run-called (e ∷ es) b log s =
@@ -30,7 +30,7 @@ run-called (e ∷ es) b log s =
 
 -- ---- Demand 3
 
-module _ (b : List Place) (es : List Event) (o : isEmptyBoard b ≡ true) where
+module _ (b : List WaitingSlot) (es : List Event) (o : isEmptyBoard b ≡ true) where
   -- the board after the run is in step with its log
   pub in-step : InStep (after b es) (logged b es)
   in-step = run-in-step b [] es (empty-in-step b o)

@@ -13,11 +13,11 @@ use Rattle.text.specs.Equal.{sameBytes}
 use Rattle.text.proofs.Cases.{by-le, by-lt, by-test, both-right}
 use Rattle.text.proofs.Parts.{part-bytes}
 use Rattle.board.specs.Lent.{noSlot}
-use Rattle.board.specs.Survey.{isUsed, usedFor, noneFor, aloneIn, tellsOf, untilAt, firstOf, stepOf, scanFrom, scanned}
+use Rattle.board.specs.Inner.{isUsed, usedFor, noneFor, aloneIn, isLookedAt, untilAt, firstOf, stepOf, scanFrom, scanned}
 use Rattle.board.proofs.Scanned.{step-bad, step-free}
 use Rattle.board.specs.declared.Wanted.{Wanted}
 use Rattle.board.specs.declared.Slot.{Slot}
-use Rattle.board.specs.declared.Survey.{Survey}
+use Rattle.board.specs.declared.Findings.{Findings}
 
 -- a list of six is its six elements
 pub six : (l : List ℕ) → length l ≡ 6
@@ -58,7 +58,7 @@ by-order i n less over = by-lt i n less over
 pub offset-fits : (i n : ℕ) → i < n → n * 8 < 2 ^ 63 → i * 8 < 2 ^ 64
 offset-fits i n l r = omega arith
 
-module _ (a : Survey) (x : Slot) (i : ℕ) where
+module _ (a : Findings) (x : Slot) (i : ℕ) where
   -- the look ends at a slot, or behind the last
   pub until-le : (n r : ℕ) → r ≡ untilAt a x i n → r ≤ n
   unfolding untilAt
@@ -110,7 +110,7 @@ neither-right true t e = let z : _≡_ {A = ℕ} 0 1 = cc in absurd (omega arith
 neither-right false t e = e
 
 -- a free slot behind a free one changes nothing
-tells-nothing : (area : List ℕ) (w : Wanted) (a : Survey) (x : Slot) (c : Bool) (i : ℕ) → isUsed x ≡ false → a .free < i → stepOf area w a x c i ≡ a
+tells-nothing : (area : List ℕ) (w : Wanted) (a : Findings) (x : Slot) (c : Bool) (i : ℕ) → isUsed x ≡ false → a .free < i → stepOf area w a x c i ≡ a
 tells-nothing area w a x c i u l =
     by-test (a .valid)
     (λ (t : a .valid ≡ true).
@@ -122,23 +122,23 @@ tells-nothing area w a x c i u l =
 
 -- ---- The look over the slots, from a slot on, with what was found before it
 
-module _ (area : List ℕ) (w : Wanted) (ys : List Slot) (i : ℕ) (a : Survey) where
+module _ (area : List ℕ) (w : Wanted) (ys : List Slot) (i : ℕ) (a : Findings) where
   -- one slot more
-  pub look-next : (r : Survey) (c : Bool) → i < length ys → scanned area w ys ≡ scanFrom area w ys a i (drop i ys)
+  pub look-next : (r : Findings) (c : Bool) → i < length ys → scanned area w ys ≡ scanFrom area w ys a i (drop i ys)
       → c ≡ aloneIn a (getD ys i noSlot) (take i ys) → r ≡ stepOf area w a (getD ys i noSlot) c i
       → scanned area w ys ≡ scanFrom area w ys r (i + 1) (drop (i + 1) ys)
   unfolding scanFrom
   look-next r c l h e f = h ∙ rw (f, e, add-one, drop-cons ys i noSlot l)
 
   -- one that tells nothing
-  pub look-past : i < length ys → scanned area w ys ≡ scanFrom area w ys a i (drop i ys) → tellsOf a (getD ys i noSlot) i ≡ false
+  pub look-past : i < length ys → scanned area w ys ≡ scanFrom area w ys a i (drop i ys) → isLookedAt a (getD ys i noSlot) i ≡ false
       → scanned area w ys ≡ scanFrom area w ys a (i + 1) (drop (i + 1) ys)
   unfolding scanFrom
   look-past l h t =
       let x = getD ys i noSlot in
       h
       ∙ rw (add-one, drop-cons ys i noSlot l)
-      (ap (λ (z : Survey). scanFrom area w ys z (suc i) (drop (suc i) ys))
+      (ap (λ (z : Findings). scanFrom area w ys z (suc i) (drop (suc i) ys))
       (tells-nothing area w a x (aloneIn a x (take i ys)) i (neither-left (isUsed x) (leb i (a .free)) t) (leb-false i (a .free) (neither-right (isUsed x) (leb i (a .free)) t))))
 
   -- and none left

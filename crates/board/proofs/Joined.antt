@@ -13,9 +13,9 @@ use Rattle.command.proofs.Accepted.{accepted, longest-is}
 use Rattle.config.specs.Config.{applyTo}
 use Rattle.join.specs.Join.{joinText}
 use Rattle.join.proofs.Laws.{join-acts}
-use Rattle.board.specs.Board.{Place, isNone, isFor, any, waiting, isValid}
+use Rattle.board.specs.Board.{WaitingSlot, isNone, isFor, any, waiting, isValid}
 use Rattle.board.specs.History.{onto, joined, noCommands, act}
-use Rattle.board.proofs.Places.{never, both, none-is, waiting-any}
+use Rattle.board.proofs.WaitingSlots.{never, both, none-is, waiting-any}
 use Rattle.board.proofs.Valid.{waiting-fine}
 use Rattle.board.proofs.Steps.{is-fine, accepted-some, joins}
 
@@ -26,7 +26,7 @@ pub accepted-short : (t : List ℕ) → isFine (checkCommand t) ≡ true → len
 accepted-short t f = rw longest-is (accepted t (is-fine (checkCommand t) f) .short)
 
 -- so has what waits on a valid board
-pub waiting-short : (d : List ℕ) (b : List Place) → isValid b ≡ true → length (waiting d b) ≤ longest
+pub waiting-short : (d : List ℕ) (b : List WaitingSlot) → isValid b ≡ true → length (waiting d b) ≤ longest
 waiting-short d b v =
     by-test (any (isFor d) b)
     (λ h. accepted-short (waiting d b) (waiting-fine d b v h))

@@ -14,10 +14,10 @@ use Rattle.text.specs.Over.{over}
 use Rattle.text.proofs.Cases.{both-left, both-right}
 use Rattle.text.proofs.Over.{length-over}
 use Rattle.command.specs.Text.{longest}
-use Rattle.board.specs.Board.{Place, nowhere, isNone, isFree, isFor, Move, Stay, Put, Free, onBoard}
+use Rattle.board.specs.Board.{WaitingSlot, emptySlot, isNone, isFree, isFor, Move, Stay, Put, Free, onBoard}
 use Rattle.board.specs.Lent.{boardOf, lengthsFit, isShaped, noSlot, onSlots, onArea}
 use Rattle.board.specs.declared.Slot.{Slot}
-use Rattle.board.proofs.Places.{both}
+use Rattle.board.proofs.WaitingSlots.{both}
 
 -- ---- A text written at a place, seen from before it and from behind it
 
@@ -104,7 +104,7 @@ length-board (x ∷ xs) area = ap suc (length-board xs (drop longest area))
 
 -- place i: the designator of slot i, and as many bytes of its own 835 as wait
 pub slot-at : (xs : List Slot) (area : List ℕ) (i : ℕ) → i < length xs
-    → getD (boardOf xs area) i nowhere
+    → getD (boardOf xs area) i emptySlot
     ≡ record {
       who = getD xs i noSlot .designator;
       text = take (getD xs i noSlot .length) (take longest (drop (longest * i) area));
@@ -127,7 +127,7 @@ free-first n area h l =
 
 -- and so is every place
 pub free-at : (xs : List Slot) (area : List ℕ) (i : ℕ) → length area ≡ longest * length xs → lengthsFit xs ≡ true → i < length xs
-    → isFree (getD (boardOf xs area) i nowhere) ≡ eqb (getD xs i noSlot .length) 0
+    → isFree (getD (boardOf xs area) i emptySlot) ≡ eqb (getD xs i noSlot .length) 0
 unfolding boardOf isFree
 free-at [] area i e f l = absurd (omega arith)
 free-at (x ∷ xs) area zero e f l =
@@ -145,15 +145,15 @@ fit-at (x ∷ xs) (suc i) f = fit-at xs i (fit-rest x xs f)
 
 -- the text of place i stands in the area from 835 i on
 pub text-at : (xs : List Slot) (area : List ℕ) (i : ℕ) → lengthsFit xs ≡ true → i < length xs
-    → getD (boardOf xs area) i nowhere .text ≡ take (getD xs i noSlot .length) (drop (longest * i) area)
+    → getD (boardOf xs area) i emptySlot .text ≡ take (getD xs i noSlot .length) (drop (longest * i) area)
 text-at xs area i f l =
-    ap (λ (p : Place). p .text) (slot-at xs area i l)
+    ap (λ (p : WaitingSlot). p .text) (slot-at xs area i l)
     ∙ take-take (getD xs i noSlot .length) longest (drop (longest * i) area) (fit-at xs i f)
 
 -- place i is for an aircraft where its length isn't 0 and its designator is that
 pub for-at : (d : List ℕ) (xs : List Slot) (area : List ℕ) (i : ℕ) → length area ≡ longest * length xs → lengthsFit xs ≡ true
     → i < length xs
-    → isFor d (getD (boardOf xs area) i nowhere)
+    → isFor d (getD (boardOf xs area) i emptySlot)
     ≡ (not (eqb (getD xs i noSlot .length) 0) && sameBytes d (getD xs i noSlot .designator))
 unfolding isFor
 for-at d xs area i e f l = rw (free-at xs area i e f l, slot-at xs area i l)

@@ -18,12 +18,12 @@ use Rattle.text.proofs.Equal.{same-equal, equal-same}
 use Rattle.command.specs.Text.{longest, checkCommand}
 use Rattle.command.proofs.Accepted.{longest-is}
 use Rattle.join.specs.Join.{joinText}
-use Rattle.board.specs.Board.{isDesignator, Place, nowhere, isNone, isFree, isFor, any, lowest, waiting, isValid, Stay, Put, inTurn, placing, add}
+use Rattle.board.specs.Board.{isDesignator, WaitingSlot, emptySlot, isNone, isFree, isFor, any, lowest, waiting, isValid, Stay, Put, pastRefusals, placing, add}
 use Rattle.board.specs.History.{Add}
 use Rattle.board.specs.Lent.{boardOf, lengthsFit, isShaped, addLent, isValidLent}
 use Rattle.board.specs.Words.{slotAt, InUse, textIn, WellFormed, ValidBoard, IsOwn, Adds}
 use Rattle.board.specs.declared.Slot.{Slot}
-use Rattle.board.proofs.Places.{never, both, for-who, for-used, used-for, passes-any, waiting-any, waiting-at, waiting-none}
+use Rattle.board.proofs.WaitingSlots.{never, both, for-who, for-used, used-for, passes-any, waiting-any, waiting-at, waiting-none}
 use Rattle.board.proofs.Valid.{only, Proper, valid-proper, proper-valid}
 use Rattle.board.proofs.Steps.{is-fine}
 use Rattle.board.proofs.Slots.{add-own, add-lowest}
@@ -39,7 +39,7 @@ used-there (x ∷ xs) zero u = omega arith
 used-there (x ∷ xs) (suc i) u = omega (arith, used-there xs i u)
 
 -- and so is a place
-place-there : (b : List Place) (i : ℕ) → isFree (getD b i nowhere) ≡ false → i < length b
+place-there : (b : List WaitingSlot) (i : ℕ) → isFree (getD b i emptySlot) ≡ false → i < length b
 unfolding isFree
 place-there [] i f = never refl f
 place-there (x ∷ b) zero f = omega arith
@@ -47,24 +47,24 @@ place-there (x ∷ b) (suc i) f = omega (arith, place-there b i f)
 
 module _ (xs : List Slot) (area : List ℕ) where
   -- the place of a used slot names its aircraft
-  who-is : (i : ℕ) → InUse xs i → getD (boardOf xs area) i nowhere .who ≡ slotAt xs i .designator
-  who-is i u = ap (λ (p : Place). p .who) (slot-at xs area i (used-there xs i u))
+  who-is : (i : ℕ) → InUse xs i → getD (boardOf xs area) i emptySlot .who ≡ slotAt xs i .designator
+  who-is i u = ap (λ (p : WaitingSlot). p .who) (slot-at xs area i (used-there xs i u))
 
   -- and holds its text
-  text-is : (i : ℕ) → InUse xs i → getD (boardOf xs area) i nowhere .text ≡ textIn xs area i
-  text-is i u = ap (λ (p : Place). p .text) (slot-at xs area i (used-there xs i u)) ∙ rw longest-is
+  text-is : (i : ℕ) → InUse xs i → getD (boardOf xs area) i emptySlot .text ≡ textIn xs area i
+  text-is i u = ap (λ (p : WaitingSlot). p .text) (slot-at xs area i (used-there xs i u)) ∙ rw longest-is
 
   module _ (h : Shape xs area) where
     -- a place is free where its slot's length is 0
-    free-is : (i : ℕ) → i < length xs → isFree (getD (boardOf xs area) i nowhere) ≡ eqb (slotAt xs i .length) 0
+    free-is : (i : ℕ) → i < length xs → isFree (getD (boardOf xs area) i emptySlot) ≡ eqb (slotAt xs i .length) 0
     free-is i l = free-at xs area i (h .bytes) (h .fit) l
 
     -- used where its slot is
-    place-used : (i : ℕ) → InUse xs i → isFree (getD (boardOf xs area) i nowhere) ≡ false
+    place-used : (i : ℕ) → InUse xs i → isFree (getD (boardOf xs area) i emptySlot) ≡ false
     place-used i u = free-is i (used-there xs i u) ∙ ne-eqb (slotAt xs i .length) 0 u
 
     -- and there alone
-    slot-used : (i : ℕ) → isFree (getD (boardOf xs area) i nowhere) ≡ false → InUse xs i
+    slot-used : (i : ℕ) → isFree (getD (boardOf xs area) i emptySlot) ≡ false → InUse xs i
     slot-used i f =
         let l = rw (length-board xs area) at (place-there (boardOf xs area) i f) in
         eqb-false (slotAt xs i .length) 0 (sym (free-is i l) ∙ f)
@@ -88,7 +88,7 @@ form d w = both (eqb (length d) 6) (allAllowed d) (eq-eqb (length d) 6 (w .0)) (
 pub valid-said : (xs : List Slot) (area : List ℕ) → isValidLent xs area ≡ true → ValidBoard xs area
 unfolding isValidLent
 valid-said xs area e =
-    let b : List Place = boardOf xs area in
+    let b : List WaitingSlot = boardOf xs area in
     let h : Shape xs area = shape xs area (both-left (isShaped xs area) (isValid b) e) in
     let p : Proper b = valid-proper b (both-right (isShaped xs area) (isValid b) e) in
     record {
@@ -98,11 +98,11 @@ valid-said xs area e =
       different = λ i j u v s.
           by-eq i j (λ k. k)
           (λ n. never
-          (equal-same (getD b i nowhere .who) (getD b j nowhere .who) (who-is xs area i u ∙ s ∙ sym (who-is xs area j v)))
+          (equal-same (getD b i emptySlot .who) (getD b j emptySlot .who) (who-is xs area i u ∙ s ∙ sym (who-is xs area j v)))
           (p .different i j (λ k. n (sym k)) (place-used xs area h i u) (place-used xs area h j v)));
       texts = λ i u. (
         rw longest-is at (fit-at xs i (h .fit)),
-        ap checkCommand (sym (text-is xs area i u)) ∙ is-fine (checkCommand (getD b i nowhere .text)) (p .fine i (place-used xs area h i u)),
+        ap checkCommand (sym (text-is xs area i u)) ∙ is-fine (checkCommand (getD b i emptySlot .text)) (p .fine i (place-used xs area h i u)),
       );
     }
 
@@ -117,7 +117,7 @@ lengths-fit (x ∷ xs) l =
 pub said-valid : (xs : List Slot) (area : List ℕ) → ValidBoard xs area → isValidLent xs area ≡ true
 unfolding isValidLent
 said-valid xs area v =
-    let b : List Place = boardOf xs area in
+    let b : List WaitingSlot = boardOf xs area in
     both (isShaped xs area) (isValid b)
     (shaped xs area shapely)
     (proper-valid b
@@ -127,10 +127,10 @@ said-valid xs area v =
       different = λ i j n f g.
           let u = slot-used xs area shapely i f in
           let w = slot-used xs area shapely j g in
-          by-test (sameBytes (getD b i nowhere .who) (getD b j nowhere .who))
+          by-test (sameBytes (getD b i emptySlot .who) (getD b j emptySlot .who))
           (λ s. absurd
           (n (sym (v .different i j u w
-          (sym (who-is xs area i u) ∙ same-equal (getD b i nowhere .who) (getD b j nowhere .who) s ∙ who-is xs area j w)))))
+          (sym (who-is xs area i u) ∙ same-equal (getD b i emptySlot .who) (getD b j emptySlot .who) s ∙ who-is xs area j w)))))
           (λ s. s);
     }))
   where
@@ -167,7 +167,7 @@ no-slots =
 -- ---- Adding
 
 module _ (xs : List Slot) (area d t : List ℕ) (i : ℕ) (e w : List ℕ) (k : addLent xs area d t ≡ Put i e w) where
-  abbrev board : List Place
+  abbrev board : List WaitingSlot
   board = boardOf xs area
 
   -- where a text is put the board is valid
@@ -186,14 +186,14 @@ module _ (xs : List Slot) (area d t : List ℕ) (i : ℕ) (e w : List ℕ) (k : 
   put-place = rw put-shaped at k
 
   -- the place of the aircraft's own slot is for it
-  own-place : (j : ℕ) → IsOwn xs d j → isFor d (getD board j nowhere) ≡ true
+  own-place : (j : ℕ) → IsOwn xs d j → isFor d (getD board j emptySlot) ≡ true
   own-place j o =
       let h = shape xs area put-shaped in
-      rw (← (who-is xs area j (o .0) ∙ o .1)) (used-for (getD board j nowhere) (place-used xs area h j (o .0)))
+      rw (← (who-is xs area j (o .0) ∙ o .1)) (used-for (getD board j emptySlot) (place-used xs area h j (o .0)))
 
   -- a text is put for the aircraft that was asked for
   put-for : (v n : Bool) (s : Seen) (own free : Bool) (p q : ℕ) (x : List ℕ)
-      → inTurn Stay v n s (placing Stay own free (Put p d x) (Put q d t)) ≡ Put i e w
+      → pastRefusals Stay v n s (placing Stay own free (Put p d x) (Put q d t)) ≡ Put i e w
       → e ≡ d
   put-for true true Fine true free p q x r = cc
   put-for true true Fine false true p q x r = cc
@@ -214,18 +214,18 @@ module _ (xs : List Slot) (area d t : List ℕ) (i : ℕ) (e w : List ℕ) (k : 
             (lowest (isFor d) board) (lowest isFree board) (joinText (waiting d board) t) put-place;
         own = λ j o.
             let mine = own-place j o in
-            let alone : (n : ℕ) → (n ≡ j → ⊥) → isFor d (getD board n nowhere) ≡ false = λ n q. only d board v j n mine q in
+            let alone : (n : ℕ) → (n ≡ j → ⊥) → isFor d (getD board n emptySlot) ≡ false = λ n q. only d board v j n mine q in
             let some : isNone (waiting d board) ≡ false = waiting-any d board ∙ rw (passes-any (isFor d) board j refl mine) in
             let r = add-own board d t i e w put-place some in (
               by-eq i j (λ q. q) (λ q. never (r .0) (alone i q)),
               r .1 ∙ ap (λ (u : List ℕ). joinText u t) (waiting-at d board j mine alone ∙ text-is xs area j (o .0)),
             );
         lowest = λ none.
-            let nobody : (j : ℕ) → isFor d (getD board j nowhere) ≡ false =
-            λ j. by-test (isFor d (getD board j nowhere))
+            let nobody : (j : ℕ) → isFor d (getD board j emptySlot) ≡ false =
+            λ j. by-test (isFor d (getD board j emptySlot))
             (λ y.
-            let u = slot-used xs area h j (for-used d (getD board j nowhere) y) in
-            absurd (none j (u, sym (for-who d (getD board j nowhere) y ∙ who-is xs area j u))))
+            let u = slot-used xs area h j (for-used d (getD board j emptySlot) y) in
+            absurd (none j (u, sym (for-who d (getD board j emptySlot) y ∙ who-is xs area j u))))
             (λ n. n) in
             let r = add-lowest board d t i e w put-place (ap isNone (waiting-none d board nobody)) in
             let inside = rw k at (call-sits (record { slots = xs; area = area }) (Add d t) put-shaped) in (

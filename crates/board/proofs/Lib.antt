@@ -1,6 +1,6 @@
 -- The laws that the layers above cite.
-pub mod Places
-pub mod Turn
+pub mod WaitingSlots
+pub mod Refusals
 pub mod Valid
 pub mod Steps
 pub mod Slots

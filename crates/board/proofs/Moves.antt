@@ -18,8 +18,8 @@ use Rattle.join.specs.Join.{Joined, Joins, Refuses, joinText, bySeen, join, tol
 use Rattle.join.specs.declared.Told.{Told}
 use Rattle.join.specs.declared.Told.the-variants.{Text, Refused}
 use Rattle.board.specs.Board.{Move, Stay, Put}
-use Rattle.board.specs.Survey.{fitsAt, joinsTo, ownMove, freeMove, addMove}
-use Rattle.board.specs.declared.Survey.{Survey}
+use Rattle.board.specs.Inner.{fitsAt, joinsTo, ownMove, freeMove, addMove}
+use Rattle.board.specs.declared.Findings.{Findings}
 use Rattle.board.specs.declared.Wanted.{Wanted}
 
 -- what a slot's lying in the area says
@@ -85,7 +85,7 @@ onto a b d l j m n e f w =
 
 -- ---- Adding to a valid board a command that is accepted, for an aircraft that is well formed
 
-module _ (v : Survey) (w : Wanted) (area t : List ℕ) (a : v .valid ≡ true) (b : w .fine ≡ true) (e : checkCommand t ≡ Fine) where
+module _ (v : Findings) (w : Wanted) (area t : List ℕ) (a : v .valid ≡ true) (b : w .fine ≡ true) (e : checkCommand t ≡ Fine) where
   -- where a text waits for it
   pub add-own : v .own < v .count → addMove v w area t ≡ ownMove v w area t
   unfolding addMove

@@ -12,7 +12,7 @@ use Rattle.section.specs.Layout.{layoutOf, checkItems, itemsSize, itemsMost}
 use Rattle.command.specs.Text.{checkEach, checkAwr04, checkHead, checkFrom, sectionsMost, longest, checkCommand}
 use Rattle.join.specs.Join.{bytesFrom, choose, joinSections, joinText}
 use Rattle.join.proofs.Printed.{first, second, both}
-use Rattle.board.specs.Board.{nowhere, isFree, isFor, any, lowest, waiting, isValid, Reply, Given, Refused, add, takeOut}
+use Rattle.board.specs.Board.{emptySlot, isFree, isFor, any, lowest, waiting, isValid, Reply, Given, Refused, add, takeOut}
 use Rattle.board.specs.History.{Event, Add, Take, Entry, sinceFrom, joined, after, logged, member, callers, busyAmong, calledFor}
 use Rattle.board.specs.Lent.{boardOf, lengthsFit, isShaped, addLent, takeLent, noSlot}
 use Rattle.board.specs.Calls.{Lent, afterCalls}
@@ -81,8 +81,8 @@ pair-logged = refl
 abbrev refilled : List Event
 refilled = Add xy first ∷ Add zz second ∷ Take xy 31 ∷ Add zy second ∷ []
 
-slots-used : after (nowhere ∷ nowhere ∷ nowhere ∷ []) refilled
-    ≡ record { who = zy; text = second } ∷ record { who = zz; text = second } ∷ nowhere ∷ []
+slots-used : after (emptySlot ∷ emptySlot ∷ emptySlot ∷ []) refilled
+    ≡ record { who = zy; text = second } ∷ record { who = zz; text = second } ∷ emptySlot ∷ []
 unfolding after add takeOut isValid any lowest isFor isFree waiting sameBytes allowed allAllowed first second checkCommand longest sectionsMost layoutOf itemsMost checkHead checkAwr04 checkEach checkDelimiter checkFrom checkItems checkNumber allDigits valueFrom
 slots-used = refl
 

@@ -10,15 +10,15 @@ use Rattle.text.specs.declared.Seen.{Seen}
 use Rattle.text.specs.declared.Seen.the-variants.{Fine, Bad}
 use Rattle.text.proofs.Cases.{by-test, both-left, both-right}
 use Rattle.command.specs.Text.{checkCommand}
-use Rattle.board.specs.Board.{isDesignator, Place, isNone, isFree, any, waiting, isSound, isValid, inTurn, placing, Move, Stay, Put, Free, onBoard, Reply, Given, Refused, replyOf}
+use Rattle.board.specs.Board.{isDesignator, WaitingSlot, isNone, isFree, any, waiting, isSound, isValid, pastRefusals, placing, Move, Stay, Put, Free, onBoard, Reply, Given, Refused, replyOf}
 use Rattle.board.specs.History.{Event, Add, Take, Entry, aircraft, heard, sinceFrom, since, onto, joined, move, after, logged, isEmptyBoard, due}
-use Rattle.board.proofs.Places.{both, waiting-cons, free-for}
+use Rattle.board.proofs.WaitingSlots.{both, waiting-cons, free-for}
 use Rattle.board.proofs.Steps.{next, right}
 use Rattle.board.proofs.Joined.{allFine, fine-snoc}
 
 -- ---- A board that begins empty
 
-module _ (x : Place) (b : List Place) (o : isEmptyBoard (x ∷ b) ≡ true) where
+module _ (x : WaitingSlot) (b : List WaitingSlot) (o : isEmptyBoard (x ∷ b) ≡ true) where
   empty-first : isFree x ≡ true
   unfolding isEmptyBoard
   empty-first = both-left (isFree x) (isEmptyBoard b) o
@@ -28,13 +28,13 @@ module _ (x : Place) (b : List Place) (o : isEmptyBoard (x ∷ b) ≡ true) wher
   empty-rest = both-right (isFree x) (isEmptyBoard b) o
 
 -- nothing waits
-pub empty-waits : (d : List ℕ) (b : List Place) → isEmptyBoard b ≡ true → waiting d b ≡ []
+pub empty-waits : (d : List ℕ) (b : List WaitingSlot) → isEmptyBoard b ≡ true → waiting d b ≡ []
 unfolding waiting
 empty-waits d [] o = refl
 empty-waits d (x ∷ b) o = rw (waiting-cons d x b, free-for d x (empty-first x b o)) (empty-waits d b (empty-rest x b o))
 
 -- it is valid
-pub empty-valid : (b : List Place) → isEmptyBoard b ≡ true → isValid b ≡ true
+pub empty-valid : (b : List WaitingSlot) → isEmptyBoard b ≡ true → isValid b ≡ true
 unfolding isValid
 empty-valid [] o = refl
 empty-valid (x ∷ b) o =
@@ -50,7 +50,7 @@ joined-heard d cs (Add e t) (Refused code place) = refl
 joined-heard d cs (Take e room) (Given w) = by-test (sameBytes d e) (λ y. rw y) (λ n. rw n)
 joined-heard d cs (Take e room) (Refused code place) = refl
 
-given-fine : (n : Bool) (s : Seen) (r : Reply) (w : List ℕ) → Given w ≡ inTurn Refused true n s r → isFine s ≡ true
+given-fine : (n : Bool) (s : Seen) (r : Reply) (w : List ℕ) → Given w ≡ pastRefusals Refused true n s r → isFine s ≡ true
 given-fine true Fine r w e = refl
 given-fine true (Bad code place) r w e = cc
 given-fine false s r w e = cc
@@ -78,22 +78,22 @@ since-snoc d (y ∷ log) x cs = since-snoc d log x (heard d cs (y .event) (y .re
 -- ---- In step
 
 -- the board is valid, what waits is what the log says, and all of that was accepted
-pub record InStep (b : List Place) (log : List Entry) : Type 0 where
+pub record InStep (b : List WaitingSlot) (log : List Entry) : Type 0 where
   pub valid : isValid b ≡ true
   pub waits : (d : List ℕ) → waiting d b ≡ joined (since d log)
   pub fine : (d : List ℕ) → allFine (since d log) ≡ true
 
 -- the entry that an event makes
-abbrev pub entry : List Place → Event → Entry
+abbrev pub entry : List WaitingSlot → Event → Entry
 entry b e = record { event = e; reply = replyOf (move b e) }
 
 -- an empty board is in step with an empty log
-pub empty-in-step : (b : List Place) → isEmptyBoard b ≡ true → InStep b []
+pub empty-in-step : (b : List WaitingSlot) → isEmptyBoard b ≡ true → InStep b []
 unfolding sinceFrom joined allFine
 empty-in-step b o = record { valid = empty-valid b o; waits = λ d. empty-waits d b o; fine = λ d. refl }
 
 -- an event keeps it in step
-pub event-in-step : (b : List Place) (log : List Entry) (e : Event) → InStep b log
+pub event-in-step : (b : List WaitingSlot) (log : List Entry) (e : Event) → InStep b log
     → InStep (onBoard (move b e) b) (log ++ (entry b e ∷ []))
 event-in-step b log e s =
     let m : Move = move b e in
@@ -112,20 +112,20 @@ event-in-step b log e s =
     }
 
 -- and so does every run
-pub run-in-step : (b : List Place) (log : List Entry) (es : List Event) → InStep b log → InStep (after b es) (log ++ logged b es)
+pub run-in-step : (b : List WaitingSlot) (log : List Entry) (es : List Event) → InStep b log → InStep (after b es) (log ++ logged b es)
 unfolding after logged
 run-in-step b log [] s = rw (append-nil log) s
 run-in-step b log (e ∷ es) s =
     rw append-assoc at (run-in-step (onBoard (move b e) b) (log ++ (entry b e ∷ [])) es (event-in-step b log e s))
 
 -- a move keeps the number of slots
-pub length-move : (m : Move) (b : List Place) → length (onBoard m b) ≡ length b
+pub length-move : (m : Move) (b : List WaitingSlot) → length (onBoard m b) ≡ length b
 length-move (Stay code place) b = refl
 length-move (Put i d t) b = length-set b i (record { who = d; text = t })
 length-move (Free i t) b = length-set b i _
 
 -- and so does every run
-pub length-after : (b : List Place) (es : List Event) → length (after b es) ≡ length b
+pub length-after : (b : List WaitingSlot) (es : List Event) → length (after b es) ≡ length b
 unfolding after
 length-after b [] = refl
 length-after b (e ∷ es) = length-after (onBoard (move b e) b) es ∙ length-move (move b e) b

@@ -16,18 +16,18 @@ use Rattle.text.proofs.Equal.{same-equal, equal-same}
 use Rattle.text.proofs.Cases.{by-test, by-lt, by-le, by-eq, both-left, both-right}
 use Rattle.command.specs.Text.{longest, checkCommand}
 use Rattle.command.proofs.Accepted.{longest-is}
-use Rattle.board.specs.Board.{isDesignator, Place, nowhere, isNone, isFree, isFor, any, lowest, waiting, isSound, isValid}
+use Rattle.board.specs.Board.{isDesignator, WaitingSlot, emptySlot, isNone, isFree, isFor, any, lowest, waiting, isSound, isValid}
 use Rattle.board.specs.Lent.{boardOf, lengthsFit, noSlot}
-use Rattle.board.specs.Survey.{isUsed, usedFor, noneFor, aloneIn, soundAt, firstOf, withFree, withUsed, stepOf, scanFrom}
+use Rattle.board.specs.Inner.{isUsed, usedFor, noneFor, aloneIn, soundAt, firstOf, withFree, withUsed, stepOf, scanFrom}
 use Rattle.board.specs.declared.Slot.{Slot}
-use Rattle.board.specs.declared.Survey.{Survey}
+use Rattle.board.specs.declared.Findings.{Findings}
 use Rattle.board.specs.declared.Wanted.{Wanted}
-use Rattle.board.proofs.Places.{never, waiting-any}
+use Rattle.board.proofs.WaitingSlots.{never, waiting-any}
 
 -- ---- A slot and its place
 
 -- the place of a slot whose bytes, and what is behind them, are `area`
-abbrev pub placeOf : Slot → List ℕ → Place
+abbrev pub placeOf : Slot → List ℕ → WaitingSlot
 placeOf x area = record { who = x .designator; text = take (x .length) (take longest area) }
 
 take-none : (n : ℕ) (l : List ℕ) → 1 ≤ length l → isNone (take n l) ≡ eqb n 0
@@ -63,7 +63,7 @@ module _ (area : List ℕ) (i n : ℕ) (e : length area ≡ 835 * (i + suc n)) w
   next-bytes = e ∙ omega arith
 
 -- the board of the slots from i on
-abbrev pub boardFrom : List ℕ → ℕ → List Slot → List Place
+abbrev pub boardFrom : List ℕ → ℕ → List Slot → List WaitingSlot
 boardFrom area i xs = boardOf xs (drop (835 * i) area)
 
 -- ---- No slot behind is for an aircraft
@@ -86,7 +86,7 @@ none-any d area i (x ∷ xs) e =
 
 -- ---- Valid
 
-with-valid : (a : Survey) (x : Slot) (fine : Bool) (i : ℕ) (d : List ℕ) → withUsed a x fine i d .valid ≡ fine
+with-valid : (a : Findings) (x : Slot) (fine : Bool) (i : ℕ) (d : List ℕ) → withUsed a x fine i d .valid ≡ fine
 with-valid a x fine i d =
     by-test (ltb (a .own) i)
     (λ (t : ltb (a .own) i ≡ true). rw t)
@@ -124,8 +124,8 @@ cond-true t p q e = rw e
 pub cond-false {ℓ} : {A : Type ℓ} (t : Bool) (p q : A) → t ≡ false → cond t p q ≡ q
 cond-false t p q e = rw e
 
-module _ (area : List ℕ) (w : Wanted) (a : Survey) (x : Slot) (c : Bool) (i : ℕ) where
-  abbrev used : Survey
+module _ (area : List ℕ) (w : Wanted) (a : Findings) (x : Slot) (c : Bool) (i : ℕ) where
+  abbrev used : Findings
   used = withUsed a x (c && soundAt x area i) i (w .designator)
 
   pub step-bad : a .valid ≡ false → stepOf area w a x c i ≡ a
@@ -140,7 +140,7 @@ module _ (area : List ℕ) (w : Wanted) (a : Survey) (x : Slot) (c : Bool) (i : 
   unfolding stepOf
   step-used e u = cond-true (a .valid) (cond (isUsed x) used (withFree a i)) a e ∙ cond-true (isUsed x) used (withFree a i) u
 
-alone-is : (a : Survey) (x : Slot) (xs : List Slot) → a .valid ≡ true → isUsed x ≡ true → aloneIn a x xs ≡ noneFor (x .designator) xs
+alone-is : (a : Findings) (x : Slot) (xs : List Slot) → a .valid ≡ true → isUsed x ≡ true → aloneIn a x xs ≡ noneFor (x .designator) xs
 unfolding aloneIn
 alone-is a x xs e u = cond-true (a .valid && isUsed x) (noneFor (x .designator) xs) true (rw (e, u))
 
@@ -218,11 +218,11 @@ regroup false s c b v = refl
 
 module _ (area : List ℕ) (w : Wanted) (ys : List Slot) where
   -- where the board is not valid already, it stays so
-  pub stays-bad : (a : Survey) (i : ℕ) (xs : List Slot) → a .valid ≡ false → scanFrom area w ys a i xs ≡ a
+  pub stays-bad : (a : Findings) (i : ℕ) (xs : List Slot) → a .valid ≡ false → scanFrom area w ys a i xs ≡ a
   unfolding scanFrom
   stays-bad a i [] e = refl
   stays-bad a i (x ∷ xs) e =
-      ap (λ (z : Survey). scanFrom area w ys z (suc i) xs) (step-bad area w a x (aloneIn a x (take i ys)) i e) ∙ stays-bad a (suc i) xs e
+      ap (λ (z : Findings). scanFrom area w ys z (suc i) xs) (step-bad area w a x (aloneIn a x (take i ys)) i e) ∙ stays-bad a (suc i) xs e
 
   -- designator and text of a used slot, against the place's own soundness
   module _ (x : Slot) (xs : List Slot) (i : ℕ) (e : length area ≡ 835 * (i + suc (length xs))) (few : i + suc (length xs) ≤ 64) (u : isUsed x ≡ true) (fit : x .length ≤ 835) where
@@ -250,8 +250,8 @@ module _ (area : List ℕ) (w : Wanted) (ys : List Slot) where
         )
 
   -- what the look says of validity, from slot i on
-  module _ (a : Survey) (i : ℕ) (x : Slot) (xs : List Slot) (few : i + suc (length xs) ≤ 64) (e : length area ≡ 835 * (i + suc (length xs))) where
-    abbrev rest : List Place
+  module _ (a : Findings) (i : ℕ) (x : Slot) (xs : List Slot) (few : i + suc (length xs) ≤ 64) (e : length area ≡ 835 * (i + suc (length xs))) where
+    abbrev rest : List WaitingSlot
     rest = boardFrom area (suc i) xs
 
     abbrev asked : Bool
@@ -287,7 +287,7 @@ module _ (area : List ℕ) (w : Wanted) (ys : List Slot) where
     left-next : drop (suc i) ys ≡ xs
     left-next = ap (λ (l : List Slot). drop 1 l) parted
 
-  scan-valid : (a : Survey) (i : ℕ) (xs : List Slot) → drop i ys ≡ xs → i + length xs ≤ 64 → length area ≡ 835 * (i + length xs)
+  scan-valid : (a : Findings) (i : ℕ) (xs : List Slot) → drop i ys ≡ xs → i + length xs ≤ 64 → length area ≡ 835 * (i + length xs)
       → scanFrom area w ys a i xs .valid ≡ (a .valid && (clearOf (take i ys) xs && (lengthsFit xs && isValid (boardFrom area i xs))))
   unfolding scanFrom lengthsFit isValid boardOf
   scan-valid a i [] left few e = sym (and-true (a .valid))
@@ -302,8 +302,8 @@ module _ (area : List ℕ) (w : Wanted) (ys : List Slot) where
       (λ (t : a .valid ≡ true).
       by-test (isUsed x)
       (λ (u : isUsed x ≡ true).
-      let z : Survey = withUsed a x (c && soundAt x area i) i (w .designator) in
-      ap (λ (y : Survey). scanFrom area w ys y (suc i) xs .valid) (step-used area w a x c i t u)
+      let z : Findings = withUsed a x (c && soundAt x area i) i (w .designator) in
+      ap (λ (y : Findings). scanFrom area w ys y (suc i) xs .valid) (step-used area w a x c i t u)
       ∙ scan-valid z (suc i) xs later few′ e′
       ∙ rw (
         with-valid a x (c && soundAt x area i) i (w .designator),
@@ -316,30 +316,30 @@ module _ (area : List ℕ) (w : Wanted) (ys : List Slot) where
       )
       (regroup (noneFor (x .designator) (take i ys)) (soundAt x area i) (clearOf (take i ys) xs) (noneFor (x .designator) xs) (lengthsFit xs && isValid (boardFrom area (suc i) xs))))
       (λ (u : isUsed x ≡ false).
-      ap (λ (y : Survey). scanFrom area w ys y (suc i) xs .valid) (step-free area w a x c i t u)
+      ap (λ (y : Findings). scanFrom area w ys y (suc i) xs .valid) (step-free area w a x c i t u)
       ∙ scan-valid (withFree a i) (suc i) xs later few′ e′
       ∙ rw (more, clear-free x xs u, and-true (clearOf (take i ys) xs), ← valid-free a i x xs few e u, t, u)))
       (λ (t : a .valid ≡ false).
-      ap (λ (y : Survey). scanFrom area w ys y (suc i) xs .valid) (step-bad area w a x c i t)
-      ∙ ap (λ (y : Survey). y .valid) (stays-bad a (suc i) xs t)
+      ap (λ (y : Findings). scanFrom area w ys y (suc i) xs .valid) (step-bad area w a x c i t)
+      ∙ ap (λ (y : Findings). y .valid) (stays-bad a (suc i) xs t)
       ∙ t
       ∙ rw t))
 
 -- of all slots
-pub valid-all : (area : List ℕ) (w : Wanted) (xs : List Slot) (a : Survey) → 0 + length xs ≤ 64 → length area ≡ 835 * (0 + length xs)
+pub valid-all : (area : List ℕ) (w : Wanted) (xs : List Slot) (a : Findings) → 0 + length xs ≤ 64 → length area ≡ 835 * (0 + length xs)
     → scanFrom area w xs a 0 xs .valid ≡ (a .valid && (lengthsFit xs && isValid (boardFrom area 0 xs)))
 valid-all area w xs a few e = scan-valid area w xs a 0 xs refl few e ∙ rw (clear-none xs)
 
 -- ---- The number of slots, the aircraft's own slot, the lowest free one
 
 -- what a used slot leaves where it is the aircraft's own, and where it is not
-abbrev asMine : Survey → Slot → Bool → ℕ → Survey
+abbrev asMine : Findings → Slot → Bool → ℕ → Findings
 asMine a x fine i = record { valid = fine; length = x .length; own = i; free = a .free; count = a .count }
 
-abbrev asOther : Survey → Bool → Survey
+abbrev asOther : Findings → Bool → Findings
 asOther a fine = record { valid = fine; length = a .length; own = a .own; free = a .free; count = a .count }
 
-module _ (a : Survey) (x : Slot) (fine : Bool) (i : ℕ) (d : List ℕ) where
+module _ (a : Findings) (x : Slot) (fine : Bool) (i : ℕ) (d : List ℕ) where
   used-found : ltb (a .own) i ≡ true → withUsed a x fine i d ≡ asOther a fine
   used-found t = cond-true (ltb (a .own) i) (asOther a fine) (cond (sameBytes d (x .designator)) (asMine a x fine i) (asOther a fine)) t
 
@@ -356,7 +356,7 @@ module _ (a : Survey) (x : Slot) (fine : Bool) (i : ℕ) (d : List ℕ) where
       ∙ cond-true (sameBytes d (x .designator)) (asMine a x fine i) (asOther a fine) s
 
   -- whatever it leaves alike
-  used-keeps {ℓ} : {A : Type ℓ} (f : Survey → A) → f (asMine a x fine i) ≡ f (asOther a fine) → f (withUsed a x fine i d) ≡ f (asOther a fine)
+  used-keeps {ℓ} : {A : Type ℓ} (f : Findings → A) → f (asMine a x fine i) ≡ f (asOther a fine) → f (withUsed a x fine i d) ≡ f (asOther a fine)
   used-keeps f e =
       by-test (ltb (a .own) i)
       (λ (t : ltb (a .own) i ≡ true). ap f (used-found t))
@@ -367,7 +367,7 @@ module _ (a : Survey) (x : Slot) (fine : Bool) (i : ℕ) (d : List ℕ) where
 
 module _ (area : List ℕ) (w : Wanted) (ys : List Slot) where
   -- one slot, in its three ways
-  by-step {ℓ} : (a : Survey) (x : Slot) (c : Bool) (i : ℕ) (P : Survey → Type ℓ)
+  by-step {ℓ} : (a : Findings) (x : Slot) (c : Bool) (i : ℕ) (P : Findings → Type ℓ)
       → P a → P (withFree a i) → P (withUsed a x (c && soundAt x area i) i (w .designator)) → P (stepOf area w a x c i)
   by-step a x c i P bad free used =
       by-test (a .valid)
@@ -378,7 +378,7 @@ module _ (area : List ℕ) (w : Wanted) (ys : List Slot) where
       (λ (t : a .valid ≡ false). subst P (sym (step-bad area w a x c i t)) bad)
 
   -- the number of slots is kept
-  pub scan-count : (a : Survey) (i : ℕ) (xs : List Slot) → scanFrom area w ys a i xs .count ≡ a .count
+  pub scan-count : (a : Findings) (i : ℕ) (xs : List Slot) → scanFrom area w ys a i xs .count ≡ a .count
   unfolding scanFrom
   scan-count a i [] = refl
   scan-count a i (x ∷ xs) =
@@ -388,7 +388,7 @@ module _ (area : List ℕ) (w : Wanted) (ys : List Slot) where
       (used-keeps a x (c && soundAt x area i) i (w .designator) (λ z. z .count) refl)
 
   -- a slot found stays the one
-  own-found : (a : Survey) (i : ℕ) (xs : List Slot) → a .own < i
+  own-found : (a : Findings) (i : ℕ) (xs : List Slot) → a .own < i
       → (scanFrom area w ys a i xs .own ≡ a .own) × (scanFrom area w ys a i xs .length ≡ a .length)
   unfolding scanFrom
   own-found a i [] l = (refl, refl)
@@ -401,7 +401,7 @@ module _ (area : List ℕ) (w : Wanted) (ys : List Slot) where
       (subst (λ z. (scanFrom area w ys z (suc i) xs .own ≡ a .own) × (scanFrom area w ys z (suc i) xs .length ≡ a .length))
       (sym (used-found a x f i (w .designator) (lt-ltb (a .own) i l))) (own-found (asOther a f) (suc i) xs (omega arith)))
 
-  free-found : (a : Survey) (i : ℕ) (xs : List Slot) → a .free < i → scanFrom area w ys a i xs .free ≡ a .free
+  free-found : (a : Findings) (i : ℕ) (xs : List Slot) → a .free < i → scanFrom area w ys a i xs .free ≡ a .free
   unfolding scanFrom
   free-found a i [] l = refl
   free-found a i (x ∷ xs) l =
@@ -415,14 +415,14 @@ module _ (area : List ℕ) (w : Wanted) (ys : List Slot) where
       ∙ used-keeps a x f i (w .designator) (λ y. y .free) refl)
 
   -- what ends valid was so
-  valid-back : (a : Survey) (i : ℕ) (xs : List Slot) → scanFrom area w ys a i xs .valid ≡ true → a .valid ≡ true
+  valid-back : (a : Findings) (i : ℕ) (xs : List Slot) → scanFrom area w ys a i xs .valid ≡ true → a .valid ≡ true
   valid-back a i xs e =
       by-test (a .valid) (λ (t : a .valid ≡ true). t)
       (λ (t : a .valid ≡ false). never (sym (ap (λ z. z .valid) (stays-bad area w ys a i xs t)) ∙ e) t)
 
   -- none found before slot i: the look finds the lowest from there on
   module _ (i : ℕ) (x : Slot) (xs : List Slot) (e : length area ≡ 835 * (i + suc (length xs))) where
-    abbrev place : Place
+    abbrev place : WaitingSlot
     place = placeOf x (drop (835 * i) area)
 
     mine-for : isUsed x ≡ true → sameBytes (w .designator) (x .designator) ≡ true → isFor (w .designator) place ≡ true
@@ -444,23 +444,23 @@ module _ (area : List ℕ) (w : Wanted) (ys : List Slot) where
     used-place u = place-free x (drop (835 * i) area) (here-long area i (length xs) e) ∙ not-true (eqb (x .length) 0) u
 
   -- the aircraft's own slot, and how long its text is
-  pub record Owns (v : Survey) (i : ℕ) (xs : List Slot) : Type 0 where
+  pub record Owns (v : Findings) (i : ℕ) (xs : List Slot) : Type 0 where
     pub own : v .own ≡ i + lowest (isFor (w .designator)) (boardFrom area i xs)
     pub length : any (isFor (w .designator)) (boardFrom area i xs) ≡ true → v .length ≡ getD xs (lowest (isFor (w .designator)) (boardFrom area i xs)) noSlot .length
 
-  own-none : (a : Survey) (i : ℕ) → a .valid ≡ true → a .own ≡ i + 0 → Owns a i []
+  own-none : (a : Findings) (i : ℕ) → a .valid ≡ true → a .own ≡ i + 0 → Owns a i []
   unfolding boardOf lowest any
   own-none a i v o = record { own = o; length = λ z. never z refl }
 
-  free-none : (a : Survey) (i : ℕ) → a .free ≡ i + 0 → a .free ≡ i + lowest isFree (boardFrom area i [])
+  free-none : (a : Findings) (i : ℕ) → a .free ≡ i + 0 → a .free ≡ i + lowest isFree (boardFrom area i [])
   unfolding boardOf lowest
   free-none a i o = o
 
-  module _ (i : ℕ) (x : Slot) (xs : List Slot) (e : length area ≡ 835 * (i + suc (length xs))) (test : Place → Bool) where
-    abbrev all : List Place
+  module _ (i : ℕ) (x : Slot) (xs : List Slot) (e : length area ≡ 835 * (i + suc (length xs))) (test : WaitingSlot → Bool) where
+    abbrev all : List WaitingSlot
     all = boardFrom area i (x ∷ xs)
 
-    abbrev behind : List Place
+    abbrev behind : List WaitingSlot
     behind = boardFrom area (suc i) xs
 
     board-cons : all ≡ place i x xs e ∷ behind
@@ -479,13 +479,13 @@ module _ (area : List ℕ) (w : Wanted) (ys : List Slot) where
     unfolding any
     any-later h = ap (any test) board-cons ∙ rw h
 
-  own-here : (v : Survey) (i : ℕ) (x : Slot) (xs : List Slot) (e : length area ≡ 835 * (i + suc (length xs)))
+  own-here : (v : Findings) (i : ℕ) (x : Slot) (xs : List Slot) (e : length area ≡ 835 * (i + suc (length xs)))
       → isFor (w .designator) (place i x xs e) ≡ true → v .own ≡ i → v .length ≡ x .length → Owns v i (x ∷ xs)
   own-here v i x xs e h o n =
       let l = lowest-here i x xs e (isFor (w .designator)) h in
       record { own = omega (arith, o, l); length = λ z. n ∙ sym (ap (λ (k : ℕ). getD (x ∷ xs) k noSlot .length) l) }
 
-  own-later : (v : Survey) (i : ℕ) (x : Slot) (xs : List Slot) (e : length area ≡ 835 * (i + suc (length xs)))
+  own-later : (v : Findings) (i : ℕ) (x : Slot) (xs : List Slot) (e : length area ≡ 835 * (i + suc (length xs)))
       → isFor (w .designator) (place i x xs e) ≡ false → Owns v (suc i) xs → Owns v i (x ∷ xs)
   own-later v i x xs e h o =
       let l = lowest-later i x xs e (isFor (w .designator)) h in
@@ -494,7 +494,7 @@ module _ (area : List ℕ) (w : Wanted) (ys : List Slot) where
         length = λ z. o .length (sym (any-later i x xs e (isFor (w .designator)) h) ∙ z) ∙ sym (ap (λ (k : ℕ). getD (x ∷ xs) k noSlot .length) l);
       }
 
-  pub scan-own : (a : Survey) (i : ℕ) (xs : List Slot) → length area ≡ 835 * (i + length xs) → scanFrom area w ys a i xs .valid ≡ true
+  pub scan-own : (a : Findings) (i : ℕ) (xs : List Slot) → length area ≡ 835 * (i + length xs) → scanFrom area w ys a i xs .valid ≡ true
       → a .own ≡ i + length xs → Owns (scanFrom area w ys a i xs) i xs
   unfolding scanFrom
   scan-own a i [] e v o = own-none a i v o
@@ -512,21 +512,21 @@ module _ (area : List ℕ) (w : Wanted) (ys : List Slot) where
       (λ (s : sameBytes d (x .designator) ≡ true).
       let z : stepOf area w a x c i ≡ asMine a x f i = s₀ ∙ used-mine a x f i d past s in
       let k = own-found (asMine a x f i) (suc i) xs (omega arith) in
-      subst (λ (y : Survey). Owns (scanFrom area w ys y (suc i) xs) i (x ∷ xs)) (sym z)
+      subst (λ (y : Findings). Owns (scanFrom area w ys y (suc i) xs) i (x ∷ xs)) (sym z)
       (own-here (scanFrom area w ys (asMine a x f i) (suc i) xs) i x xs e (mine-for i x xs e u s) (k .0) (k .1)))
       (λ (s : sameBytes d (x .designator) ≡ false).
       let z : stepOf area w a x c i ≡ asOther a f = s₀ ∙ used-other a x f i d s in
-      let n : scanFrom area w ys (asOther a f) (suc i) xs .valid ≡ true = subst (λ (y : Survey). scanFrom area w ys y (suc i) xs .valid ≡ true) z v in
-      subst (λ (y : Survey). Owns (scanFrom area w ys y (suc i) xs) i (x ∷ xs)) (sym z)
+      let n : scanFrom area w ys (asOther a f) (suc i) xs .valid ≡ true = subst (λ (y : Findings). scanFrom area w ys y (suc i) xs .valid ≡ true) z v in
+      subst (λ (y : Findings). Owns (scanFrom area w ys y (suc i) xs) i (x ∷ xs)) (sym z)
       (own-later (scanFrom area w ys (asOther a f) (suc i) xs) i x xs e (other-for i x xs e s) (scan-own (asOther a f) (suc i) xs e′ n (omega arith)))))
       (λ (u : isUsed x ≡ false).
       let z : stepOf area w a x c i ≡ withFree a i = step-free area w a x c i t u in
-      let n : scanFrom area w ys (withFree a i) (suc i) xs .valid ≡ true = subst (λ (y : Survey). scanFrom area w ys y (suc i) xs .valid ≡ true) z v in
-      subst (λ (y : Survey). Owns (scanFrom area w ys y (suc i) xs) i (x ∷ xs)) (sym z)
+      let n : scanFrom area w ys (withFree a i) (suc i) xs .valid ≡ true = subst (λ (y : Findings). scanFrom area w ys y (suc i) xs .valid ≡ true) z v in
+      subst (λ (y : Findings). Owns (scanFrom area w ys y (suc i) xs) i (x ∷ xs)) (sym z)
       (own-later (scanFrom area w ys (withFree a i) (suc i) xs) i x xs e (free-for-none i x xs e u) (scan-own (withFree a i) (suc i) xs e′ n (omega arith))))
 
   -- and the lowest free one
-  pub scan-free : (a : Survey) (i : ℕ) (xs : List Slot) → length area ≡ 835 * (i + length xs) → scanFrom area w ys a i xs .valid ≡ true
+  pub scan-free : (a : Findings) (i : ℕ) (xs : List Slot) → length area ≡ 835 * (i + length xs) → scanFrom area w ys a i xs .valid ≡ true
       → a .free ≡ i + length xs → scanFrom area w ys a i xs .free ≡ i + lowest isFree (boardFrom area i xs)
   unfolding scanFrom
   scan-free a i [] e v o = free-none a i o
@@ -538,14 +538,14 @@ module _ (area : List ℕ) (w : Wanted) (ys : List Slot) where
       let e′ = next-bytes area i (length xs) e in
       by-test (isUsed x)
       (λ (u : isUsed x ≡ true).
-      let y : Survey = withUsed a x f i d in
+      let y : Findings = withUsed a x f i d in
       let z : stepOf area w a x c i ≡ y = step-used area w a x c i t u in
-      let n : scanFrom area w ys y (suc i) xs .valid ≡ true = subst (λ (q : Survey). scanFrom area w ys q (suc i) xs .valid ≡ true) z v in
-      let k : y .free ≡ a .free = used-keeps a x f i d (λ (q : Survey). q .free) refl in
+      let n : scanFrom area w ys y (suc i) xs .valid ≡ true = subst (λ (q : Findings). scanFrom area w ys q (suc i) xs .valid ≡ true) z v in
+      let k : y .free ≡ a .free = used-keeps a x f i d (λ (q : Findings). q .free) refl in
       let r = scan-free y (suc i) xs e′ n (omega arith) in
-      ap (λ (q : Survey). scanFrom area w ys q (suc i) xs .free) z ∙ r ∙ omega (arith, lowest-later i x xs e isFree (used-place i x xs e u)))
+      ap (λ (q : Findings). scanFrom area w ys q (suc i) xs .free) z ∙ r ∙ omega (arith, lowest-later i x xs e isFree (used-place i x xs e u)))
       (λ (u : isUsed x ≡ false).
       let z : stepOf area w a x c i ≡ withFree a i = step-free area w a x c i t u in
       let k : firstOf (a .free) i ≡ i = cond-false (ltb (a .free) i) (a .free) i (le-ltb (a .free) i (omega arith)) in
       let r = free-found (withFree a i) (suc i) xs (omega arith) in
-      ap (λ (q : Survey). scanFrom area w ys q (suc i) xs .free) z ∙ r ∙ k ∙ omega (arith, lowest-here i x xs e isFree (free-place i x xs e u)))
+      ap (λ (q : Findings). scanFrom area w ys q (suc i) xs .free) z ∙ r ∙ k ∙ omega (arith, lowest-here i x xs e isFree (free-place i x xs e u)))

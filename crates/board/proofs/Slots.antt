@@ -11,14 +11,14 @@ use Rattle.text.specs.declared.Seen.the-variants.{Fine, Bad}
 use Rattle.text.proofs.Cases.{by-test}
 use Rattle.command.specs.Text.{checkCommand}
 use Rattle.join.specs.Join.{joinText}
-use Rattle.board.specs.Board.{isDesignator, Place, nowhere, isNone, isFree, isFor, any, lowest, waiting, isValid, Stay, Put, Free, inTurn, placing, add, takeOut}
-use Rattle.board.proofs.Places.{never, lowest-passes, lowest-first, waiting-any, some-for}
+use Rattle.board.specs.Board.{isDesignator, WaitingSlot, emptySlot, isNone, isFree, isFor, any, lowest, waiting, isValid, Stay, Put, Free, pastRefusals, placing, add, takeOut}
+use Rattle.board.proofs.WaitingSlots.{never, lowest-passes, lowest-first, waiting-any, some-for}
 
 -- ---- Adding
 
 module _ (p q : ℕ) (d x t : List ℕ) (i : ℕ) (e w : List ℕ) where
   held : (v n : Bool) (s : Seen) (f : Bool)
-      → inTurn Stay v n s (placing Stay true f (Put p d x) (Put q d t)) ≡ Put i e w
+      → pastRefusals Stay v n s (placing Stay true f (Put p d x) (Put q d t)) ≡ Put i e w
       → (i ≡ p) × (w ≡ x)
   held true true Fine f k = (cc, cc)
   held true true (Bad code place) f k = (cc, cc)
@@ -26,7 +26,7 @@ module _ (p q : ℕ) (d x t : List ℕ) (i : ℕ) (e w : List ℕ) where
   held false n s f k = (cc, cc)
 
   fresh : (v n : Bool) (s : Seen) (f : Bool)
-      → inTurn Stay v n s (placing Stay false f (Put p d x) (Put q d t)) ≡ Put i e w
+      → pastRefusals Stay v n s (placing Stay false f (Put p d x) (Put q d t)) ≡ Put i e w
       → (f ≡ true) × ((i ≡ q) × (w ≡ t))
   fresh true true Fine true k = (refl, (cc, cc))
   fresh true true Fine false k = (cc, (cc, cc))
@@ -35,13 +35,13 @@ module _ (p q : ℕ) (d x t : List ℕ) (i : ℕ) (e w : List ℕ) where
   fresh false n s f k = (cc, (cc, cc))
 
 -- slot i is free, and no lower one is
-pub record LowestFree (b : List Place) (i : ℕ) : Type 0 where
-  pub free : isFree (getD b i nowhere) ≡ true
-  pub below : (j : ℕ) → j < i → isFree (getD b j nowhere) ≡ false
+pub record LowestFree (b : List WaitingSlot) (i : ℕ) : Type 0 where
+  pub free : isFree (getD b i emptySlot) ≡ true
+  pub below : (j : ℕ) → j < i → isFree (getD b j emptySlot) ≡ false
 
-module _ (b : List Place) (d t : List ℕ) (i : ℕ) (e w : List ℕ) (k : add b d t ≡ Put i e w) where
+module _ (b : List WaitingSlot) (d t : List ℕ) (i : ℕ) (e w : List ℕ) (k : add b d t ≡ Put i e w) where
   -- where something waits for the aircraft, its own slot then holds the join
-  pub add-own : isNone (waiting d b) ≡ false → (isFor d (getD b i nowhere) ≡ true) × (w ≡ joinText (waiting d b) t)
+  pub add-own : isNone (waiting d b) ≡ false → (isFor d (getD b i emptySlot) ≡ true) × (w ≡ joinText (waiting d b) t)
   unfolding add
   add-own s =
       let h : any (isFor d) b ≡ true = some-for d b s in
@@ -77,13 +77,13 @@ freed p x i w true false h l k = (cc, (cc, (cc, cc)))
 freed p x i w false n h l k = (cc, (cc, (cc, cc)))
 
 -- slot i is the aircraft's own, and w its text, which fits
-pub record HandsOver (b : List Place) (d : List ℕ) (room i : ℕ) (w : List ℕ) : Type 0 where
-  pub mine : isFor d (getD b i nowhere) ≡ true
-  pub whole : w ≡ getD b i nowhere .text
+pub record HandsOver (b : List WaitingSlot) (d : List ℕ) (room i : ℕ) (w : List ℕ) : Type 0 where
+  pub mine : isFor d (getD b i emptySlot) ≡ true
+  pub whole : w ≡ getD b i emptySlot .text
   pub fits : length w ≤ room
 
 -- a taking frees the aircraft's own slot and hands over its text
-pub take-own : (b : List Place) (d : List ℕ) (room i : ℕ) (w : List ℕ) → takeOut b d room ≡ Free i w → HandsOver b d room i w
+pub take-own : (b : List WaitingSlot) (d : List ℕ) (room i : ℕ) (w : List ℕ) → takeOut b d room ≡ Free i w → HandsOver b d room i w
 unfolding takeOut waiting
 take-own b d room i w k =
     let r =

@@ -16,9 +16,9 @@ use Rattle.command.specs.Text.{checkCommand}
 use Rattle.command.proofs.Accepted.{accepted}
 use Rattle.join.specs.Join.{joinText}
 use Rattle.join.proofs.Laws.{join-fine}
-use Rattle.board.specs.Board.{isDesignator, Place, nowhere, isNone, isFree, isFor, any, lowest, waiting, isValid, Move, Stay, Put, Free, unlessRefused, placed, add, takeOut, onBoard, Reply, Given, Refused, replyOf}
+use Rattle.board.specs.Board.{isDesignator, WaitingSlot, emptySlot, isNone, isFree, isFor, any, lowest, waiting, isValid, Move, Stay, Put, Free, unlessRefused, placed, add, takeOut, onBoard, Reply, Given, Refused, replyOf}
 use Rattle.board.specs.History.{Event, Add, Take, aircraft, onto, move, due}
-use Rattle.board.proofs.Places.{never, none-is, free-for, for-one, lowest-passes, lowest-inside, none-passes, waiting-any, waiting-kept, waiting-set}
+use Rattle.board.proofs.WaitingSlots.{never, none-is, free-for, for-one, lowest-passes, lowest-inside, none-passes, waiting-any, waiting-kept, waiting-set}
 use Rattle.board.proofs.Valid.{waiting-fine, only, valid-set, freed-none}
 
 -- ---- Accepted texts
@@ -56,7 +56,7 @@ pub onto-none : (w t : List ℕ) → isNone w ≡ true → onto w t ≡ t
 onto-none w t e = rw (none-is w e)
 
 -- the move m is right for the event e on the board b
-pub record Right (b : List Place) (e : Event) (m : Move) : Type 0 where
+pub record Right (b : List WaitingSlot) (e : Event) (m : Move) : Type 0 where
   -- the reply is what is due
   pub reply : replyOf m ≡ due (any isFree b) (waiting (aircraft e) b) e
   -- the board stays valid
@@ -65,12 +65,12 @@ pub record Right (b : List Place) (e : Event) (m : Move) : Type 0 where
   pub waits : (d : List ℕ) → waiting d (onBoard m b) ≡ next d (waiting d b) e (replyOf m)
 
 -- a refusal leaves everything
-stays : (b : List Place) (e : Event) (code place : ℕ) → isValid b ≡ true
+stays : (b : List WaitingSlot) (e : Event) (code place : ℕ) → isValid b ≡ true
     → due (any isFree b) (waiting (aircraft e) b) e ≡ Refused code place → Right b e (Stay code place)
 stays b (Add d t) code place v h = record { reply = sym h; valid = v; waits = λ x. refl }
 stays b (Take d room) code place v h = record { reply = sym h; valid = v; waits = λ x. refl }
 
-module _ (b : List Place) (v : isValid b ≡ true) where
+module _ (b : List WaitingSlot) (v : isValid b ≡ true) where
   -- ---- Adding
 
   module _ (d t : List ℕ) (n : isDesignator d ≡ true) (k : checkCommand t ≡ Fine) where
@@ -78,10 +78,10 @@ module _ (b : List Place) (v : isValid b ≡ true) where
     onto-held : any (isFor d) b ≡ true → Right b (Add d t) (Put (lowest (isFor d) b) d (joinText (waiting d b) t))
     onto-held h =
         let i : ℕ = lowest (isFor d) b in
-        let mine : isFor d (getD b i nowhere) ≡ true = lowest-passes (isFor d) b h in
+        let mine : isFor d (getD b i emptySlot) ≡ true = lowest-passes (isFor d) b h in
         let some : isNone (waiting d b) ≡ false = rw (waiting-any d b, h) in
         let fine : isFine (checkCommand (joinText (waiting d b) t)) ≡ true = joins (waiting d b) t (waiting-fine d b v h) (rw k) in
-        let alone : (j : ℕ) → (j ≡ i → ⊥) → isFor d (getD b j nowhere) ≡ false = λ j q. only d b v i j mine q in
+        let alone : (j : ℕ) → (j ≡ i → ⊥) → isFor d (getD b j emptySlot) ≡ false = λ j q. only d b v i j mine q in
         record {
           reply = rw (n, k, onto-some (waiting d b) t some, some);
           valid =
@@ -89,7 +89,7 @@ module _ (b : List Place) (v : isValid b ≡ true) where
               (λ f. record { named = n; fine = fine; alone = alone });
           waits = λ e.
               waiting-set b i d (joinText (waiting d b) t) (lowest-inside (isFor d) b h) alone
-              (λ x q. for-one d x (getD b i nowhere) mine q) (accepted-some (joinText (waiting d b) t) fine) e
+              (λ x q. for-one d x (getD b i emptySlot) mine q) (accepted-some (joinText (waiting d b) t) fine) e
               ∙ by-test (sameBytes e d) (λ y. rw (y, same-equal e d y, onto-some (waiting d b) t some)) (λ q. rw q);
         }
 
@@ -98,7 +98,7 @@ module _ (b : List Place) (v : isValid b ≡ true) where
     unfolding isFor isFree
     into-free h f =
         let i : ℕ = lowest isFree b in
-        let none : (j : ℕ) → isFor d (getD b j nowhere) ≡ false = none-passes (isFor d) b refl h in
+        let none : (j : ℕ) → isFor d (getD b j emptySlot) ≡ false = none-passes (isFor d) b refl h in
         let nothing : isNone (waiting d b) ≡ true = rw (waiting-any d b, h) in
         record {
           reply = rw (n, k, onto-none (waiting d b) t nothing, nothing, f);
@@ -107,7 +107,7 @@ module _ (b : List Place) (v : isValid b ≡ true) where
               (λ q. record { named = n; fine = rw k; alone = λ j q. none j });
           waits = λ e.
               waiting-set b i d t (lowest-inside isFree b f) (λ j q. none j)
-              (λ x q. free-for x (getD b i nowhere) (lowest-passes isFree b f)) (accepted-some t (rw k)) e
+              (λ x q. free-for x (getD b i emptySlot) (lowest-passes isFree b f)) (accepted-some t (rw k)) e
               ∙ by-test (sameBytes e d) (λ y. rw (y, same-equal e d y, onto-none (waiting d b) t nothing)) (λ q. rw q);
         }
 
@@ -135,15 +135,15 @@ module _ (b : List Place) (v : isValid b ≡ true) where
   unfolding isFree
   handed d room n h l =
       let i : ℕ = lowest (isFor d) b in
-      let x : Place = record { who = getD b i nowhere .who; text = [] } in
-      let mine : isFor d (getD b i nowhere) ≡ true = lowest-passes (isFor d) b h in
+      let x : WaitingSlot = record { who = getD b i emptySlot .who; text = [] } in
+      let mine : isFor d (getD b i emptySlot) ≡ true = lowest-passes (isFor d) b h in
       record {
         reply = rw (n, waiting-any d b, h, l);
         valid = valid-set b i x v (λ f. never refl f);
         waits = λ e.
             by-test (sameBytes e d)
             (λ y. rw (y, same-equal e d y) (freed-none d b i x v mine (lowest-inside (isFor d) b h) refl))
-            (λ q. rw q (waiting-kept e b i x (for-one d e (getD b i nowhere) mine q) (free-for e x refl)));
+            (λ q. rw q (waiting-kept e b i x (for-one d e (getD b i emptySlot) mine q) (free-for e x refl)));
       }
 
   -- and every taking

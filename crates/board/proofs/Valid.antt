@@ -11,19 +11,19 @@ use Rattle.text.proofs.Cases.{by-test, by-eq, both-left, both-right}
 use Rattle.text.specs.Equal.{sameBytes}
 use Rattle.text.proofs.Equal.{equal-same}
 use Rattle.command.specs.Text.{checkCommand}
-use Rattle.board.specs.Board.{isDesignator, Place, nowhere, isNone, isFree, isFor, any, lowest, waiting, isSound, isValid}
-use Rattle.board.proofs.Places.{never, both, for-who, for-used, free-for, used-for, lowest-passes, waiting-none, nothing-for, waiting-kept}
+use Rattle.board.specs.Board.{isDesignator, WaitingSlot, emptySlot, isNone, isFree, isFor, any, lowest, waiting, isSound, isValid}
+use Rattle.board.proofs.WaitingSlots.{never, both, for-who, for-used, free-for, used-for, lowest-passes, waiting-none, nothing-for, waiting-kept}
 
 -- ---- Used places
 
 -- what a used place is, with the places after it
-pub record Used (x : Place) (rest : List Place) : Type 0 where
+pub record Used (x : WaitingSlot) (rest : List WaitingSlot) : Type 0 where
   pub named : isDesignator (x .who) ≡ true
   pub fine : isFine (checkCommand (x .text)) ≡ true
   pub alone : isNone (waiting (x .who) rest) ≡ true
 
 -- which a sound place is, where it is used
-pub used : (x : Place) (rest : List Place) → isFree x ≡ false → isSound x rest ≡ true → Used x rest
+pub used : (x : WaitingSlot) (rest : List WaitingSlot) → isFree x ≡ false → isSound x rest ≡ true → Used x rest
 used x rest f e =
     let n : Bool = isDesignator (x .who) in
     let c : Bool = isFine (checkCommand (x .text)) in
@@ -33,50 +33,50 @@ used x rest f e =
     record { named = both-left n (c && o) both; fine = both-left c o right; alone = both-right c o right }
 
 -- the first place of a valid board is sound
-pub valid-first : (x : Place) (b : List Place) → isValid (x ∷ b) ≡ true → isSound x b ≡ true
+pub valid-first : (x : WaitingSlot) (b : List WaitingSlot) → isValid (x ∷ b) ≡ true → isSound x b ≡ true
 unfolding isValid
 valid-first x b v = both-left (isSound x b) (isValid b) v
 
 -- and the rest is valid
-pub valid-rest : (x : Place) (b : List Place) → isValid (x ∷ b) ≡ true → isValid b ≡ true
+pub valid-rest : (x : WaitingSlot) (b : List WaitingSlot) → isValid (x ∷ b) ≡ true → isValid b ≡ true
 unfolding isValid
 valid-rest x b v = both-right (isSound x b) (isValid b) v
 
 -- every used text of a valid board is accepted
-pub valid-fine : (b : List Place) → isValid b ≡ true → (i : ℕ) → isFree (getD b i nowhere) ≡ false
-    → isFine (checkCommand (getD b i nowhere .text)) ≡ true
+pub valid-fine : (b : List WaitingSlot) → isValid b ≡ true → (i : ℕ) → isFree (getD b i emptySlot) ≡ false
+    → isFine (checkCommand (getD b i emptySlot .text)) ≡ true
 unfolding isFree
 valid-fine [] v i f = never refl f
 valid-fine (x ∷ b) v zero f = used x b f (valid-first x b v) .fine
 valid-fine (x ∷ b) v (suc i) f = valid-fine b (valid-rest x b v) i f
 
 -- and so is what waits
-pub waiting-fine : (d : List ℕ) (b : List Place) → isValid b ≡ true → any (isFor d) b ≡ true
+pub waiting-fine : (d : List ℕ) (b : List WaitingSlot) → isValid b ≡ true → any (isFor d) b ≡ true
     → isFine (checkCommand (waiting d b)) ≡ true
 unfolding waiting
 waiting-fine d b v h =
-    valid-fine b v (lowest (isFor d) b) (for-used d (getD b (lowest (isFor d) b) nowhere) (lowest-passes (isFor d) b h))
+    valid-fine b v (lowest (isFor d) b) (for-used d (getD b (lowest (isFor d) b) emptySlot) (lowest-passes (isFor d) b h))
 
 -- the aircraft of a used place is well formed
-pub valid-named : (b : List Place) → isValid b ≡ true → (i : ℕ) → isFree (getD b i nowhere) ≡ false
-    → isDesignator (getD b i nowhere .who) ≡ true
+pub valid-named : (b : List WaitingSlot) → isValid b ≡ true → (i : ℕ) → isFree (getD b i emptySlot) ≡ false
+    → isDesignator (getD b i emptySlot .who) ≡ true
 unfolding isFree
 valid-named [] v i f = never refl f
 valid-named (x ∷ b) v zero f = used x b f (valid-first x b v) .named
 valid-named (x ∷ b) v (suc i) f = valid-named b (valid-rest x b v) i f
 
 -- so is one for which something waits
-pub waiting-named : (d : List ℕ) (b : List Place) → isValid b ≡ true → any (isFor d) b ≡ true → isDesignator d ≡ true
+pub waiting-named : (d : List ℕ) (b : List WaitingSlot) → isValid b ≡ true → any (isFor d) b ≡ true → isDesignator d ≡ true
 waiting-named d b v h =
-    let x : Place = getD b (lowest (isFor d) b) nowhere in
+    let x : WaitingSlot = getD b (lowest (isFor d) b) emptySlot in
     let mine : isFor d x ≡ true = lowest-passes (isFor d) b h in
     ap isDesignator (for-who d x mine) ∙ valid-named b v (lowest (isFor d) b) (for-used d x mine)
 
 -- ---- One place for one aircraft
 
 -- no two places of a valid board are for one aircraft
-pub only : (d : List ℕ) (b : List Place) → isValid b ≡ true → (i j : ℕ) → isFor d (getD b i nowhere) ≡ true → (j ≡ i → ⊥)
-    → isFor d (getD b j nowhere) ≡ false
+pub only : (d : List ℕ) (b : List WaitingSlot) → isValid b ≡ true → (i j : ℕ) → isFor d (getD b i emptySlot) ≡ true → (j ≡ i → ⊥)
+    → isFor d (getD b j emptySlot) ≡ false
 unfolding isFor isFree
 only d [] v i j h n = refl
 only d (x ∷ b) v zero zero h n = absurd (n refl)
@@ -91,27 +91,27 @@ only d (x ∷ b) v (suc i) (suc j) h n = only d b (valid-rest x b v) i j h (λ (
 -- ---- Document 01's own words
 
 -- used designators well formed and different, used texts accepted
-pub record Proper (b : List Place) : Type 0 where
-  pub named : (i : ℕ) → isFree (getD b i nowhere) ≡ false → isDesignator (getD b i nowhere .who) ≡ true
-  pub fine : (i : ℕ) → isFree (getD b i nowhere) ≡ false → isFine (checkCommand (getD b i nowhere .text)) ≡ true
-  pub different : (i j : ℕ) → (j ≡ i → ⊥) → isFree (getD b i nowhere) ≡ false → isFree (getD b j nowhere) ≡ false
-      → sameBytes (getD b i nowhere .who) (getD b j nowhere .who) ≡ false
+pub record Proper (b : List WaitingSlot) : Type 0 where
+  pub named : (i : ℕ) → isFree (getD b i emptySlot) ≡ false → isDesignator (getD b i emptySlot .who) ≡ true
+  pub fine : (i : ℕ) → isFree (getD b i emptySlot) ≡ false → isFine (checkCommand (getD b i emptySlot .text)) ≡ true
+  pub different : (i j : ℕ) → (j ≡ i → ⊥) → isFree (getD b i emptySlot) ≡ false → isFree (getD b j emptySlot) ≡ false
+      → sameBytes (getD b i emptySlot .who) (getD b j emptySlot .who) ≡ false
 
 -- a valid board is that
-pub valid-proper : (b : List Place) → isValid b ≡ true → Proper b
+pub valid-proper : (b : List WaitingSlot) → isValid b ≡ true → Proper b
 unfolding isFor
 valid-proper b v =
     record {
       named = valid-named b v;
       fine = valid-fine b v;
       different = λ i j n f g.
-          let x : Place = getD b i nowhere in
-          let y : Place = getD b j nowhere in
+          let x : WaitingSlot = getD b i emptySlot in
+          let y : WaitingSlot = getD b j emptySlot in
           by-test (sameBytes (x .who) (y .who)) (λ e. never (rw (g, e)) (only (x .who) b v i j (used-for x f) n)) (λ e. e);
     }
 
 -- and nothing else is asked
-pub proper-valid : (b : List Place) → Proper b → isValid b ≡ true
+pub proper-valid : (b : List WaitingSlot) → Proper b → isValid b ≡ true
 unfolding isValid
 proper-valid [] p = refl
 proper-valid (x ∷ b) p =
@@ -125,9 +125,9 @@ proper-valid (x ∷ b) p =
       different = λ i j n. p .different (suc i) (suc j) (λ (e : suc j ≡ suc i). n (omega arith));
     }))
   where
-    other : isFree x ≡ false → (j : ℕ) → isFor (x .who) (getD b j nowhere) ≡ false
+    other : isFree x ≡ false → (j : ℕ) → isFor (x .who) (getD b j emptySlot) ≡ false
     other f j =
-        let y : Place = getD b j nowhere in
+        let y : WaitingSlot = getD b j emptySlot in
         by-test (isFor (x .who) y)
         (λ h. never (equal-same (x .who) (y .who) (for-who (x .who) y h))
         (p .different zero (suc j) (λ (e : suc j ≡ zero). omega arith) f (for-used (x .who) y h)))
@@ -136,13 +136,13 @@ proper-valid (x ∷ b) p =
 -- ---- A place set
 
 -- a place may be set to x where x is accepted and no other place is for its aircraft
-pub record Fits (b : List Place) (i : ℕ) (x : Place) : Type 0 where
+pub record Fits (b : List WaitingSlot) (i : ℕ) (x : WaitingSlot) : Type 0 where
   pub named : isDesignator (x .who) ≡ true
   pub fine : isFine (checkCommand (x .text)) ≡ true
-  pub alone : (j : ℕ) → (j ≡ i → ⊥) → isFor (x .who) (getD b j nowhere) ≡ false
+  pub alone : (j : ℕ) → (j ≡ i → ⊥) → isFor (x .who) (getD b j emptySlot) ≡ false
 
 -- a board stays valid where a place is freed, or set to what fits
-pub valid-set : (b : List Place) (i : ℕ) (x : Place) → isValid b ≡ true → (isFree x ≡ false → Fits b i x)
+pub valid-set : (b : List WaitingSlot) (i : ℕ) (x : WaitingSlot) → isValid b ≡ true → (isFree x ≡ false → Fits b i x)
     → isValid (set b i x) ≡ true
 unfolding isValid
 valid-set [] i x v g = refl
@@ -182,10 +182,10 @@ valid-set (y ∷ b) (suc i) x v g =
         (ap isNone (waiting-kept (y .who) b i x (nothing-for (y .who) b (u .alone) i) (apart f)) ∙ u .alone)
 
 -- once the place of an aircraft is freed nothing waits for it
-pub freed-none : (d : List ℕ) (b : List Place) (i : ℕ) (x : Place) → isValid b ≡ true → isFor d (getD b i nowhere) ≡ true
+pub freed-none : (d : List ℕ) (b : List WaitingSlot) (i : ℕ) (x : WaitingSlot) → isValid b ≡ true → isFor d (getD b i emptySlot) ≡ true
     → i < length b → isFree x ≡ true → waiting d (set b i x) ≡ []
 freed-none d b i x v h l f =
     waiting-none d (set b i x)
     (λ j. by-eq j i
-    (λ y. rw (y, getD-set-same b i x nowhere l) (free-for d x f))
-    (λ n. rw (getD-set-other b i j x nowhere n) (only d b v i j h n)))
+    (λ y. rw (y, getD-set-same b i x emptySlot l) (free-for d x f))
+    (λ n. rw (getD-set-other b i j x emptySlot n) (only d b v i j h n)))

@@ -15,9 +15,9 @@ use Rattle.section.specs.declared.Settings.{Settings}
 use Rattle.command.specs.Text.{checkCommand}
 use Rattle.command.proofs.Codes.{check-coded}
 use Rattle.config.specs.Config.{applyTo}
-use Rattle.board.specs.Board.{isDesignator, Place, isNone, isFree, any, waiting, isValid, inTurn, placing, handing, Move, Stay, Put, Free, onBoard, Reply, Given, Refused, replyOf}
+use Rattle.board.specs.Board.{isDesignator, WaitingSlot, isNone, isFree, any, waiting, isValid, pastRefusals, placing, handing, Move, Stay, Put, Free, onBoard, Reply, Given, Refused, replyOf}
 use Rattle.board.specs.History.{Event, Add, Take, Entry, aircraft, heard, since, onto, joined, move, after, logged, isEmptyBoard, due, noCommands, calledFor, act}
-use Rattle.board.proofs.Places.{never, none-is, some-for}
+use Rattle.board.proofs.WaitingSlots.{never, none-is, some-for}
 use Rattle.board.proofs.Valid.{waiting-fine, waiting-named}
 use Rattle.board.proofs.Steps.{is-fine, right}
 use Rattle.board.proofs.Joined.{joined-none, joined-acts, act-fine, acts-applied}
@@ -27,13 +27,13 @@ use Rattle.board.proofs.Demand.{in-step, demand3}
 -- ---- One event more
 
 -- the board after one event more
-pub after-snoc : (b : List Place) (es : List Event) (e : Event) → after b (es ++ (e ∷ [])) ≡ onBoard (move (after b es) e) (after b es)
+pub after-snoc : (b : List WaitingSlot) (es : List Event) (e : Event) → after b (es ++ (e ∷ [])) ≡ onBoard (move (after b es) e) (after b es)
 unfolding after
 after-snoc b [] e = refl
 after-snoc b (x ∷ es) e = after-snoc (onBoard (move b x) b) es e
 
 -- and its log
-pub logged-snoc : (b : List Place) (es : List Event) (e : Event) → logged b (es ++ (e ∷ [])) ≡ logged b es ++ (entry (after b es) e ∷ [])
+pub logged-snoc : (b : List WaitingSlot) (es : List Event) (e : Event) → logged b (es ++ (e ∷ [])) ≡ logged b es ++ (entry (after b es) e ∷ [])
 unfolding logged after
 logged-snoc b [] e = refl
 logged-snoc b (x ∷ es) e = ap (λ (l : List Entry). entry b x ∷ l) (logged-snoc (onBoard (move b x) b) es e)
@@ -41,14 +41,14 @@ logged-snoc b (x ∷ es) e = ap (λ (l : List Entry). entry b x ∷ l) (logged-s
 -- ---- What a reply says of what was due
 
 due-taken : (n none fits : Bool) (w x : List ℕ)
-    → inTurn Refused true n Fine (handing Refused (not none) fits (Given w)) ≡ Given x → (x ≡ w) × (none ≡ false)
+    → pastRefusals Refused true n Fine (handing Refused (not none) fits (Given w)) ≡ Given x → (x ≡ w) × (none ≡ false)
 due-taken true true fits w x e = (cc, cc)
 due-taken true false true w x e = (cc, refl)
 due-taken true false false w x e = (cc, refl)
 due-taken false none fits w x e = (cc, cc)
 
 due-nine : (n : Bool) (t : List ℕ) (s : Seen) (none free : Bool) (w : List ℕ) (place : ℕ) → checkCommand t ≡ s
-    → inTurn Refused true n s (placing Refused (not none) free (Given w) (Given w)) ≡ Refused 9 place
+    → pastRefusals Refused true n s (placing Refused (not none) free (Given w) (Given w)) ≡ Refused 9 place
     → (none ≡ true) × (free ≡ false)
 due-nine true t (Bad code p) none free w place k e =
     let l : code ≤ 8 = check-coded t code p k .1 in let z : code ≡ 9 = cc in absurd (omega arith)
@@ -61,7 +61,7 @@ due-ten : (free : Bool) (w : List ℕ) (e : Event) (place : ℕ) → due free w 
 due-ten free w (Add d t) place h = go (isDesignator d) (checkCommand t) refl (not (isNone w)) free h
   where
     go : (n : Bool) (s : Seen) → checkCommand t ≡ s → (waits free : Bool)
-        → inTurn Refused true n s (placing Refused waits free (Given (onto w t)) (Given (onto w t))) ≡ Refused 10 place → ⊥
+        → pastRefusals Refused true n s (placing Refused waits free (Given (onto w t)) (Given (onto w t))) ≡ Refused 10 place → ⊥
     go true (Bad code p) k waits free e =
         let l : code ≤ 8 = check-coded t code p k .1 in let z : code ≡ 10 = cc in omega arith
     go true Fine k true free e = let z : _≡_ {A = ℕ} 0 1 = cc in omega arith
@@ -70,7 +70,7 @@ due-ten free w (Add d t) place h = go (isDesignator d) (checkCommand t) refl (no
     go false s k waits free e = let z : _≡_ {A = ℕ} 4 10 = cc in omega arith
 due-ten free w (Take d room) place h = go (isDesignator d) (not (isNone w)) (leb (length w) room) h
   where
-    go : (n waits fits : Bool) → inTurn Refused true n Fine (handing Refused waits fits (Given w)) ≡ Refused 10 place → ⊥
+    go : (n waits fits : Bool) → pastRefusals Refused true n Fine (handing Refused waits fits (Given w)) ≡ Refused 10 place → ⊥
     go true true true e = let z : _≡_ {A = ℕ} 0 1 = cc in omega arith
     go true true false e = let z : _≡_ {A = ℕ} 2 10 = cc in omega arith
     go true false fits e = let z : _≡_ {A = ℕ} 11 10 = cc in omega arith
@@ -85,15 +85,15 @@ due-given false free r e = refl
 -- ---- Determined
 
 -- two boards that began empty with as many slots reply alike to every run, whatever designators stood in them
-pub alike : (b c : List Place) (es : List Event) → isEmptyBoard b ≡ true → isEmptyBoard c ≡ true → length b ≡ length c
+pub alike : (b c : List WaitingSlot) (es : List Event) → isEmptyBoard b ≡ true → isEmptyBoard c ≡ true → length b ≡ length c
     → logged b es ≡ logged c es
 alike b c es o q k =
     demand3 b es o .replies ∙ ap (λ (n : ℕ). calledFor n [] es) k ∙ sym (demand3 c es q .replies)
 
 -- ---- In the demand's words
 
-module _ (b : List Place) (es : List Event) (o : isEmptyBoard b ≡ true) where
-  abbrev now : List Place
+module _ (b : List WaitingSlot) (es : List Event) (o : isEmptyBoard b ≡ true) where
+  abbrev now : List WaitingSlot
   now = after b es
 
   abbrev log : List Entry
@@ -137,7 +137,7 @@ module _ (b : List Place) (es : List Event) (o : isEmptyBoard b ≡ true) where
       (sym (reply-due (Add d t)) ∙ h) in
       (waits-none d (none-is (waiting d now) (r .0)), r .1)
 
-  -- an accepted command for a well-formed designator is refused nowhere else, and is then heard
+  -- an accepted command for a well-formed designator is refused emptySlot else, and is then heard
   pub accepts : (d t : List ℕ) → isDesignator d ≡ true → checkCommand t ≡ Fine
       → (isNone (waiting d (after b es)) && not (any isFree (after b es))) ≡ false
       → since d (logged b (es ++ (Add d t ∷ []))) ≡ since d (logged b es) ++ (t ∷ [])

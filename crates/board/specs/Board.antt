@@ -16,45 +16,45 @@ use Rattle.join.specs.Join.{joinText}
 abbrev pub isDesignator : List ℕ → Bool
 isDesignator d = eqb (length d) 6 && allAllowed d
 
--- ---- Places: a place is free where no text waits; whom it then names is of no account
+-- ---- A slot by what waits in it: free where no text does; whom it then names is of no account
 
-pub record Place : Type 0 where
+pub record WaitingSlot : Type 0 where
   pub who : List ℕ
   pub text : List ℕ
 
-abbrev pub nowhere : Place
-nowhere = record { who = []; text = [] }
+abbrev pub emptySlot : WaitingSlot
+emptySlot = record { who = []; text = [] }
 
 abbrev pub isNone : List ℕ → Bool
 isNone [] = true
 isNone (b ∷ bs) = false
 
-unfoldable pub isFree : Place → Bool
+unfoldable pub isFree : WaitingSlot → Bool
 isFree x = isNone (x .text)
 
-unfoldable pub isFor : List ℕ → Place → Bool
+unfoldable pub isFor : List ℕ → WaitingSlot → Bool
 isFor d x = not (isFree x) && sameBytes d (x .who)
 
--- whether some place passes a test, and which is the first that does
-unfoldable pub any : (Place → Bool) → List Place → Bool
+-- whether some slot passes a test, and which is the first that does
+unfoldable pub any : (WaitingSlot → Bool) → List WaitingSlot → Bool
 any test [] = false
 any test (x ∷ b) = test x || any test b
 
-unfoldable pub lowest : (Place → Bool) → List Place → ℕ
+unfoldable pub lowest : (WaitingSlot → Bool) → List WaitingSlot → ℕ
 lowest test [] = zero
 lowest test (x ∷ b) = cond (test x) zero (suc (lowest test b))
 
 -- the text that waits for an aircraft; nothing where none does
-unfoldable pub waiting : List ℕ → List Place → List ℕ
-waiting d b = getD b (lowest (isFor d) b) nowhere .text
+unfoldable pub waiting : List ℕ → List WaitingSlot → List ℕ
+waiting d b = getD b (lowest (isFor d) b) emptySlot .text
 
 -- ---- Valid: used designators well formed and different, used texts accepted
 
-abbrev pub isSound : Place → List Place → Bool
+abbrev pub isSound : WaitingSlot → List WaitingSlot → Bool
 isSound x rest =
     isFree x || (isDesignator (x .who) && (isFine (checkCommand (x .text)) && isNone (waiting (x .who) rest)))
 
-unfoldable pub isValid : List Place → Bool
+unfoldable pub isValid : List WaitingSlot → Bool
 isValid [] = true
 isValid (x ∷ b) = isSound x b && isValid b
 
@@ -73,8 +73,8 @@ unlessRefused refuse Fine act = act
 unlessRefused refuse (Bad code place) act = refuse code place
 
 -- by whether the board is valid, whether the designator is well formed, and what admission saw
-abbrev pub inTurn : {A : Type 0} → (ℕ → ℕ → A) → Bool → Bool → Seen → A → A
-inTurn refuse valid named admission act =
+abbrev pub pastRefusals : {A : Type 0} → (ℕ → ℕ → A) → Bool → Bool → Seen → A → A
+pastRefusals refuse valid named admission act =
     cond valid (cond named (unlessRefused refuse admission act) (refuse 4 0)) (refuse 10 0)
 
 -- adding: onto what waits for the aircraft, or into a free slot, or 9
@@ -88,28 +88,28 @@ handing refuse waits fits out = cond waits (cond fits out (refuse 2 0)) (refuse 
 -- ---- Adding and taking
 
 -- join onto that aircraft's text, or use the lowest free slot, or 9
-abbrev pub placed : List Place → List ℕ → List ℕ → Move
+abbrev pub placed : List WaitingSlot → List ℕ → List ℕ → Move
 placed b d t =
     placing Stay (any (isFor d) b) (any isFree b) (Put (lowest (isFor d) b) d (joinText (waiting d b) t))
     (Put (lowest isFree b) d t)
 
 -- adding: 10, designator (4), the command's own refusals
-unfoldable pub add : List Place → List ℕ → List ℕ → Move
-add b d t = inTurn Stay (isValid b) (isDesignator d) (checkCommand t) (placed b d t)
+unfoldable pub add : List WaitingSlot → List ℕ → List ℕ → Move
+add b d t = pastRefusals Stay (isValid b) (isDesignator d) (checkCommand t) (placed b d t)
 
 -- exactly what waits is handed over, or 11, or 2
-abbrev pub handedOut : List Place → List ℕ → ℕ → Move
+abbrev pub handedOut : List WaitingSlot → List ℕ → ℕ → Move
 handedOut b d room =
     handing Stay (any (isFor d) b) (leb (length (waiting d b)) room) (Free (lowest (isFor d) b) (waiting d b))
 
 -- taking: 10, 4, 11, 2
-unfoldable pub takeOut : List Place → List ℕ → ℕ → Move
-takeOut b d room = inTurn Stay (isValid b) (isDesignator d) Fine (handedOut b d room)
+unfoldable pub takeOut : List WaitingSlot → List ℕ → ℕ → Move
+takeOut b d room = pastRefusals Stay (isValid b) (isDesignator d) Fine (handedOut b d room)
 
-abbrev pub onBoard : Move → List Place → List Place
+abbrev pub onBoard : Move → List WaitingSlot → List WaitingSlot
 onBoard (Stay code place) b = b
 onBoard (Put i d t) b = set b i (record { who = d; text = t })
-onBoard (Free i t) b = set b i (record { who = getD b i nowhere .who; text = [] })
+onBoard (Free i t) b = set b i (record { who = getD b i emptySlot .who; text = [] })
 
 -- ---- What it answers: the text that then waits or is handed over, or the refusal
 

@@ -7,7 +7,7 @@ use lib.Dec.{eqb}
 use lib.ListN.{length}
 use Rattle.section.specs.declared.Settings.{Settings}
 use Rattle.command.specs.Text.{longest}
-use Rattle.board.specs.Board.{Place, waiting, Move, replyOf}
+use Rattle.board.specs.Board.{WaitingSlot, waiting, Move, replyOf}
 use Rattle.board.specs.History.{Event, Add, Take, Entry, since, joined, calledFor, act}
 use Rattle.board.specs.Lent.{boardOf, addLent, takeLent, onSlots, onArea}
 use Rattle.board.specs.declared.Slot.{Slot}
@@ -16,7 +16,7 @@ pub record Lent : Type 0 where
   pub slots : List Slot
   pub area : List ℕ
 
-abbrev pub boardIn : Lent → List Place
+abbrev pub boardIn : Lent → List WaitingSlot
 boardIn x = boardOf (x .slots) (x .area)
 
 abbrev pub call : Lent → Event → Move

@@ -12,7 +12,7 @@ use Rattle.section.specs.declared.Settings.{Settings}
 use Rattle.command.specs.Text.{checkCommand, longest}
 use Rattle.config.specs.Config.{applyTo}
 use Rattle.join.specs.Join.{joinText}
-use Rattle.board.specs.Board.{isDesignator, Place, isNone, isFree, any, waiting, inTurn, placing, handing, Move, Reply, Given, Refused, replyOf, onBoard, add, takeOut}
+use Rattle.board.specs.Board.{isDesignator, WaitingSlot, isNone, isFree, any, waiting, pastRefusals, placing, handing, Move, Reply, Given, Refused, replyOf, onBoard, add, takeOut}
 
 -- ---- Events, and the log of events with their replies
 
@@ -57,20 +57,20 @@ joined cs = foldl onto [] cs
 
 -- ---- A run of events on a board
 
-abbrev pub move : List Place → Event → Move
+abbrev pub move : List WaitingSlot → Event → Move
 move b (Add d t) = add b d t
 move b (Take d room) = takeOut b d room
 
-unfoldable pub after : List Place → List Event → List Place
+unfoldable pub after : List WaitingSlot → List Event → List WaitingSlot
 after b [] = b
 after b (e ∷ es) = after (onBoard (move b e) b) es
 
-unfoldable pub logged : List Place → List Event → List Entry
+unfoldable pub logged : List WaitingSlot → List Event → List Entry
 logged b [] = []
 logged b (e ∷ es) = record { event = e; reply = replyOf (move b e) } ∷ logged (onBoard (move b e) b) es
 
 -- a board that begins empty
-unfoldable pub isEmptyBoard : List Place → Bool
+unfoldable pub isEmptyBoard : List WaitingSlot → Bool
 isEmptyBoard [] = true
 isEmptyBoard (x ∷ b) = isFree x && isEmptyBoard b
 
@@ -79,10 +79,10 @@ isEmptyBoard (x ∷ b) = isFree x && isEmptyBoard b
 -- the board of a run is valid, so that 10 never comes
 abbrev pub due : Bool → List ℕ → Event → Reply
 due free w (Add d t) =
-    inTurn Refused true (isDesignator d) (checkCommand t)
+    pastRefusals Refused true (isDesignator d) (checkCommand t)
     (placing Refused (not (isNone w)) free (Given (onto w t)) (Given (onto w t)))
 due free w (Take d room) =
-    inTurn Refused true (isDesignator d) Fine (handing Refused (not (isNone w)) (leb (length w) room) (Given w))
+    pastRefusals Refused true (isDesignator d) Fine (handing Refused (not (isNone w)) (leb (length w) room) (Given w))
 
 -- ---- From the events and the number of slots alone
 
@@ -124,7 +124,7 @@ calledFor k log (e ∷ es) =
 abbrev pub act : Settings → List ℕ → Settings
 act x t = cond (isFine (checkCommand t)) (applyTo x t) x
 
-pub record Demand3 (b : List Place) (es : List Event) : Type 0 where
+pub record Demand3 (b : List WaitingSlot) (es : List Event) : Type 0 where
   -- what waits for an aircraft is all its accepted commands since the last hand-over, joined in order
   pub waits : (d : List ℕ) → waiting d (after b es) ≡ joined (since d (logged b es))
   -- in at most 835 bytes

@@ -6,11 +6,11 @@ use lib.Dec.{leb, eqb}
 use lib.ListN.{length, getD, set, take, drop, replicate}
 use Rattle.text.specs.Over.{over}
 use Rattle.command.specs.Text.{longest}
-use Rattle.board.specs.Board.{Place, Move, Stay, Put, Free, Reply, Given, Refused, add, takeOut, isValid}
+use Rattle.board.specs.Board.{WaitingSlot, Move, Stay, Put, Free, Reply, Given, Refused, add, takeOut, isValid}
 use Rattle.board.specs.declared.Slot.{Slot}
 
--- the places that slots and area stand for: each slot's own 835 bytes, as many of them as wait
-unfoldable pub boardOf : List Slot → List ℕ → List Place
+-- what waits, by slots and area: in each slot the first of its own 835 bytes, as many as its length says
+unfoldable pub boardOf : List Slot → List ℕ → List WaitingSlot
 boardOf [] area = []
 boardOf (x ∷ xs) area =
     record { who = x .designator; text = take (x .length) (take longest area) } ∷ boardOf xs (drop longest area)

@@ -2,5 +2,5 @@ pub mod Board
 pub mod History
 pub mod Lent
 pub mod Calls
-pub mod Survey
+pub mod Inner
 pub mod Words

@@ -1,4 +1,4 @@
--- Document 01's words for the board as it is lent, said by themselves: no place, and no test of a place, is used here.
+-- Document 01's words for the board as it is lent, said by themselves: none of what answers a call (Board, Lent) is used here.
 use mathlib.Core.Path.{_≡_}
 use mathlib.Core.Bool.{true}
 use mathlib.Core.List.{List}

@@ -1,7 +1,7 @@
 // What is handed over, and what is answered.
 use crate::Done;
+use crate::Findings;
 use crate::Slot;
-use crate::Survey;
 use crate::Wanted;
 use field::record::middle;
 use text::copy;
@@ -12,10 +12,10 @@ ghost use Rattle.text.specs.Parts.{part};
 ghost use Rattle.text.specs.Over.{over};
 ghost use Rattle.board.specs.Board.{Stay};
 ghost use Rattle.board.specs.Lent.{onOut};
-ghost use Rattle.board.specs.Survey.{fitsAt, doneOf, takeMove};
+ghost use Rattle.board.specs.Inner.{fitsAt, doneOf, takeMove};
 
 // A refusal stores no slot.
-pub fn refused(v: Survey, w: Wanted, code: u8, place: usize) -> Done
+pub fn refused(v: Findings, w: Wanted, code: u8, place: usize) -> Done
     ensures { λ r. ⌜ r ≡ doneOf (v .count) w (Stay code place) ⌝ }
 {
     Done {
@@ -54,7 +54,7 @@ fn put_text(i: usize, n: usize, area: &[u8], out: &mut [u8])
 }
 
 // The aircraft's own slot is freed: its designator stays.
-fn freed(v: Survey, w: Wanted) -> Done
+fn freed(v: Findings, w: Wanted) -> Done
     ensures { λ r. ⌜ r ≡ record { code = 0; place = 0; length = v .length; at = v .own; slot = record { designator = w .designator; length = 0 } } ⌝ }
 {
     let designator = w.designator;
@@ -71,7 +71,7 @@ fn freed(v: Survey, w: Wanted) -> Done
 }
 
 // Taking: 10, 4, 11, 2; then exactly what waits is copied out.
-pub fn hand_over(v: Survey, w: Wanted, area: &[u8], out: &mut [u8]) -> Done
+pub fn hand_over(v: Findings, w: Wanted, area: &[u8], out: &mut [u8]) -> Done
     ensures { λ r. ⌜
         (r ≡ doneOf (v .count) w (takeMove v w (now (area .entry)) (length (now (out .entry)))))
         × (now (out .exit) ≡ onOut (takeMove v w (now (area .entry)) (length (now (out .entry)))) (now (out .entry)))

@@ -21,7 +21,7 @@ pub struct Wanted {
 // What one look over the slots finds. `own` is the slot that waits for the aircraft and `length` its text's, `free` the
 // lowest free slot; each is `count`, the number of slots, where there is none.
 #[repr(C)]
-pub struct Survey {
+pub struct Findings {
     pub valid: bool,
     pub length: u16,
     pub own: usize,

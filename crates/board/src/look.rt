@@ -1,6 +1,6 @@
 // One slot more in a look over the slots.
+use crate::Findings;
 use crate::Slot;
-use crate::Survey;
 use crate::Wanted;
 use command::check::check;
 use config::settings::is_fine;
@@ -12,7 +12,7 @@ ghost use Prim.Native.Nat.{_<_};
 ghost use mathlib.Core.List.{[]};
 ghost use lib.ListN.{length};
 ghost use Rattle.text.specs.Equal.{sameBytes};
-ghost use Rattle.board.specs.Survey.{wantedBy, usedFor, soundAt, tellsOf, untilAt, startOf, firstOf, withUsed, stepOf};
+ghost use Rattle.board.specs.Inner.{wantedBy, usedFor, soundAt, isLookedAt, untilAt, startOf, firstOf, withUsed, stepOf};
 
 // The aircraft that a call is about.
 pub fn wanted(designator: &[u8]) -> Wanted
@@ -74,15 +74,15 @@ pub fn apart(clear: bool, x: Slot, s: Slot) -> bool
     clear & !(used & same_aircraft(mine, its))
 }
 
-// Whether a slot tells anything: a free one behind a free one does not.
-pub fn tells(a: Survey, s: Slot, i: usize) -> bool
-    ensures { λ r. ⌜ r ≡ tellsOf a s i ⌝ }
+// Whether a slot has to be looked at: a free one behind a free one tells nothing new.
+pub fn is_looked_at(a: Findings, s: Slot, i: usize) -> bool
+    ensures { λ r. ⌜ r ≡ isLookedAt a s i ⌝ }
 {
     (s.length != 0) | (i <= a.free)
 }
 
 // Before which slot the others are looked at: before the first where there is nothing to find.
-pub fn until(a: Survey, s: Slot, i: usize, n: usize) -> usize
+pub fn until(a: Findings, s: Slot, i: usize, n: usize) -> usize
     ensures { λ r. ⌜ r ≡ untilAt a s i n ⌝ }
 {
     if !a.valid {
@@ -121,11 +121,11 @@ fn sound(s: Slot, area: &[u8], i: usize) -> bool
 }
 
 // Before the first slot: the number of slots and the area's length.
-pub fn start(n: usize, area: &[u8]) -> Survey
+pub fn start(n: usize, area: &[u8]) -> Findings
     ensures { λ r. ⌜ r ≡ startOf n (length (now (area .entry))) ⌝ }
 {
     let valid = (n <= 64) & (area.len() == 835 * (n % 65));
-    Survey {
+    Findings {
         valid,
         length: 0,
         own: n,
@@ -144,11 +144,11 @@ fn first_of(found: usize, i: usize) -> usize
 }
 
 // A used slot: its own soundness, and whether it is the aircraft's.
-fn with_used(a: Survey, s: Slot, fine: bool, i: usize, w: Wanted) -> Survey
+fn with_used(a: Findings, s: Slot, fine: bool, i: usize, w: Wanted) -> Findings
     ensures { λ r. ⌜ r ≡ withUsed a s fine i (w .designator) ⌝ }
 {
     if a.own < i {
-        return Survey {
+        return Findings {
             valid: fine,
             length: a.length,
             own: a.own,
@@ -159,7 +159,7 @@ fn with_used(a: Survey, s: Slot, fine: bool, i: usize, w: Wanted) -> Survey
     let asked = w.designator;
     let its = s.designator;
     if same_aircraft(asked, its) {
-        return Survey {
+        return Findings {
             valid: fine,
             length: s.length,
             own: i,
@@ -167,7 +167,7 @@ fn with_used(a: Survey, s: Slot, fine: bool, i: usize, w: Wanted) -> Survey
             count: a.count,
         };
     }
-    Survey {
+    Findings {
         valid: fine,
         length: a.length,
         own: a.own,
@@ -177,14 +177,14 @@ fn with_used(a: Survey, s: Slot, fine: bool, i: usize, w: Wanted) -> Survey
 }
 
 // One slot more. `clear` says that no slot before it is for the same aircraft.
-pub fn step(a: Survey, s: Slot, clear: bool, area: &[u8], i: usize, w: Wanted) -> Survey
+pub fn step(a: Findings, s: Slot, clear: bool, area: &[u8], i: usize, w: Wanted) -> Findings
     ensures { λ r. ⌜ r ≡ stepOf (now (area .entry)) w a s clear i ⌝ }
 {
     if !a.valid {
         return a;
     }
     if s.length == 0 {
-        return Survey {
+        return Findings {
             valid: true,
             length: a.length,
             own: a.own,

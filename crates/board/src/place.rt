@@ -1,7 +1,7 @@
 // A command that is added: joined onto what waits, or put into the lowest free slot.
 use crate::Done;
+use crate::Findings;
 use crate::Slot;
-use crate::Survey;
 use crate::Wanted;
 use crate::hand::fits_at;
 use crate::hand::refused;
@@ -19,7 +19,7 @@ ghost use Rattle.text.specs.Over.{over};
 ghost use Rattle.text.specs.declared.Seen.the-variants.{Fine};
 ghost use Rattle.command.specs.Text.{checkCommand};
 ghost use Rattle.board.specs.Lent.{onArea};
-ghost use Rattle.board.specs.Survey.{doneOf, ownMove, freeMove, addMove};
+ghost use Rattle.board.specs.Inner.{doneOf, ownMove, freeMove, addMove};
 
 // A text of n bytes then waits in slot i.
 fn stored(i: usize, n: usize, w: Wanted) -> Done
@@ -48,7 +48,7 @@ fn put_at(i: usize, t: &[u8], area: &mut [u8])
 }
 
 // Joins the command onto the text that waits.
-fn join_onto(v: Survey, w: Wanted, area: &mut [u8], t: &[u8]) -> Done
+fn join_onto(v: Findings, w: Wanted, area: &mut [u8], t: &[u8]) -> Done
     requires { ⌜ checkCommand (now t) ≡ Fine ⌝ }
     ensures { λ r. ⌜
         (r ≡ doneOf (v .count) w (ownMove v w (now (area .entry)) (now (t .entry))))
@@ -73,7 +73,7 @@ fn join_onto(v: Survey, w: Wanted, area: &mut [u8], t: &[u8]) -> Done
 }
 
 // Puts the command into the lowest free slot.
-fn put_free(v: Survey, w: Wanted, area: &mut [u8], t: &[u8]) -> Done
+fn put_free(v: Findings, w: Wanted, area: &mut [u8], t: &[u8]) -> Done
     ensures { λ r. ⌜
         (r ≡ doneOf (v .count) w (freeMove v w (now (area .entry)) (now (t .entry))))
         × (now (area .exit) ≡ onArea (freeMove v w (now (area .entry)) (now (t .entry))) (now (area .entry)))
@@ -89,7 +89,7 @@ fn put_free(v: Survey, w: Wanted, area: &mut [u8], t: &[u8]) -> Done
 }
 
 // Adding: 10, 4, the command's own refusals; then join, or the lowest free slot, or 9.
-pub fn place_text(v: Survey, w: Wanted, area: &mut [u8], t: &[u8]) -> Done
+pub fn place_text(v: Findings, w: Wanted, area: &mut [u8], t: &[u8]) -> Done
     ensures { λ r. ⌜
         (r ≡ doneOf (v .count) w (addMove v w (now (area .entry)) (now (t .entry))))
         × (now (area .exit) ≡ onArea (addMove v w (now (area .entry)) (now (t .entry))) (now (area .entry)))

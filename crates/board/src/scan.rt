@@ -1,18 +1,18 @@
 // The lent run of slots: looked over, and one of them stored.
+use crate::Findings;
 use crate::Slot;
-use crate::Survey;
 use crate::Wanted;
 use crate::look::apart;
+use crate::look::is_looked_at;
 use crate::look::start;
 use crate::look::step;
-use crate::look::tells;
 use crate::look::until;
 ghost use mathlib.Core.Path.{_≡_};
 ghost use lib.ListN.{set, take};
-ghost use Rattle.board.specs.Survey.{aloneIn, scanned};
+ghost use Rattle.board.specs.Inner.{aloneIn, scanned};
 
 // Whether no slot before slot i, which is `s`, is used for its aircraft: used slots lie low, so there are few.
-pub fn alone(slots: &[Slot], a: Survey, s: Slot, i: usize) -> bool
+pub fn alone(slots: &[Slot], a: Findings, s: Slot, i: usize) -> bool
     ensures { λ r. ⌜ r ≡ aloneIn a s (take i (now (slots .entry))) ⌝ }
 {
     let mut clear = true;
@@ -26,14 +26,14 @@ pub fn alone(slots: &[Slot], a: Survey, s: Slot, i: usize) -> bool
 }
 
 // One look over the slots for all that adding and taking ask.
-pub fn look_over(slots: &[Slot], area: &[u8], w: Wanted) -> Survey
+pub fn look_over(slots: &[Slot], area: &[u8], w: Wanted) -> Findings
     ensures { λ r. ⌜ r ≡ scanned (now (area .entry)) w (now (slots .entry)) ⌝ }
 {
     let mut a = start(slots.len(), area);
     let mut i = 0;
     while i < slots.len() {
         let s = slots[i];
-        if tells(a, s, i) {
+        if is_looked_at(a, s, i) {
             let clear = alone(slots, a, s, i);
             a = step(a, s, clear, area, i, w);
         }

@@ -5,9 +5,9 @@ use Prim.Native.Nat.{ℕ}
 use lib.ListN.{length, set}
 use Rattle.board.specs.Board.{Move, Stay, Put, Free, replyOf}
 use Rattle.board.specs.Lent.{addLent, takeLent, isValidLent, onSlots, onArea, onOut}
-use Rattle.board.specs.Survey.{wantedBy, scanned, addMove, takeMove, doneOf}
+use Rattle.board.specs.Inner.{wantedBy, scanned, addMove, takeMove, doneOf}
 use Rattle.board.specs.declared.Slot.{Slot}
-use Rattle.board.specs.declared.Survey.{Survey}
+use Rattle.board.specs.declared.Findings.{Findings}
 use Rattle.board.specs.declared.Wanted.{Wanted}
 use Rattle.board.proofs.Called.{valid-is, add-is, take-is, add-done, take-done, add-slots, take-slots}
 use Rattle.desk.specs.Waiting.{replyNumbers, boardNumbers, servedBy}
@@ -20,7 +20,7 @@ served-answer n w (Stay code place) = refl
 served-answer n w (Put i d t) = refl
 served-answer n w (Free i t) = refl
 
-module _ (ys : List Slot) (area d : List ℕ) (w : Wanted) (v : Survey) (s : Served) (zs : List Slot) (us : List ℕ) (ew : w ≡ wantedBy d) (ev : v ≡ scanned area w ys) (ez : zs ≡ set ys (s .at) (s .slot)) where
+module _ (ys : List Slot) (area d : List ℕ) (w : Wanted) (v : Findings) (s : Served) (zs : List Slot) (us : List ℕ) (ew : w ≡ wantedBy d) (ev : v ≡ scanned area w ys) (ez : zs ≡ set ys (s .at) (s .slot)) where
   -- a taking
   module _ (out : List ℕ) (es : s ≡ servedBy (doneOf (v .count) w (takeMove v w area (length out)))) (eu : us ≡ onOut (takeMove v w area (length out)) out) where
     abbrev taking : Move
@@ -28,14 +28,14 @@ module _ (ys : List Slot) (area d : List ℕ) (w : Wanted) (v : Survey) (s : Ser
 
     found-take : takeMove v w area (length out) ≡ taking
     found-take =
-        ap (λ (x : Survey). takeMove x w area (length out)) ev
+        ap (λ (x : Findings). takeMove x w area (length out)) ev
         ∙ ap (λ (x : Wanted). takeMove (scanned area x ys) x area (length out)) ew
         ∙ take-is area ys d (length out)
 
     taken : s ≡ servedBy (doneOf (length ys) (wantedBy d) taking)
     taken =
         es
-        ∙ ap (λ (x : Survey). servedBy (doneOf (x .count) w (takeMove x w area (length out)))) ev
+        ∙ ap (λ (x : Findings). servedBy (doneOf (x .count) w (takeMove x w area (length out)))) ev
         ∙ ap (λ (x : Wanted). servedBy (doneOf (scanned area x ys .count) x (takeMove (scanned area x ys) x area (length out)))) ew
         ∙ ap servedBy (take-done area ys d (length out))
 
@@ -53,14 +53,14 @@ module _ (ys : List Slot) (area d : List ℕ) (w : Wanted) (v : Survey) (s : Ser
 
     found-add : addMove v w area t ≡ adding
     found-add =
-        ap (λ (x : Survey). addMove x w area t) ev
+        ap (λ (x : Findings). addMove x w area t) ev
         ∙ ap (λ (x : Wanted). addMove (scanned area x ys) x area t) ew
         ∙ add-is area ys d t
 
     added : s ≡ servedBy (doneOf (length ys) (wantedBy d) adding)
     added =
         es
-        ∙ ap (λ (x : Survey). servedBy (doneOf (x .count) w (addMove x w area t))) ev
+        ∙ ap (λ (x : Findings). servedBy (doneOf (x .count) w (addMove x w area t))) ev
         ∙ ap (λ (x : Wanted). servedBy (doneOf (scanned area x ys .count) x (addMove (scanned area x ys) x area t))) ew
         ∙ ap servedBy (add-done area ys d t)
 
@@ -72,6 +72,6 @@ module _ (ys : List Slot) (area d : List ℕ) (w : Wanted) (v : Survey) (s : Ser
     )
 
 -- a check
-pub check-says : (ys : List Slot) (area : List ℕ) (w : Wanted) (v : Survey) (r : Answer) → v ≡ scanned area w ys → r ≡ boardNumbers (v .valid)
+pub check-says : (ys : List Slot) (area : List ℕ) (w : Wanted) (v : Findings) (r : Answer) → v ≡ scanned area w ys → r ≡ boardNumbers (v .valid)
     → r ≡ boardNumbers (isValidLent ys area)
-check-says ys area w v r ev e = e ∙ ap (λ (x : Survey). boardNumbers (x .valid)) ev ∙ ap boardNumbers (valid-is area w ys)
+check-says ys area w v r ev e = e ∙ ap (λ (x : Findings). boardNumbers (x .valid)) ev ∙ ap boardNumbers (valid-is area w ys)

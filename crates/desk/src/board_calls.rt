@@ -1,8 +1,8 @@
 // The waiting board, over the caller's own slots and text area.
 use crate::Answer;
 use board::Done;
+use board::Findings;
 use board::Slot;
-use board::Survey;
 use board::Wanted;
 use board::hand::hand_over;
 use board::look::nobody;
@@ -14,7 +14,7 @@ ghost use mathlib.Core.Path.{_≡_};
 ghost use lib.ListN.{length};
 ghost use Rattle.board.specs.Board.{replyOf};
 ghost use Rattle.board.specs.Lent.{isValidLent, addLent, takeLent, onSlots, onArea, onOut};
-ghost use Rattle.board.specs.Survey.{doneOf, addMove, takeMove};
+ghost use Rattle.board.specs.Inner.{doneOf, addMove, takeMove};
 ghost use Rattle.desk.specs.Waiting.{replyNumbers, boardNumbers, servedBy};
 
 // What the host is told, and the slot that is then stored.
@@ -42,7 +42,7 @@ fn serve_done(d: Done) -> Served
     }
 }
 
-fn serve_add(v: Survey, w: Wanted, area: &mut [u8], text: &[u8]) -> Served
+fn serve_add(v: Findings, w: Wanted, area: &mut [u8], text: &[u8]) -> Served
     ensures { λ r. ⌜
         (r ≡ servedBy (doneOf (v .count) w (addMove v w (now (area .entry)) (now (text .entry)))))
         × (now (area .exit) ≡ onArea (addMove v w (now (area .entry)) (now (text .entry))) (now (area .entry)))
@@ -51,7 +51,7 @@ fn serve_add(v: Survey, w: Wanted, area: &mut [u8], text: &[u8]) -> Served
     serve_done(place_text(v, w, area, text))
 }
 
-fn serve_take(v: Survey, w: Wanted, area: &[u8], out: &mut [u8]) -> Served
+fn serve_take(v: Findings, w: Wanted, area: &[u8], out: &mut [u8]) -> Served
     ensures { λ r. ⌜
         (r ≡ servedBy (doneOf (v .count) w (takeMove v w (now (area .entry)) (length (now (out .entry))))))
         × (now (out .exit) ≡ onOut (takeMove v w (now (area .entry)) (length (now (out .entry)))) (now (out .entry)))
@@ -60,7 +60,7 @@ fn serve_take(v: Survey, w: Wanted, area: &[u8], out: &mut [u8]) -> Served
     serve_done(hand_over(v, w, area, out))
 }
 
-fn checked(v: Survey) -> Answer
+fn checked(v: Findings) -> Answer
     ensures { λ r. ⌜ r ≡ boardNumbers (v .valid) ⌝ }
 {
     Answer {

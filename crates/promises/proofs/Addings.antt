@@ -17,7 +17,7 @@ use Rattle.board.specs.Board.{isDesignator, isNone, isFree, isFor, any, lowest,
 use Rattle.board.specs.History.{Add as AddFor, onto}
 use Rattle.board.specs.Lent.{onSlots, onArea}
 use Rattle.board.specs.Calls.{Lent, boardIn}
-use Rattle.board.proofs.Places.{never, lowest-passes, none-passes, waiting-any}
+use Rattle.board.proofs.WaitingSlots.{never, lowest-passes, none-passes, waiting-any}
 use Rattle.board.proofs.Valid.{only}
 use Rattle.board.proofs.Steps.{onto-some, onto-none}
 use Rattle.board.proofs.Calls.{call-move}

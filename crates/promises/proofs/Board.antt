@@ -15,7 +15,7 @@ use Rattle.board.specs.Board.{isNone, waiting, Move, Stay, Put, Free, replyOf}
 use Rattle.board.specs.History.{isEmptyBoard, Add as AddEvent, Take as TakeEvent}
 use Rattle.board.specs.Lent.{isValidLent, onSlots, onArea, onOut}
 use Rattle.board.specs.Calls.{Lent, boardIn}
-use Rattle.board.proofs.Places.{never}
+use Rattle.board.proofs.WaitingSlots.{never}
 use Rattle.board.specs.Words.{ValidBoard}
 use Rattle.board.proofs.Calls.{run-lent, free-empty, call-ten}
 use Rattle.board.proofs.LentWords.{valid-said, said-valid, adds}

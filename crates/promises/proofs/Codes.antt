@@ -15,7 +15,7 @@ use Rattle.command.specs.Text.{checkCommand}
 use Rattle.command.proofs.Codes.{check-coded}
 use Rattle.decide.proofs.Tests.{Says, reworded, both-said, eq-said}
 use Rattle.decide.proofs.Words.{bytes-said}
-use Rattle.board.specs.Board.{isDesignator, unlessRefused, inTurn, placing, handing, Reply, Given, Refused}
+use Rattle.board.specs.Board.{isDesignator, unlessRefused, pastRefusals, placing, handing, Reply, Given, Refused}
 use Rattle.board.proofs.Steps.{is-fine}
 use Rattle.desk.specs.Numbers.{checkNumbers}
 use Rattle.desk.specs.Waiting.{replyNumbers}
@@ -59,7 +59,7 @@ own-numbers (Bad code place) r n = refl
 -- ---- A taking: whether the designator is well formed, nothing waits, and the buffer has room
 
 abbrev taken : Bool → Bool → Bool → List ℕ → Reply
-taken named none fits w = inTurn Refused true named Fine (handing Refused (not none) fits (Given w))
+taken named none fits w = pastRefusals Refused true named Fine (handing Refused (not none) fits (Given w))
 
 pub record TakingCodes (a : Answer) (named none fits : Bool) : Type 0 where
   pub four : eqb (a .code) 4 ≡ not named
@@ -78,7 +78,7 @@ taking-codes false none fits w = record { four = refl; eleven = refl; two = refl
 -- ---- An adding: whether the designator is well formed, what the check said, whether nothing waits, and whether a slot is free
 
 abbrev added : Bool → Seen → Bool → Bool → List ℕ → Reply
-added named s none free w = inTurn Refused true named s (placing Refused (not none) free (Given w) (Given w))
+added named s none free w = pastRefusals Refused true named s (placing Refused (not none) free (Given w) (Given w))
 
 pub record AddingCodes (a : Answer) (named : Bool) (s : Seen) (full : Bool) : Type 0 where
   pub nine : eqb (a .code) 9 ≡ (named && (isFine s && full))

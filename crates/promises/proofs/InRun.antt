@@ -8,11 +8,11 @@ use Rattle.text.proofs.Cases.{both-left, both-right}
 use Rattle.command.specs.Text.{checkCommand}
 use Rattle.join.specs.Join.{joinText}
 use Rattle.decide.proofs.Tests.{Says, says-no}
-use Rattle.board.specs.Board.{isDesignator, Place, isNone, isFree, any, waiting, isValid, replyOf}
+use Rattle.board.specs.Board.{isDesignator, WaitingSlot, isNone, isFree, any, waiting, isValid, replyOf}
 use Rattle.board.specs.History.{Event, since, onto, joined, noCommands, after, logged, due, aircraft as aircraftOf}
 use Rattle.board.specs.Lent.{isShaped}
 use Rattle.board.specs.Calls.{Lent, boardIn}
-use Rattle.board.proofs.Places.{never, some-for}
+use Rattle.board.proofs.WaitingSlots.{never, some-for}
 use Rattle.board.proofs.Valid.{waiting-named}
 use Rattle.board.proofs.Steps.{accepted-some, joins, right}
 use Rattle.board.proofs.Joined.{allFine, joined-none}
@@ -53,7 +53,7 @@ pub record InRun (r : Run) : Type 0 where
 pub in-run : (r : Run) → InRun r
 in-run r =
     let es : List Event = map asked (r .calls) in
-    let b : List Place = boardIn (r .board) in
+    let b : List WaitingSlot = boardIn (r .board) in
     let q : RunsAs (r .board) es = run-lent es (r .board) (began-shaped (r .board) (r .empty)) in
     let s : InStep (after b es) (logged b es) =
     in-step b es (free-empty (r .board .slots) (r .board .area) (began-free (r .board) (r .empty))) in

@@ -13,7 +13,7 @@ use Rattle.board.specs.Board.{isDesignator, isNone, isFor, any, lowest, waiting
 use Rattle.board.specs.History.{Take as TakeFor}
 use Rattle.board.specs.Lent.{onSlots}
 use Rattle.board.specs.Calls.{Lent, boardIn}
-use Rattle.board.proofs.Places.{lowest-passes, some-for}
+use Rattle.board.proofs.WaitingSlots.{lowest-passes, some-for}
 use Rattle.board.proofs.Calls.{call-move}
 use Rattle.board.proofs.Bytes.{HandedTo, out-holds}
 use Rattle.desk.specs.Waiting.{replyNumbers}

@@ -14,11 +14,11 @@ use Rattle.text.proofs.Equal.{same-equal, equal-same}
 use Rattle.command.specs.Text.{longest}
 use Rattle.command.proofs.Accepted.{longest-is}
 use Rattle.decide.proofs.Tests.{Says}
-use Rattle.board.specs.Board.{Place, nowhere, isNone, isFree, isFor, any, lowest, waiting, isValid}
+use Rattle.board.specs.Board.{WaitingSlot, emptySlot, isNone, isFree, isFor, any, lowest, waiting, isValid}
 use Rattle.board.specs.Lent.{lengthsFit, isShaped, noSlot}
 use Rattle.board.specs.Calls.{Lent, boardIn, allFree}
 use Rattle.board.specs.declared.Slot.{Slot}
-use Rattle.board.proofs.Places.{never, both, lowest-passes, lowest-first, lowest-inside, waiting-at, some-for, nothing-for}
+use Rattle.board.proofs.WaitingSlots.{never, both, lowest-passes, lowest-first, lowest-inside, waiting-at, some-for, nothing-for}
 use Rattle.board.proofs.Valid.{only}
 use Rattle.board.proofs.Lent.{Shape, shape, shaped, length-board, free-at, fit-at, text-at, for-at}
 use Rattle.promises.specs.BoardRuns.{slotAt, BeganEmpty, UsedFor, NothingWaits, Waits, NoneFree}
@@ -52,7 +52,7 @@ began-shaped x o =
 
 -- ---- Free places
 
-all-used : (b : List Place) → any isFree b ≡ false → (i : ℕ) → i < length b → isFree (getD b i nowhere) ≡ false
+all-used : (b : List WaitingSlot) → any isFree b ≡ false → (i : ℕ) → i < length b → isFree (getD b i emptySlot) ≡ false
 unfolding any
 all-used [] e i l = absurd (omega arith)
 all-used (x ∷ b) e zero l = by-test (isFree x) (λ f. never (rw f) e) (λ f. f)
@@ -72,12 +72,12 @@ module _ (x : Lent) (h : isShaped (x .slots) (x .area) ≡ true) where
   places : length (boardIn x) ≡ length (x .slots)
   places = length-board (x .slots) (x .area)
 
-  used-slot : (i : ℕ) → i < length (x .slots) → isFree (getD (boardIn x) i nowhere) ≡ false → 0 < slotAt x i .length
+  used-slot : (i : ℕ) → i < length (x .slots) → isFree (getD (boardIn x) i emptySlot) ≡ false → 0 < slotAt x i .length
   used-slot i l f =
       let q = eqb-false (slotAt x i .length) 0 (sym (free-at (x .slots) (x .area) i (holds .bytes) (holds .fit) l) ∙ f) in
       omega arith
 
-  free-slot : (i : ℕ) → i < length (x .slots) → isFree (getD (boardIn x) i nowhere) ≡ true → slotAt x i .length ≡ 0
+  free-slot : (i : ℕ) → i < length (x .slots) → isFree (getD (boardIn x) i emptySlot) ≡ true → slotAt x i .length ≡ 0
   free-slot i l f =
       eqb-true (slotAt x i .length) 0 (sym (free-at (x .slots) (x .area) i (holds .bytes) (holds .fit) l) ∙ f)
 
@@ -109,7 +109,7 @@ module _ (x : Lent) (h : isShaped (x .slots) (x .area) ≡ true) where
   -- ---- One slot
 
   -- a slot is used for an aircraft where its place is for it
-  pub used-place : (d : List ℕ) (i : ℕ) → UsedFor x d i → isFor d (getD (boardIn x) i nowhere) ≡ true
+  pub used-place : (d : List ℕ) (i : ℕ) → UsedFor x d i → isFor d (getD (boardIn x) i emptySlot) ≡ true
   used-place d i u =
       let s = u .some in
       for-at d (x .slots) (x .area) i (holds .bytes) (holds .fit) (u .inside)
@@ -117,7 +117,7 @@ module _ (x : Lent) (h : isShaped (x .slots) (x .area) ≡ true) where
       (rw (ne-eqb (slotAt x i .length) 0 (λ (z : slotAt x i .length ≡ 0). omega arith)))
       (equal-same d (slotAt x i .designator) (sym (u .named)))
 
-  pub place-used : (d : List ℕ) (i : ℕ) → isFor d (getD (boardIn x) i nowhere) ≡ true → UsedFor x d i
+  pub place-used : (d : List ℕ) (i : ℕ) → isFor d (getD (boardIn x) i emptySlot) ≡ true → UsedFor x d i
   unfolding isFor isFree
   place-used d i e =
       let n = places in
@@ -125,7 +125,7 @@ module _ (x : Lent) (h : isShaped (x .slots) (x .area) ≡ true) where
       by-lt i (length (x .slots)) (λ l. l)
       (λ (l : length (x .slots) ≤ i).
       let k : length (boardIn x) ≤ i = omega arith in
-      never e (ap (isFor d) (List·getD-eq-default (boardIn x) nowhere {n = i} k))) in
+      never e (ap (isFor d) (List·getD-eq-default (boardIn x) emptySlot {n = i} k))) in
       let used : Bool = not (eqb (slotAt x i .length) 0) in
       let same : Bool = sameBytes d (slotAt x i .designator) in
       let f : (used && same) ≡ true = sym (for-at d (x .slots) (x .area) i (holds .bytes) (holds .fit) l) ∙ e in
@@ -137,7 +137,7 @@ module _ (x : Lent) (h : isShaped (x .slots) (x .area) ≡ true) where
       }
 
   slot-text : (i : ℕ) → i < length (x .slots)
-      → getD (boardIn x) i nowhere .text ≡ take (slotAt x i .length) (drop (835 * i) (x .area))
+      → getD (boardIn x) i emptySlot .text ≡ take (slotAt x i .length) (drop (835 * i) (x .area))
   slot-text i l =
       text-at (x .slots) (x .area) i (holds .fit) l
       ∙ ap (λ (k : ℕ). take (slotAt x i .length) (drop (k * i) (x .area))) longest-is
@@ -170,7 +170,7 @@ module _ (x : Lent) (h : isShaped (x .slots) (x .area) ≡ true) where
   pub in-waits : (d t : List ℕ) → Waits x d t → waiting d (boardIn x) ≡ t
   in-waits d t w =
       waiting-at d (boardIn x) (w .slot) (used-place d (w .slot) (w .used))
-      (λ j q. by-test (isFor d (getD (boardIn x) j nowhere)) (λ f. absurd (q (w .alone j (place-used d j f)))) (λ f. f))
+      (λ j q. by-test (isFor d (getD (boardIn x) j emptySlot)) (λ f. absurd (q (w .alone j (place-used d j f)))) (λ f. f))
       ∙ slot-text (w .slot) (w .used .inside)
       ∙ sym (w .text)
 

@@ -9,7 +9,7 @@ use Prim.Native.Nat.{_-_}
 use lib.ListN.{length, drop}
 use denote.Ref.{now}
 use Prim.Native.Nat.{_*_}
-use Rattle.board.specs.Survey.{fitsAt, takeMove}
+use Rattle.board.specs.Inner.{fitsAt, takeMove}
 use Rattle.board.proofs.Moves.{fits}
 use Rattle.text.specs.Parts.{part}
 use lib.Seq.{length-take-le}

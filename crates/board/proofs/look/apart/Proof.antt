@@ -2,7 +2,7 @@ use borrow.Author.Needs.{needs}
 use Rattle.board.proofs.look.apart.Statement.{statement}
 use Rattle.board.proofs.look.apart.Tie as tie
 use Prim.Native.Nat.{_-_}
-use Rattle.board.specs.Survey.{usedFor}
+use Rattle.board.specs.Inner.{usedFor}
 
 same-aircraft-requires : tie.Need-same-aircraft-requires
 same-aircraft-requires c κs = search needs

@@ -8,7 +8,7 @@ use borrow.Author.Tests.{eq-eqb, lt-leb, le-leb, lt-ltb, le-ltb, not-true, not-f
 use Prim.Native.Nat.{ℕ, _+_, _-_}
 use lib.ListN.{length, take, drop}
 use denote.Ref.{now}
-use Rattle.board.specs.Survey.{soundAt}
+use Rattle.board.specs.Inner.{soundAt}
 use Prim.Native.Nat.{_*_}
 use Rattle.command.specs.Text.{checkCommand}
 

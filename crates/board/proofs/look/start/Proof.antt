@@ -4,7 +4,7 @@ use Rattle.board.proofs.look.start.Tie as tie
 use Prim.Native.Nat.{_-_}
 use lib.ListN.{length}
 use denote.Ref.{now}
-use Rattle.board.specs.Survey.{startOf}
+use Rattle.board.specs.Inner.{startOf}
 use Rattle.board.proofs.Found.{start-bytes}
 
 mul-valid : tie.Need-mul-valid

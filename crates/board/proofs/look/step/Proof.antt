@@ -5,7 +5,7 @@ use mathlib.Core.Path.{_∙_}
 use borrow.Author.Tests.{eq-eqb, ne-eqb, not-true, not-false}
 use Prim.Native.Nat.{_-_}
 use lib.ListN.{length}
-use Rattle.board.specs.Survey.{stepOf}
+use Rattle.board.specs.Inner.{stepOf}
 
 returns : tie.Need-returns
 unfolding stepOf

@@ -4,7 +4,7 @@ use Rattle.board.proofs.look.until.Tie as tie
 use borrow.Author.Tests.{eq-eqb, ne-eqb, lt-ltb, le-ltb, not-true, not-false}
 use Prim.Native.Nat.{_-_}
 use lib.ListN.{length}
-use Rattle.board.specs.Survey.{untilAt}
+use Rattle.board.specs.Inner.{untilAt}
 
 returns : tie.Need-returns
 unfolding untilAt

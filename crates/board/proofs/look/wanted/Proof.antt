@@ -8,7 +8,7 @@ use borrow.Author.Tests.{eq-eqb, ne-eqb, not-true, not-false}
 use Prim.Native.Nat.{ℕ, _-_}
 use lib.ListN.{length}
 use denote.Ref.{now}
-use Rattle.board.specs.Survey.{wantedBy}
+use Rattle.board.specs.Inner.{wantedBy}
 use Rattle.board.proofs.Found.{six}
 use Rattle.board.specs.declared.Wanted.{Wanted}
 

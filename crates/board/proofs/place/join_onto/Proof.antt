@@ -9,7 +9,7 @@ use Prim.Native.Nat.{ℕ, _+_, _-_}
 use lib.ListN.{length, take, drop}
 use denote.Ref.{now}
 use Prim.Native.Nat.{_*_}
-use Rattle.board.specs.Survey.{fitsAt, ownMove, waitsAt}
+use Rattle.board.specs.Inner.{fitsAt, ownMove, waitsAt}
 use Rattle.board.proofs.Moves.{fits, told-refused, Onto, onto}
 use Rattle.command.proofs.Accepted.{longest-is}
 use lib.Seq.{length-take-le}

@@ -5,7 +5,7 @@ use mathlib.Core.Path.{refl, sym, _∙_}
 use borrow.Author.Tests.{le-ltb, not-true, not-false}
 use Prim.Native.Nat.{_-_}
 use denote.Ref.{now}
-use Rattle.board.specs.Survey.{addMove}
+use Rattle.board.specs.Inner.{addMove}
 use Rattle.board.proofs.Moves.{add-own, add-free}
 
 refused-requires : tie.Need-refused-requires

@@ -6,7 +6,7 @@ use borrow.Author.Tests.{not-true, not-false}
 use Prim.Native.Nat.{_-_}
 use lib.ListN.{length}
 use denote.Ref.{now}
-use Rattle.board.specs.Survey.{freeMove}
+use Rattle.board.specs.Inner.{freeMove}
 use Rattle.board.proofs.Moves.{fits}
 use Rattle.command.proofs.Accepted.{longest-is}
 

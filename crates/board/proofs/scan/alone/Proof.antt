@@ -52,14 +52,14 @@ use denote.Triple.Table.{entered, cited}
 use denote.Triple.Walked.{says, Stays, stay-none, stay-none-slice, walkOf, AllGo, goes-none, goes-none-slice, Walks, ends-at, walked, walk-meets}
 use denote.Exit.{yes}
 use Rattle.board.specs.Lent.{noSlot}
-use Rattle.board.specs.Survey.{usedFor, noneFor, aloneIn, untilAt}
+use Rattle.board.specs.Inner.{usedFor, noneFor, aloneIn, untilAt}
 use Rattle.board.specs.declared.Slot.{Slot}
-use Rattle.board.specs.declared.Survey.{Survey}
+use Rattle.board.specs.declared.Findings.{Findings}
 use Rattle.board.proofs.Found.{by-order, offset-fits, until-le, until-from, apart-next, apart-end}
 use Rattle.board.proofs.Slot as T
 use Rattle.board.proofs.Slot.Laws as T′
-use Rattle.board.proofs.Survey as Y
-use Rattle.board.proofs.Survey.Laws as Y′
+use Rattle.board.proofs.Findings as Y
+use Rattle.board.proofs.Findings.Laws as Y′
 use Rattle.board.proofs.look.apart as apart
 use Rattle.board.proofs.look.apart.Symbol as apart-def
 use Rattle.board.proofs.look.apart.Symbol.{name as #board·apart}
@@ -83,7 +83,7 @@ stayed = (
 abbrev vals : Slot → List Val
 vals = LL.vals T.the-type T′.the-laws
 
-abbrev svals : Survey → List Val
+abbrev svals : Findings → List Val
 svals = LL.vals Y.the-type Y′.the-laws
 
 abbrev word : Ty
@@ -100,7 +100,7 @@ module _ {M : Type 1} (𝓤 : URA M) (H : Heap 𝓤) (A : Atoms 𝓤) (mem : Mem
   abbrev Apart : Contract 𝓤
   Apart = tripleOf 𝓤 H A apart.signature (apart.spec 𝓤 H A mem run)
 
-module _ {M : Type 1} (𝓤 : URA M) (H : Heap 𝓤) (A : Atoms 𝓤) (W : Given 𝓤 H A) (mem : Memory → SProp 𝓤) (run : Routine → Fun 𝓤) (κ : Lft) (q : Share) (b o : ℕ) (γ : GName) (ys : List Slot) (a : Survey) (x : Slot) (i : ℕ) (room : Room T.the-row (length ys)) (is-a : Is Y.the-row a (svals a)) (is-x : Is T.the-row x (vals x)) (i-fits : i < 2 ^ 64) where
+module _ {M : Type 1} (𝓤 : URA M) (H : Heap 𝓤) (A : Atoms 𝓤) (W : Given 𝓤 H A) (mem : Memory → SProp 𝓤) (run : Routine → Fun 𝓤) (κ : Lft) (q : Share) (b o : ℕ) (γ : GName) (ys : List Slot) (a : Findings) (x : Slot) (i : ℕ) (room : Room T.the-row (length ys)) (is-a : Is Y.the-row a (svals a)) (is-x : Is T.the-row x (vals x)) (i-fits : i < 2 ^ 64) where
   abbrev n : ℕ
   n = length ys
 
@@ -111,7 +111,7 @@ module _ {M : Type 1} (𝓤 : URA M) (H : Heap 𝓤) (A : Atoms 𝓤) (W : Given
   sv = sliceVal (b, o) n
 
   abbrev Arg : Type 0
-  Arg = RefT (List Slot) × (Survey × (Slot × (ℕ × Unit {0})))
+  Arg = RefT (List Slot) × (Findings × (Slot × (ℕ × Unit {0})))
 
   abbrev args : Arg
   args = (s, (a, (x, (i, tt))))

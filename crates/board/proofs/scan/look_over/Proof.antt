@@ -51,17 +51,17 @@ use denote.Triple.Table.{entered, cited}
 use denote.Triple.Walked.{says, Stays, stay-none, stay-none-slice, walkOf, AllGo, goes-none, goes-none-slice, Walks, ends-at, walked, walk-meets}
 use denote.Exit.{yes}
 use Rattle.board.specs.Lent.{noSlot}
-use Rattle.board.specs.Survey.{aloneIn, tellsOf, startOf, stepOf, scanFrom, scanned}
+use Rattle.board.specs.Inner.{aloneIn, isLookedAt, startOf, stepOf, scanFrom, scanned}
 use Rattle.board.specs.declared.Slot.{Slot}
-use Rattle.board.specs.declared.Survey.{Survey}
+use Rattle.board.specs.declared.Findings.{Findings}
 use Rattle.board.specs.declared.Wanted.{Wanted}
 use Rattle.board.proofs.Found.{by-order, offset-fits, look-next, look-past, look-end}
 use Rattle.board.proofs.Slot as T
 use Rattle.board.proofs.Slot.Laws as T′
 use Rattle.board.proofs.Wanted as N
 use Rattle.board.proofs.Wanted.Laws as N′
-use Rattle.board.proofs.Survey as Y
-use Rattle.board.proofs.Survey.Laws as Y′
+use Rattle.board.proofs.Findings as Y
+use Rattle.board.proofs.Findings.Laws as Y′
 use Rattle.board.proofs.look.start as start
 use Rattle.board.proofs.look.start.Symbol as start-def
 use Rattle.board.proofs.look.start.Symbol.{name as #board·start}
@@ -70,10 +70,10 @@ use Rattle.board.proofs.look.step as step
 use Rattle.board.proofs.look.step.Symbol as step-def
 use Rattle.board.proofs.look.step.Symbol.{name as #board·step}
 use Rattle.board.proofs.look.step.Met as step-thm
-use Rattle.board.proofs.look.tells as tells
-use Rattle.board.proofs.look.tells.Symbol as tells-def
-use Rattle.board.proofs.look.tells.Symbol.{name as #board·tells}
-use Rattle.board.proofs.look.tells.Met as tells-thm
+use Rattle.board.proofs.look.is_looked_at as tells
+use Rattle.board.proofs.look.is_looked_at.Symbol as tells-def
+use Rattle.board.proofs.look.is_looked_at.Symbol.{name as #board·tells}
+use Rattle.board.proofs.look.is_looked_at.Met as tells-thm
 use Rattle.board.proofs.scan.alone as alone
 use Rattle.board.proofs.scan.alone.Symbol as alone-def
 use Rattle.board.proofs.scan.alone.Symbol.{name as #board·alone}
@@ -90,7 +90,7 @@ stayed = (stay-none-slice (0 ∷ []) tt (plain (λ _. T.the-row)) yes, (stay-non
 abbrev vals : Slot → List Val
 vals = LL.vals T.the-type T′.the-laws
 
-abbrev svals : Survey → List Val
+abbrev svals : Findings → List Val
 svals = LL.vals Y.the-type Y′.the-laws
 
 abbrev wvals : Wanted → List Val
@@ -161,7 +161,7 @@ module _ {M : Type 1} (𝓤 : URA M) (H : Heap 𝓤) (A : Atoms 𝓤) (W : Given
   abbrev Held : List (Item 𝓤) → List (Item 𝓤)
   Held Γ = ‵ (flft κ q) ∷ ‵ (fshr-bor κ (λ t. arr-parts (shares T.the-row) n .part t ys b o)) ∷ ‵ (fres γ (codedHoleys T.the-row .code (heres T.the-row ys))) ∷ (‵ (flft κ′ q′) ⊛ ‵ ftrue) ∷ ‵ Area ∷ Γ
 
-  exits : (r : Survey) → Is Y.the-row r (svals r) → r ≡ scanned text w ys → ent 𝓤 (⋆ 𝓤 H A (Held [])) (Post (LL.val Y.the-type Y′.the-laws r))
+  exits : (r : Findings) → Is Y.the-row r (svals r) → r ≡ scanned text w ys → ent 𝓤 (⋆ 𝓤 H A (Held [])) (Post (LL.val Y.the-type Y′.the-laws r))
   exits r is e =
       qed W (Held []) ∵
       suffices ! _ (ends-at 𝓤 H A f.ended stayed (f.clauses 𝓤 H A mem run) W (((κ, (κ′, tt)), (q, (q′, tt)), tt, x, at), tt) (LL.val Y.the-type Y′.the-laws r) r (tt, (tt, (tt, tt))) (tt, (tt, (tt, tt)))) $ says ! e $
@@ -181,11 +181,11 @@ module _ {M : Type 1} (𝓤 : URA M) (H : Heap 𝓤) (A : Atoms 𝓤) (W : Given
       nothing ! $ move ! (1 ∷ 0 ∷ []) $ fjoin ! $ owned ! usize (Is usize) (uint-makes 𝓤 H A W w64) n _ (refl, room .0) $ fjoin ! $
       move ! (2 ∷ 0 ∷ []) $ use2 W (raw (Begin 𝓤 H A mem run .pre to-start)) asked-start $ frame ! $ done !
 
-  said-start : (r : Survey) → ent 𝓤 (ensured 𝓤 H A start.ended (start.clauses 𝓤 H A mem run) (κ′, tt) (n, (area, tt)) tt r) (fact 𝓤 (r ≡ startOf n (length text)))
+  said-start : (r : Findings) → ent 𝓤 (ensured 𝓤 H A start.ended (start.clauses 𝓤 H A mem run) (κ′, tt) (n, (area, tt)) tt r) (fact 𝓤 (r ≡ startOf n (length text)))
   said-start r = exE 𝓤 _ (λ ws. snd∗ 𝓤 (sem 𝓤 H A (lasts start.ended (κ′, tt) (n, (area, tt)) ws)) (fact 𝓤 (r ≡ startOf n (length text))))
 
   -- ---- the call of `alone`, on what was found, a slot and its number
-  module _ (a : Survey) (y : Slot) (i : ℕ) where
+  module _ (a : Findings) (y : Slot) (i : ℕ) where
     abbrev to-alone : Alone 𝓤 H A mem run .Ghost
     to-alone = (((κ, tt), (q, tt), tt, (s, (a, (y, (i, tt)))), (sv ∷ [], (svals a, (vals y, (vint w64 i ∷ [], tt))))), tt)
 
@@ -203,7 +203,7 @@ module _ {M : Type 1} (𝓤 : URA M) (H : Heap 𝓤) (A : Atoms 𝓤) (W : Given
     said-alone r = exE 𝓤 _ (λ ws. snd∗ 𝓤 (sem 𝓤 H A (lasts alone.ended (κ, tt) (s, (a, (y, (i, tt)))) ws)) (fact 𝓤 (r ≡ aloneIn a y (take i ys))))
 
   -- ---- the call of `tells`
-  module _ (a : Survey) (y : Slot) (i : ℕ) where
+  module _ (a : Findings) (y : Slot) (i : ℕ) where
     abbrev to-tells : Tells 𝓤 H A mem run .Ghost
     to-tells = ((tt, tt, tt, (a, (y, (i, tt))), (svals a, (vals y, (vint w64 i ∷ [], tt)))), tt)
 
@@ -212,11 +212,11 @@ module _ {M : Type 1} (𝓤 : URA M) (H : Heap 𝓤) (A : Atoms 𝓤) (W : Given
         qed W [] ∵ nothing ! $ nothing ! $ owned ! usize (Is usize) (uint-makes 𝓤 H A W w64) i _ (refl, fits) $ fjoin ! $ owned ! T.the-row (Is T.the-row) (LL.makes T.the-type T′.the-plain 𝓤 H A) y _ is-y $ fjoin ! $
         owned ! Y.the-row (Is Y.the-row) (LL.makes Y.the-type Y′.the-plain 𝓤 H A) a _ is-a $ fjoin ! $ nothing ! $ join ! $ frame ! $ done !
 
-    said-tells : (r : Bool) → ent 𝓤 (ensured 𝓤 H A tells.ended (tells.clauses 𝓤 H A mem run) tt (a, (y, (i, tt))) tt r) (fact 𝓤 (r ≡ tellsOf a y i))
-    said-tells r = exE 𝓤 _ (λ ws. snd∗ 𝓤 (sem 𝓤 H A (lasts tells.ended tt (a, (y, (i, tt))) ws)) (fact 𝓤 (r ≡ tellsOf a y i)))
+    said-tells : (r : Bool) → ent 𝓤 (ensured 𝓤 H A tells.ended (tells.clauses 𝓤 H A mem run) tt (a, (y, (i, tt))) tt r) (fact 𝓤 (r ≡ isLookedAt a y i))
+    said-tells r = exE 𝓤 _ (λ ws. snd∗ 𝓤 (sem 𝓤 H A (lasts tells.ended tt (a, (y, (i, tt))) ws)) (fact 𝓤 (r ≡ isLookedAt a y i)))
 
   -- ---- the call of `step`
-  module _ (a : Survey) (y : Slot) (c : Bool) (i : ℕ) where
+  module _ (a : Findings) (y : Slot) (c : Bool) (i : ℕ) where
     abbrev to : Step 𝓤 H A mem run .Ghost
     to = (((κ′, tt), (q′, tt), tt, (a, (y, (c, (area, (i, (w, tt)))))), (svals a, (vals y, (vbool c ∷ [], (av ∷ [], (vint w64 i ∷ [], (wvals w, tt))))))), tt)
 
@@ -230,12 +230,12 @@ module _ {M : Type 1} (𝓤 : URA M) (H : Heap 𝓤) (A : Atoms 𝓤) (W : Given
         owned ! Boolean (Is Boolean) (bool-makes 𝓤 H A W) c _ refl $ fjoin ! $ owned ! T.the-row (Is T.the-row) (LL.makes T.the-type T′.the-plain 𝓤 H A) y _ is-y $ fjoin ! $ owned ! Y.the-row (Is Y.the-row) (LL.makes Y.the-type Y′.the-plain 𝓤 H A) a _ is-a $ fjoin ! $
         move ! (2 ∷ 0 ∷ []) $ use2 W (raw (Step 𝓤 H A mem run .pre to)) asked $ frame ! $ done !
 
-    said : (r : Survey) → ent 𝓤 (ensured 𝓤 H A step.ended (step.clauses 𝓤 H A mem run) (κ′, tt) (a, (y, (c, (area, (i, (w, tt)))))) tt r) (fact 𝓤 (r ≡ stepOf text w a y c i))
+    said : (r : Findings) → ent 𝓤 (ensured 𝓤 H A step.ended (step.clauses 𝓤 H A mem run) (κ′, tt) (a, (y, (c, (area, (i, (w, tt)))))) tt r) (fact 𝓤 (r ≡ stepOf text w a y c i))
     said r = exE 𝓤 _ (λ ws. snd∗ 𝓤 (sem 𝓤 H A (lasts step.ended (κ′, tt) (a, (y, (c, (area, (i, (w, tt)))))) ws)) (fact 𝓤 (r ≡ stepOf text w a y c i)))
 
   -- ---- the loop's variant: a slot's number and what was found before it, with what is known of the two
   abbrev Upto : Type 0
-  Upto = (i : ℕ) × ((a : Survey) × ((i ≤ n) × ((scanned text w ys ≡ scanFrom text w ys a i (drop i ys)) × Is Y.the-row a (svals a))))
+  Upto = (i : ℕ) × ((a : Findings) × ((i ≤ n) × ((scanned text w ys ≡ scanFrom text w ys a i (drop i ys)) × Is Y.the-row a (svals a))))
 
   abbrev Nearer : Upto → Upto → Type 0
   Nearer j i = n - j .0 < n - i .0
@@ -247,7 +247,7 @@ module _ {M : Type 1} (𝓤 : URA M) (H : Heap 𝓤) (A : Atoms 𝓤) (W : Given
   fits i l = lt-of-le-of-lt l (room .0)
 
   -- the relation at the machine value written out
-  spelt : (r : Survey) (vs : List Val) → Is Y.the-row r vs → Is Y.the-row r (svals r)
+  spelt : (r : Findings) (vs : List Val) → Is Y.the-row r vs → Is Y.the-row r (svals r)
   spelt r vs is = LL.owes Y.the-type Y′.the-laws r (LL.owed Y.the-type Y′.the-laws r vs is)
 
   module _ (𝓣 : Tables 𝓤 H) (known-tells : Triple 𝓤 (𝓣 .C #board·tells) (Tells 𝓤 H A mem run)) (known-alone : Triple 𝓤 (𝓣 .C #board·alone) (Alone 𝓤 H A mem run)) (known : Triple 𝓤 (𝓣 .C #board·step) (Step 𝓤 H A mem run)) (l₀ l₁ l₂ l₃ l₄ l₅ l₆ l₇ l₈ l₉ l₁₀ l₁₁ l₁₂ l₁₃ : ℕ) where
@@ -301,7 +301,7 @@ module _ {M : Type 1} (𝓤 : URA M) (H : Heap 𝓤) (A : Atoms 𝓤) (W : Given
         use0 W (raw (Tells 𝓤 H A mem run .pre (to-tells a y (i .0)))) (ready-tells a y (i .0) (i .1 .1 .1 .1) g (fits (i .0) (i .1 .1 .0))) $
         calls-at ! (fmOf 𝓤 H (W .laws) 𝓣) (Tells 𝓤 H A mem run) known-tells (to-tells a y (i .0)) (and-then ! (load ! (from ! (stop !)) (look ! 24 refl)) (and-then ! (load ! (from ! (stop !)) (look ! 20 refl)) (and-then ! (load ! (from ! (stop !)) (look ! 22 refl)) (no-more !)))) (λ u₀.
         use1 W (later (some (λ (t : Bool). (‵ ftrue ⊛ ‵ (Boolean .own t (u₀ ∷ []))) ⊛ raw (ensured 𝓤 H A tells.ended (tells.clauses 𝓤 H A mem run) tt (a, (y, (i .0, tt))) tt t)))) (id⊢ 𝓤 _) $ await ! tt $ pick ! (λ t.
-        split ! $ move ! (1 ∷ []) $ use1 W (raw (fact 𝓤 (t ≡ tellsOf a y (i .0)))) (said-tells a y (i .0) t) $ heard ! (t ≡ tellsOf a y (i .0)) (λ told. split ! $ Kit.drop ! $
+        split ! $ move ! (1 ∷ []) $ use1 W (raw (fact 𝓤 (t ≡ isLookedAt a y (i .0)))) (said-tells a y (i .0) t) $ heard ! (t ≡ isLookedAt a y (i .0)) (λ told. split ! $ Kit.drop ! $
         peeks ! Boolean (Is Boolean) (shows 𝓤 H A Boolean) t (u₀ ∷ []) (λ is-t.
         land ! (from ! (stop !)) (init ! 6 refl (bool-lawful 𝓤 H A W .typed t _ is-t .0)) $ rewrite ! 6 (λ (v : Val). ‵ (fat fullShare tyBool l₁₃ 0 v)) (ap only (bool-tells t _ is-t)) refl $ Kit.drop ! $
         first ! $ branches ! (load ! (from ! (stop !)) (look ! 5 refl))
@@ -320,7 +320,7 @@ module _ {M : Type 1} (𝓤 : URA M) (H : Heap 𝓤) (A : Atoms 𝓤) (W : Given
         move ! (3 ∷ 4 ∷ []) $ use2 W (raw (Step 𝓤 H A mem run .pre (to a y c (i .0))) ⊛ ‵ Area) (ready a y c (i .0) (i .1 .1 .1 .1) g (fits (i .0) (i .1 .1 .0))) $ split ! $
         -- [what `step` asks; area; the token; the fractured borrow; res; _12; …; _0; …]
         calls-at-last ! (fmOf 𝓤 H (W .laws) 𝓣) (Step 𝓤 H A mem run) known (to a y c (i .0)) (and-then ! (load ! (from ! (stop !)) (look ! 23 refl)) (and-then ! (load ! (from ! (stop !)) (look ! 19 refl)) (and-then ! (load ! (from ! (stop !)) (look ! 17 refl)) (and-then ! (load ! (from ! (stop !)) (look ! 27 refl)) (and-then ! (load ! (from ! (stop !)) (look ! 21 refl)) (and-then ! (load ! (from ! (stop !)) (look ! 25 refl)) (no-more !))))))) (λ v.
-        use1 W (later (some (λ (r : Survey). ((‵ (flft κ′ q′) ⊛ ‵ ftrue) ⊛ ‵ (Y.the-row .own r (v ∷ []))) ⊛ raw (ensured 𝓤 H A step.ended (step.clauses 𝓤 H A mem run) (κ′, tt) (a, (y, (c, (area, (i .0, (w, tt)))))) tt r)))) (id⊢ 𝓤 _) $ await ! tt $ pick ! (λ r.
+        use1 W (later (some (λ (r : Findings). ((‵ (flft κ′ q′) ⊛ ‵ ftrue) ⊛ ‵ (Y.the-row .own r (v ∷ []))) ⊛ raw (ensured 𝓤 H A step.ended (step.clauses 𝓤 H A mem run) (κ′, tt) (a, (y, (c, (area, (i .0, (w, tt)))))) tt r)))) (id⊢ 𝓤 _) $ await ! tt $ pick ! (λ r.
         split ! $ move ! (1 ∷ []) $ use1 W (raw (fact 𝓤 (r ≡ stepOf text w a y c (i .0)))) (said a y c (i .0) r) $ heard ! (r ≡ stepOf text w a y c (i .0)) (λ e. split ! $ move ! (1 ∷ []) $
         peeks ! Y.the-row (Is Y.the-row) (shows 𝓤 H A Y.the-row) r (v ∷ []) (λ is.
         land-last ! (from ! (stop !)) (store ! 24 refl (LL.lawful Y.the-type Y′.the-laws 𝓤 H A W .typed r _ is .0)) $ exec ! C Λ E next-slot (anyQ (Turned i)) $ rewrite ! 24 (λ (z : Val). ‵ (fat fullShare Y′.mir l₄ 0 z)) (ap only (LL.tells Y.the-type Y′.the-laws r _ is)) refl $ Kit.drop ! $
@@ -336,7 +336,7 @@ module _ {M : Type 1} (𝓤 : URA M) (H : Heap 𝓤) (A : Atoms 𝓤) (W : Given
         y : Slot
         y = getD ys (i .0) noSlot
 
-        a : Survey
+        a : Findings
         a = i .1 .0
 
         said-no : (t : Bool) → T (not t) → t ≡ false
@@ -362,13 +362,13 @@ module _ {M : Type 1} (𝓤 : URA M) (H : Heap 𝓤) (A : Atoms 𝓤) (W : Given
         move ! (3 ∷ 4 ∷ []) $ use2 W (raw (Begin 𝓤 H A mem run .pre to-start) ⊛ ‵ Area) ready-start $ split ! $
         -- [what `start` asks; area; the token; the fractured borrow; res; _12; …; _0; …]
         calls-at ! (fmOf 𝓤 H (W .laws) 𝓣) (Begin 𝓤 H A mem run) known-start to-start (and-then ! (load ! (from ! (stop !)) (look ! 15 refl)) (and-then ! (load ! (from ! (stop !)) (look ! 27 refl)) (no-more !))) (λ u.
-        use1 W (later (some (λ (r : Survey). ((‵ (flft κ′ q′) ⊛ ‵ ftrue) ⊛ ‵ (Y.the-row .own r (u ∷ []))) ⊛ raw (ensured 𝓤 H A start.ended (start.clauses 𝓤 H A mem run) (κ′, tt) (n, (area, tt)) tt r)))) (id⊢ 𝓤 _) $ await ! tt $ pick ! (λ r.
+        use1 W (later (some (λ (r : Findings). ((‵ (flft κ′ q′) ⊛ ‵ ftrue) ⊛ ‵ (Y.the-row .own r (u ∷ []))) ⊛ raw (ensured 𝓤 H A start.ended (start.clauses 𝓤 H A mem run) (κ′, tt) (n, (area, tt)) tt r)))) (id⊢ 𝓤 _) $ await ! tt $ pick ! (λ r.
         split ! $ move ! (1 ∷ []) $ use1 W (raw (fact 𝓤 (r ≡ startOf n (length text)))) (said-start r) $ heard ! (r ≡ startOf n (length text)) (λ e. split ! $ move ! (1 ∷ []) $
         peeks ! Y.the-row (Is Y.the-row) (shows 𝓤 H A Y.the-row) r (u ∷ []) (λ is.
         land ! (from ! (stop !)) (init ! 24 refl (LL.lawful Y.the-type Y′.the-laws 𝓤 H A W .typed r _ is .0)) $ rewrite ! 24 (λ (v : Val). ‵ (fat fullShare Y′.mir l₄ 0 v)) (ap only (LL.tells Y.the-type Y′.the-laws r _ is)) refl $ Kit.drop ! $
         move ! (2 ∷ 3 ∷ 4 ∷ 0 ∷ 1 ∷ []) $
         assigns ! (of-opd ! (lit ! tt)) (from ! (stop !)) (init ! 21 refl (tt, record { fits = lit< tt })) $
-        looped 𝓣 known-tells known-alone known l₀ l₁ l₂ l₃ l₄ l₅ l₆ l₇ l₈ l₉ l₁₀ l₁₁ l₁₂ l₁₃ (0, (r, (zero-le, (ap (λ (z : Survey). scanFrom text w ys z 0 ys) (sym e), spelt r _ is))))))))))))))))))))))
+        looped 𝓣 known-tells known-alone known l₀ l₁ l₂ l₃ l₄ l₅ l₆ l₇ l₈ l₉ l₁₀ l₁₁ l₁₂ l₁₃ (0, (r, (zero-le, (ap (λ (z : Findings). scanFrom text w ys z 0 ys) (sym e), spelt r _ is))))))))))))))))))))))
 
 module _ {M : Type 1} (𝓤 : URA M) (H : Heap 𝓤) (A : Atoms 𝓤) (W : Given 𝓤 H A) (mem : Memory → SProp 𝓤) (run : Routine → Fun 𝓤) where
   look-over-walks : (𝓣 : Tables 𝓤 H) → Triple 𝓤 (𝓣 .C #board·start) (Begin 𝓤 H A mem run) → Triple 𝓤 (𝓣 .C #board·tells) (Tells 𝓤 H A mem run) → Triple 𝓤 (𝓣 .C #board·alone) (Alone 𝓤 H A mem run) → Triple 𝓤 (𝓣 .C #board·step) (Step 𝓤 H A mem run) → Walks 𝓤 H A f.ended stayed (WpFn 𝓤 H (𝓣 .C) (𝓣 .Λ) code.function) (f.clauses 𝓤 H A mem run)
@@ -389,6 +389,6 @@ look-over-spec 𝓤 H 𝓜 𝓖 𝓡 =
     (tables 𝓤 H 𝓜 𝓡 code.env .C) (tables 𝓤 H 𝓜 𝓡 code.env .Λ) #board·look-over code.function (code.unfolded 𝓤 H 𝓜 𝓡)
     (look-over-meets 𝓤 H (𝓖 .A) (givenOf 𝓤 H 𝓜 𝓖) (𝓜 .mem) (𝓡 .run) (tablesOf 𝓤 H 𝓜 (tables 𝓤 H 𝓜 𝓡 code.env))
     (cited 𝓤 H (Begin 𝓤 H (𝓖 .A) (𝓜 .mem) (𝓡 .run)) 𝓜 𝓡 code.env #board·start start-def.routine code.calls-board·look·start (start-thm.met 𝓤 H 𝓜 𝓖 𝓡))
-    (cited 𝓤 H (Tells 𝓤 H (𝓖 .A) (𝓜 .mem) (𝓡 .run)) 𝓜 𝓡 code.env #board·tells tells-def.routine code.calls-board·look·tells (tells-thm.met 𝓤 H 𝓜 𝓖 𝓡))
+    (cited 𝓤 H (Tells 𝓤 H (𝓖 .A) (𝓜 .mem) (𝓡 .run)) 𝓜 𝓡 code.env #board·tells tells-def.routine code.calls-board·look·is-looked-at (tells-thm.met 𝓤 H 𝓜 𝓖 𝓡))
     (cited 𝓤 H (Alone 𝓤 H (𝓖 .A) (𝓜 .mem) (𝓡 .run)) 𝓜 𝓡 code.env #board·alone alone-def.routine code.calls-board·scan·alone (alone-thm.met 𝓤 H 𝓜 𝓖 𝓡))
     (cited 𝓤 H (Step 𝓤 H (𝓖 .A) (𝓜 .mem) (𝓡 .run)) 𝓜 𝓡 code.env #board·step step-def.routine code.calls-board·look·step (step-thm.met 𝓤 H 𝓜 𝓖 𝓡)))

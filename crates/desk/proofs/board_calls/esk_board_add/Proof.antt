@@ -40,14 +40,14 @@ use denote.Triple.Table.{entered, cited}
 use denote.Triple.Walked.{says, Stays, stay-none-slice, gave-slice, walkOf, AllGo, goes-none-slice, goes-gave-slice, Walks, ends-at, walked, walk-meets}
 use denote.Exit.{yes}
 use Rattle.board.specs.Lent.{onArea}
-use Rattle.board.specs.Survey.{wantedBy, scanned, doneOf, addMove}
+use Rattle.board.specs.Inner.{wantedBy, scanned, doneOf, addMove}
 use Rattle.board.specs.declared.Slot.{Slot}
-use Rattle.board.specs.declared.Survey.{Survey}
+use Rattle.board.specs.declared.Findings.{Findings}
 use Rattle.board.specs.declared.Wanted.{Wanted}
 use Rattle.board.proofs.Slot as T
 use Rattle.board.proofs.Slot.Laws as T′
-use Rattle.board.proofs.Survey as Y
-use Rattle.board.proofs.Survey.Laws as Y′
+use Rattle.board.proofs.Findings as Y
+use Rattle.board.proofs.Findings.Laws as Y′
 use Rattle.board.proofs.Wanted as Q
 use Rattle.board.proofs.Wanted.Laws as Q′
 use Rattle.board.proofs.look.wanted as wanted
@@ -86,7 +86,7 @@ stayed = (gave-slice (0 ∷ []) tt (plain (λ _. T.the-row)), (gave-slice (1 ∷
 abbrev vals : Slot → List Val
 vals = LL.vals T.the-type T′.the-laws
 
-abbrev yvals : Survey → List Val
+abbrev yvals : Findings → List Val
 yvals = LL.vals Y.the-type Y′.the-laws
 
 abbrev wvals : Wanted → List Val
@@ -154,13 +154,13 @@ module _ {M : Type 1} (𝓤 : URA M) (H : Heap 𝓤) (A : Atoms 𝓤) (W : Given
   Post = walkOf 𝓤 H A f.ended stayed (f.clauses 𝓤 H A mem run) .post (((κ, (κ₁, (κ₂, (κ₃, tt)))), (q, (q₁, (q₂, (q₃, tt)))), tt, x, at), tt)
 
   -- what the parts did
-  abbrev Served-by : Wanted → Survey → Served → List ℕ → Type 0
+  abbrev Served-by : Wanted → Findings → Served → List ℕ → Type 0
   Served-by w v t us = (t ≡ servedBy (doneOf (v .count) w (addMove v w ns (text .now)))) × (us ≡ onArea (addMove v w ns (text .now)) ns)
 
   abbrev Left : List Slot → List ℕ → List (Item 𝓤)
   Left zs us = (‵ (flft κ q) ⊛ ‵ ftrue) ∷ (‵ (flft κ₁ q₁) ⊛ ‵ (flft κ₃ q₃) ⊛ ‵ ftrue) ∷ ‵ (finally T.the-row γ zs) ∷ ‵ (finally u8 γ₁ us) ∷ ‵ Text ∷ (‵ (flft κ₂ q₂) ⊛ ‵ ftrue) ∷ ‵ Des ∷ []
 
-  exits : (w : Wanted) (v : Survey) (t : Served) (zs : List Slot) (us : List ℕ) → Is N.the-row (t .answer) (answer-val (t .answer) ∷ []) → length zs ≡ length ys → length us ≡ length ns → w ≡ wantedBy (des .now) → v ≡ scanned ns w ys → Served-by w v t us → zs ≡ set ys (t .at) (t .slot)
+  exits : (w : Wanted) (v : Findings) (t : Served) (zs : List Slot) (us : List ℕ) → Is N.the-row (t .answer) (answer-val (t .answer) ∷ []) → length zs ≡ length ys → length us ≡ length ns → w ≡ wantedBy (des .now) → v ≡ scanned ns w ys → Served-by w v t us → zs ≡ set ys (t .at) (t .slot)
       → ent 𝓤 (⋆ 𝓤 H A (Left zs us)) (Post (answer-val (t .answer)))
   exits w v t zs us is l l′ ew e e₂ e₃ =
       qed W (Left zs us) ∵
@@ -188,7 +188,7 @@ module _ {M : Type 1} (𝓤 : URA M) (H : Heap 𝓤) (A : Atoms 𝓤) (W : Given
   said-want r = exE 𝓤 _ (λ ws. snd∗ 𝓤 (sem 𝓤 H A (lasts wanted.ended (κ₂, tt) (des, tt) ws)) (fact 𝓤 (r ≡ wantedBy (des .now))))
 
   module _ (w : Wanted) where
-    abbrev found : Survey
+    abbrev found : Findings
     found = scanned ns w ys
 
     -- ---- the call of `look_over`, on the slots lent as a `&` for ν under the name δ, and the area for ν′ under δ′
@@ -211,17 +211,17 @@ module _ {M : Type 1} (𝓤 : URA M) (H : Heap 𝓤) (A : Atoms 𝓤) (W : Given
           nothing ! $ owned ! Q.the-row (Is Q.the-row) (LL.makes Q.the-type Q′.the-plain 𝓤 H A) w _ is $ fjoin ! $ move ! (4 ∷ 0 ∷ []) $ fjoin ! $ move ! (3 ∷ 0 ∷ []) $ fjoin ! $
           nothing ! $ move ! (3 ∷ 0 ∷ []) $ join ! $ move ! (2 ∷ 0 ∷ []) $ join ! $ use2 W (raw (Scan 𝓤 H A mem run .pre to-scan)) asked-scan $ done !
 
-      said-scan : (r : Survey) → ent 𝓤 (ensured 𝓤 H A scan.ended (scan.clauses 𝓤 H A mem run) (ν ∷ [], (ν′ ∷ [], tt)) (s δ, (area δ′, (w, tt))) tt r) (fact 𝓤 (r ≡ found))
+      said-scan : (r : Findings) → ent 𝓤 (ensured 𝓤 H A scan.ended (scan.clauses 𝓤 H A mem run) (ν ∷ [], (ν′ ∷ [], tt)) (s δ, (area δ′, (w, tt))) tt r) (fact 𝓤 (r ≡ found))
       said-scan r = exE 𝓤 _ (λ ws. snd∗ 𝓤 (sem 𝓤 H A (lasts scan.ended (ν ∷ [], (ν′ ∷ [], tt)) (s δ, (area δ′, (w, tt))) ws)) (fact 𝓤 (r ≡ found)))
 
     -- ---- the call of `serve_add`, to which the area is given up
-    abbrev to-hand : Survey → Hand 𝓤 H A mem run .Ghost
+    abbrev to-hand : Findings → Hand 𝓤 H A mem run .Ghost
     to-hand v = (((κ₁, (κ₃, tt)), (q₁, (q₃, tt)), tt, (v, (w, (area γ₁, (text, tt)))), (yvals v, (wvals w, (av ∷ [], (tv ∷ [], tt))))), tt)
 
-    asked-hand : (v : Survey) → ent 𝓤 (onEntry 𝓤 H A hand.signature (κ₁, (κ₃, tt)) (q₁, (q₃, tt)) (v, (w, (area γ₁, (text, tt)))) (yvals v, (wvals w, (av ∷ [], (tv ∷ [], tt))))) (Hand 𝓤 H A mem run .pre (to-hand v))
+    asked-hand : (v : Findings) → ent 𝓤 (onEntry 𝓤 H A hand.signature (κ₁, (κ₃, tt)) (q₁, (q₃, tt)) (v, (w, (area γ₁, (text, tt)))) (yvals v, (wvals w, (av ∷ [], (tv ∷ [], tt))))) (Hand 𝓤 H A mem run .pre (to-hand v))
     asked-hand v = qed W ((‵ (flft κ₁ q₁) ⊛ ‵ (flft κ₃ q₃) ⊛ ‵ ftrue) ∷ ‵ (owns (Y.the-row ∷ Q.the-row ∷ MutSlice (named 0) κ₁ u8 ∷ ShrSlice (named 1) κ₃ u8 ∷ []) (v, (w, (area γ₁, (text, tt)))) (yvals v, (wvals w, (av ∷ [], (tv ∷ [], tt))))) ∷ []) ∵ join ! $ frame ! $ done !
 
-    ready-hand : (v : Survey) → Is Q.the-row w (wvals w) → Is Y.the-row v (yvals v) → ent 𝓤 (sep 𝓤 (A .lft κ₁ q₁) (sep 𝓤 (sem 𝓤 H A Area) (sep 𝓤 (sep 𝓤 (A .lft κ₃ q₃) (emp 𝓤)) (sem 𝓤 H A Text)))) (sep 𝓤 (Hand 𝓤 H A mem run .pre (to-hand v)) (sem 𝓤 H A Text))
+    ready-hand : (v : Findings) → Is Q.the-row w (wvals w) → Is Y.the-row v (yvals v) → ent 𝓤 (sep 𝓤 (A .lft κ₁ q₁) (sep 𝓤 (sem 𝓤 H A Area) (sep 𝓤 (sep 𝓤 (A .lft κ₃ q₃) (emp 𝓤)) (sem 𝓤 H A Text)))) (sep 𝓤 (Hand 𝓤 H A mem run .pre (to-hand v)) (sem 𝓤 H A Text))
     ready-hand v is-w is =
         qed W (‵ (flft κ₁ q₁) ∷ ‵ Area ∷ (‵ (flft κ₃ q₃) ⊛ ‵ ftrue) ∷ ‵ Text ∷ []) ∵
         move ! (3 ∷ []) $ use1 W (‵ Text ⊛ ‵ Text) (shr-slice-copy 𝓤 H A W (named 3) κ₃ u8 .twice text (tv ∷ [])) $ split ! $
@@ -269,7 +269,7 @@ module _ {M : Type 1} (𝓤 : URA M) (H : Heap 𝓤) (A : Atoms 𝓤) (W : Given
         move ! (3 ∷ 0 ∷ []) $ join ! $ move ! (2 ∷ 0 ∷ []) $ join ! $ move ! (3 ∷ 0 ∷ []) $ join ! $ use1 W (raw (Scan 𝓤 H A mem run .pre (to-scan w ν ν′ δ δ′))) (ready-scan w ν ν′ δ δ′ (spelt-w w _ is-w)) $
         -- [what `look_over` asks; what is kept of the area; of the slots; des's token and true; des; text's; text; _16; …]
         calls-at ! fm (Scan 𝓤 H A mem run) known-scan (to-scan w ν ν′ δ δ′) (and-then ! (load ! (from ! (stop !)) (look ! 21 refl)) (and-then ! (load ! (from ! (stop !)) (look ! 17 refl)) (and-then ! (load ! (from ! (stop !)) (look ! 29 refl)) (no-more !)))) (λ w₂.
-        use1 W (later (some (λ (v : Survey). ((‵ (flft (ν ∷ []) fullShare) ⊛ ‵ (flft (ν′ ∷ []) fullShare) ⊛ ‵ ftrue) ⊛ ‵ (Y.the-row .own v (w₂ ∷ []))) ⊛ raw (ensured 𝓤 H A scan.ended (scan.clauses 𝓤 H A mem run) (ν ∷ [], (ν′ ∷ [], tt)) (s δ, (area δ′, (w, tt))) tt v)))) (id⊢ 𝓤 _) $ await ! tt $ pick ! (λ v.
+        use1 W (later (some (λ (v : Findings). ((‵ (flft (ν ∷ []) fullShare) ⊛ ‵ (flft (ν′ ∷ []) fullShare) ⊛ ‵ ftrue) ⊛ ‵ (Y.the-row .own v (w₂ ∷ []))) ⊛ raw (ensured 𝓤 H A scan.ended (scan.clauses 𝓤 H A mem run) (ν ∷ [], (ν′ ∷ [], tt)) (s δ, (area δ′, (w, tt))) tt v)))) (id⊢ 𝓤 _) $ await ! tt $ pick ! (λ v.
         split ! $ move ! (1 ∷ []) $ use1 W (raw (fact 𝓤 (v ≡ found w))) (said-scan w ν ν′ δ δ′ v) $ heard ! (v ≡ found w) (λ e. split ! $ move ! (1 ∷ []) $
         peeks ! Y.the-row (Is Y.the-row) (shows 𝓤 H A Y.the-row) v (w₂ ∷ []) (λ is-v.
         land ! (from ! (stop !)) (init ! 28 refl (LL.lawful Y.the-type Y′.the-laws 𝓤 H A W .typed v _ is-v .0)) $ rewrite ! 28 (λ (u : Val). ‵ (fat fullShare Y′.mir l₆ 0 u)) (ap only (LL.tells Y.the-type Y′.the-laws v _ is-v)) refl $ drop ! $

@@ -35,14 +35,14 @@ use denote.Triple.Spec.{Meets, tripleOf}
 use denote.Triple.Table.{entered, cited}
 use denote.Triple.Walked.{says, Stays, stay-none-slice, walkOf, AllGo, goes-none-slice, Walks, ends-at, walked, walk-meets}
 use denote.Exit.{yes}
-use Rattle.board.specs.Survey.{scanned}
+use Rattle.board.specs.Inner.{scanned}
 use Rattle.board.specs.declared.Slot.{Slot}
-use Rattle.board.specs.declared.Survey.{Survey}
+use Rattle.board.specs.declared.Findings.{Findings}
 use Rattle.board.specs.declared.Wanted.{Wanted}
 use Rattle.board.proofs.Slot as T
 use Rattle.board.proofs.Slot.Laws as T′
-use Rattle.board.proofs.Survey as Y
-use Rattle.board.proofs.Survey.Laws as Y′
+use Rattle.board.proofs.Findings as Y
+use Rattle.board.proofs.Findings.Laws as Y′
 use Rattle.board.proofs.Wanted as Q
 use Rattle.board.proofs.Wanted.Laws as Q′
 use Rattle.board.proofs.look.nobody as nobody
@@ -70,7 +70,7 @@ use Rattle.desk.proofs.board_calls.esk_board_check.Code as code
 abbrev stayed : Stays (f.ended .signature .params) (f.ended .kept)
 stayed = (stay-none-slice (0 ∷ []) tt (plain (λ _. T.the-row)) yes, (stay-none-slice (1 ∷ []) tt (plain (λ _. u8)) yes, tt))
 
-abbrev yvals : Survey → List Val
+abbrev yvals : Findings → List Val
 yvals = LL.vals Y.the-type Y′.the-laws
 
 abbrev wvals : Wanted → List Val
@@ -118,7 +118,7 @@ module _ {M : Type 1} (𝓤 : URA M) (H : Heap 𝓤) (A : Atoms 𝓤) (W : Given
   abbrev Left : List (Item 𝓤)
   Left = (‵ (flft κ q) ⊛ ‵ (flft κ₁ q₁) ⊛ ‵ ftrue) ∷ (‵ Area ⊛ ‵ Slots) ∷ []
 
-  exits : (w : Wanted) (v : Survey) (r : Answer) → Is N.the-row r (answer-val r ∷ []) → v ≡ scanned (area .now) w (s .now) → r ≡ boardNumbers (v .valid) → ent 𝓤 (⋆ 𝓤 H A Left) (Post (answer-val r))
+  exits : (w : Wanted) (v : Findings) (r : Answer) → Is N.the-row r (answer-val r ∷ []) → v ≡ scanned (area .now) w (s .now) → r ≡ boardNumbers (v .valid) → ent 𝓤 (⋆ 𝓤 H A Left) (Post (answer-val r))
   exits w v r is e e₂ =
       qed W Left ∵
       suffices ! _ (ends-at 𝓤 H A f.ended stayed (f.clauses 𝓤 H A mem run) W (((κ, (κ₁, tt)), (q, (q₁, tt)), tt, x, at), tt) (answer-val r) r (tt, (tt, tt)) (tt, (tt, tt))) $
@@ -135,7 +135,7 @@ module _ {M : Type 1} (𝓤 : URA M) (H : Heap 𝓤) (A : Atoms 𝓤) (W : Given
 
   -- ---- the call of `look_over`
   module _ (w : Wanted) where
-    abbrev found : Survey
+    abbrev found : Findings
     found = scanned (area .now) w (s .now)
 
     abbrev to-scan : Scan 𝓤 H A mem run .Ghost
@@ -152,11 +152,11 @@ module _ {M : Type 1} (𝓤 : URA M) (H : Heap 𝓤) (A : Atoms 𝓤) (W : Given
         nothing ! $ owned ! Q.the-row (Is Q.the-row) (LL.makes Q.the-type Q′.the-plain 𝓤 H A) w _ is $ fjoin ! $ move ! (3 ∷ 0 ∷ []) $ fjoin ! $ move ! (1 ∷ 0 ∷ []) $ fjoin ! $
         move ! (3 ∷ 4 ∷ []) $ join ! $ use2 W (raw (Scan 𝓤 H A mem run .pre to-scan)) asked-scan $ frame ! $ move ! (1 ∷ 0 ∷ []) $ frame ! $ done !
 
-    said-scan : (r : Survey) → ent 𝓤 (ensured 𝓤 H A scan.ended (scan.clauses 𝓤 H A mem run) (κ, (κ₁, tt)) (s, (area, (w, tt))) tt r) (fact 𝓤 (r ≡ found))
+    said-scan : (r : Findings) → ent 𝓤 (ensured 𝓤 H A scan.ended (scan.clauses 𝓤 H A mem run) (κ, (κ₁, tt)) (s, (area, (w, tt))) tt r) (fact 𝓤 (r ≡ found))
     said-scan r = exE 𝓤 _ (λ ws. snd∗ 𝓤 (sem 𝓤 H A (lasts scan.ended (κ, (κ₁, tt)) (s, (area, (w, tt))) ws)) (fact 𝓤 (r ≡ found)))
 
   -- ---- the call of `checked`
-  module _ (v : Survey) where
+  module _ (v : Findings) where
     abbrev to-check : Check 𝓤 H A mem run .Ghost
     to-check = ((tt, tt, tt, (v, tt), (yvals v, tt)), tt)
 
@@ -184,7 +184,7 @@ module _ {M : Type 1} (𝓤 : URA M) (H : Heap 𝓤) (A : Atoms 𝓤) (W : Given
         move ! (2 ∷ 3 ∷ []) $ join ! $ move ! (2 ∷ 0 ∷ []) $ join ! $ move ! (1 ∷ 0 ∷ []) $ join ! $ use1 W (raw (Scan 𝓤 H A mem run .pre (to-scan w)) ⊛ (‵ Area ⊛ ‵ Slots)) (ready-scan w (LL.owes Q.the-type Q′.the-laws w (LL.owed Q.the-type Q′.the-laws w _ is-w))) $ split ! $
         -- [what `look_over` asks; area and slots; _4; …; _0; …]
         calls-at ! fm (Scan 𝓤 H A mem run) known-scan (to-scan w) (and-then ! (load ! (from ! (stop !)) (look ! 8 refl)) (and-then ! (load ! (from ! (stop !)) (look ! 6 refl)) (and-then ! (load ! (from ! (stop !)) (look ! 4 refl)) (no-more !)))) (λ w₂.
-        use1 W (later (some (λ (v : Survey). ((‵ (flft κ q) ⊛ ‵ (flft κ₁ q₁) ⊛ ‵ ftrue) ⊛ ‵ (Y.the-row .own v (w₂ ∷ []))) ⊛ raw (ensured 𝓤 H A scan.ended (scan.clauses 𝓤 H A mem run) (κ, (κ₁, tt)) (s, (area, (w, tt))) tt v)))) (id⊢ 𝓤 _) $ await ! tt $ pick ! (λ v.
+        use1 W (later (some (λ (v : Findings). ((‵ (flft κ q) ⊛ ‵ (flft κ₁ q₁) ⊛ ‵ ftrue) ⊛ ‵ (Y.the-row .own v (w₂ ∷ []))) ⊛ raw (ensured 𝓤 H A scan.ended (scan.clauses 𝓤 H A mem run) (κ, (κ₁, tt)) (s, (area, (w, tt))) tt v)))) (id⊢ 𝓤 _) $ await ! tt $ pick ! (λ v.
         split ! $ move ! (1 ∷ []) $ use1 W (raw (fact 𝓤 (v ≡ found w))) (said-scan w v) $ heard ! (v ≡ found w) (λ e. split ! $ move ! (1 ∷ []) $
         peeks ! Y.the-row (Is Y.the-row) (shows 𝓤 H A Y.the-row) v (w₂ ∷ []) (λ is-v.
         land ! (from ! (stop !)) (init ! 3 refl (LL.lawful Y.the-type Y′.the-laws 𝓤 H A W .typed v _ is-v .0)) $ rewrite ! 3 (λ (u : Val). ‵ (fat fullShare Y′.mir l₄ 0 u)) (ap only (LL.tells Y.the-type Y′.the-laws v _ is-v)) refl $ drop ! $

@@ -40,14 +40,14 @@ use denote.Triple.Table.{entered, cited}
 use denote.Triple.Walked.{says, Stays, stay-none-slice, gave-slice, walkOf, AllGo, goes-none-slice, goes-gave-slice, Walks, ends-at, walked, walk-meets}
 use denote.Exit.{yes}
 use Rattle.board.specs.Lent.{onOut}
-use Rattle.board.specs.Survey.{wantedBy, scanned, doneOf, takeMove}
+use Rattle.board.specs.Inner.{wantedBy, scanned, doneOf, takeMove}
 use Rattle.board.specs.declared.Slot.{Slot}
-use Rattle.board.specs.declared.Survey.{Survey}
+use Rattle.board.specs.declared.Findings.{Findings}
 use Rattle.board.specs.declared.Wanted.{Wanted}
 use Rattle.board.proofs.Slot as T
 use Rattle.board.proofs.Slot.Laws as T′
-use Rattle.board.proofs.Survey as Y
-use Rattle.board.proofs.Survey.Laws as Y′
+use Rattle.board.proofs.Findings as Y
+use Rattle.board.proofs.Findings.Laws as Y′
 use Rattle.board.proofs.Wanted as Q
 use Rattle.board.proofs.Wanted.Laws as Q′
 use Rattle.board.proofs.look.wanted as wanted
@@ -86,7 +86,7 @@ stayed = (gave-slice (0 ∷ []) tt (plain (λ _. T.the-row)), (stay-none-slice (
 abbrev vals : Slot → List Val
 vals = LL.vals T.the-type T′.the-laws
 
-abbrev yvals : Survey → List Val
+abbrev yvals : Findings → List Val
 yvals = LL.vals Y.the-type Y′.the-laws
 
 abbrev wvals : Wanted → List Val
@@ -151,13 +151,13 @@ module _ {M : Type 1} (𝓤 : URA M) (H : Heap 𝓤) (A : Atoms 𝓤) (W : Given
   Post = walkOf 𝓤 H A f.ended stayed (f.clauses 𝓤 H A mem run) .post (((κ, (κ₁, (κ₂, (κ₃, tt)))), (q, (q₁, (q₂, (q₃, tt)))), tt, x, at), tt)
 
   -- what the parts did
-  abbrev Served-by : Wanted → Survey → Served → List ℕ → Type 0
+  abbrev Served-by : Wanted → Findings → Served → List ℕ → Type 0
   Served-by w v t us = (t ≡ servedBy (doneOf (v .count) w (takeMove v w (area .now) (length (out .now))))) × (us ≡ onOut (takeMove v w (area .now) (length (out .now))) (out .now))
 
   abbrev Left : List Slot → List ℕ → List (Item 𝓤)
   Left zs us = (‵ (flft κ q) ⊛ ‵ ftrue) ∷ (‵ (flft κ₁ q₁) ⊛ ‵ (flft κ₃ q₃) ⊛ ‵ ftrue) ∷ ‵ (finally T.the-row γ zs) ∷ ‵ (finally u8 (out .name) us) ∷ ‵ Area ∷ (‵ (flft κ₂ q₂) ⊛ ‵ ftrue) ∷ ‵ Des ∷ []
 
-  exits : (w : Wanted) (v : Survey) (t : Served) (zs : List Slot) (us : List ℕ) → Is N.the-row (t .answer) (answer-val (t .answer) ∷ []) → length zs ≡ length ys → length us ≡ length (out .now) → w ≡ wantedBy (des .now) → v ≡ scanned (area .now) w ys → Served-by w v t us → zs ≡ set ys (t .at) (t .slot)
+  exits : (w : Wanted) (v : Findings) (t : Served) (zs : List Slot) (us : List ℕ) → Is N.the-row (t .answer) (answer-val (t .answer) ∷ []) → length zs ≡ length ys → length us ≡ length (out .now) → w ≡ wantedBy (des .now) → v ≡ scanned (area .now) w ys → Served-by w v t us → zs ≡ set ys (t .at) (t .slot)
       → ent 𝓤 (⋆ 𝓤 H A (Left zs us)) (Post (answer-val (t .answer)))
   exits w v t zs us is l l′ ew e e₂ e₃ =
       qed W (Left zs us) ∵
@@ -186,7 +186,7 @@ module _ {M : Type 1} (𝓤 : URA M) (H : Heap 𝓤) (A : Atoms 𝓤) (W : Given
 
   -- ---- the call of `look_over`, on the slots lent as a `&` for ν under the name δ
   module _ (w : Wanted) where
-    abbrev found : Survey
+    abbrev found : Findings
     found = scanned (area .now) w ys
 
     abbrev to-scan : ℕ → GName → Scan 𝓤 H A mem run .Ghost
@@ -202,17 +202,17 @@ module _ {M : Type 1} (𝓤 : URA M) (H : Heap 𝓤) (A : Atoms 𝓤) (W : Given
         nothing ! $ owned ! Q.the-row (Is Q.the-row) (LL.makes Q.the-type Q′.the-plain 𝓤 H A) w _ is $ fjoin ! $ move ! (1 ∷ 0 ∷ []) $ fjoin ! $ move ! (4 ∷ 0 ∷ []) $ fjoin ! $
         nothing ! $ move ! (4 ∷ 0 ∷ []) $ join ! $ move ! (3 ∷ 0 ∷ []) $ join ! $ use2 W (raw (Scan 𝓤 H A mem run .pre (to-scan ν δ))) (asked-scan ν δ) $ frame ! $ done !
 
-    said-scan : (ν : ℕ) (δ : GName) (r : Survey) → ent 𝓤 (ensured 𝓤 H A scan.ended (scan.clauses 𝓤 H A mem run) (ν ∷ [], (κ₁, tt)) (s δ, (area, (w, tt))) tt r) (fact 𝓤 (r ≡ found))
+    said-scan : (ν : ℕ) (δ : GName) (r : Findings) → ent 𝓤 (ensured 𝓤 H A scan.ended (scan.clauses 𝓤 H A mem run) (ν ∷ [], (κ₁, tt)) (s δ, (area, (w, tt))) tt r) (fact 𝓤 (r ≡ found))
     said-scan ν δ r = exE 𝓤 _ (λ ws. snd∗ 𝓤 (sem 𝓤 H A (lasts scan.ended (ν ∷ [], (κ₁, tt)) (s δ, (area, (w, tt))) ws)) (fact 𝓤 (r ≡ found)))
 
     -- ---- the call of `serve_take`, to which out is given up
-    abbrev to-hand : Survey → Hand 𝓤 H A mem run .Ghost
+    abbrev to-hand : Findings → Hand 𝓤 H A mem run .Ghost
     to-hand v = (((κ₁, (κ₃, tt)), (q₁, (q₃, tt)), tt, (v, (w, (area, (out, tt)))), (yvals v, (wvals w, (av ∷ [], (ov ∷ [], tt))))), tt)
 
-    asked-hand : (v : Survey) → ent 𝓤 (onEntry 𝓤 H A hand.signature (κ₁, (κ₃, tt)) (q₁, (q₃, tt)) (v, (w, (area, (out, tt)))) (yvals v, (wvals w, (av ∷ [], (ov ∷ [], tt))))) (Hand 𝓤 H A mem run .pre (to-hand v))
+    asked-hand : (v : Findings) → ent 𝓤 (onEntry 𝓤 H A hand.signature (κ₁, (κ₃, tt)) (q₁, (q₃, tt)) (v, (w, (area, (out, tt)))) (yvals v, (wvals w, (av ∷ [], (ov ∷ [], tt))))) (Hand 𝓤 H A mem run .pre (to-hand v))
     asked-hand v = qed W ((‵ (flft κ₁ q₁) ⊛ ‵ (flft κ₃ q₃) ⊛ ‵ ftrue) ∷ ‵ (owns (Y.the-row ∷ Q.the-row ∷ ShrSlice (named 0) κ₁ u8 ∷ MutSlice (named 1) κ₃ u8 ∷ []) (v, (w, (area, (out, tt)))) (yvals v, (wvals w, (av ∷ [], (ov ∷ [], tt))))) ∷ []) ∵ join ! $ frame ! $ done !
 
-    ready-hand : (v : Survey) → Is Q.the-row w (wvals w) → Is Y.the-row v (yvals v) → ent 𝓤 (sep 𝓤 (sep 𝓤 (A .lft κ₁ q₁) (emp 𝓤)) (sep 𝓤 (sem 𝓤 H A Area) (sep 𝓤 (sep 𝓤 (A .lft κ₃ q₃) (emp 𝓤)) (sem 𝓤 H A Out)))) (sep 𝓤 (Hand 𝓤 H A mem run .pre (to-hand v)) (sem 𝓤 H A Area))
+    ready-hand : (v : Findings) → Is Q.the-row w (wvals w) → Is Y.the-row v (yvals v) → ent 𝓤 (sep 𝓤 (sep 𝓤 (A .lft κ₁ q₁) (emp 𝓤)) (sep 𝓤 (sem 𝓤 H A Area) (sep 𝓤 (sep 𝓤 (A .lft κ₃ q₃) (emp 𝓤)) (sem 𝓤 H A Out)))) (sep 𝓤 (Hand 𝓤 H A mem run .pre (to-hand v)) (sem 𝓤 H A Area))
     ready-hand v is-w is =
         qed W ((‵ (flft κ₁ q₁) ⊛ ‵ ftrue) ∷ ‵ Area ∷ (‵ (flft κ₃ q₃) ⊛ ‵ ftrue) ∷ ‵ Out ∷ []) ∵ split ! $ move ! (1 ∷ []) $ drop ! $
         -- [area's token; area; out's token; out]
@@ -257,7 +257,7 @@ module _ {M : Type 1} (𝓤 : URA M) (H : Heap 𝓤) (A : Atoms 𝓤) (W : Given
         move ! (0 ∷ 6 ∷ []) $ join ! $ move ! (5 ∷ 0 ∷ []) $ join ! $ move ! (2 ∷ 0 ∷ []) $ join ! $ use1 W (raw (Scan 𝓤 H A mem run .pre (to-scan w ν δ)) ⊛ ‵ Area) (ready-scan w ν δ (spelt-w w _ is-w)) $ split ! $
         -- [what `look_over` asks; area; what is kept of the slots; des's token and true; des; out's; out; _14; …]
         calls-at ! fm (Scan 𝓤 H A mem run) known-scan (to-scan w ν δ) (and-then ! (load ! (from ! (stop !)) (look ! 17 refl)) (and-then ! (load ! (from ! (stop !)) (look ! 31 refl)) (and-then ! (load ! (from ! (stop !)) (look ! 25 refl)) (no-more !)))) (λ w₂.
-        use1 W (later (some (λ (v : Survey). ((‵ (flft (ν ∷ []) fullShare) ⊛ ‵ (flft κ₁ q₁) ⊛ ‵ ftrue) ⊛ ‵ (Y.the-row .own v (w₂ ∷ []))) ⊛ raw (ensured 𝓤 H A scan.ended (scan.clauses 𝓤 H A mem run) (ν ∷ [], (κ₁, tt)) (s δ, (area, (w, tt))) tt v)))) (id⊢ 𝓤 _) $ await ! tt $ pick ! (λ v.
+        use1 W (later (some (λ (v : Findings). ((‵ (flft (ν ∷ []) fullShare) ⊛ ‵ (flft κ₁ q₁) ⊛ ‵ ftrue) ⊛ ‵ (Y.the-row .own v (w₂ ∷ []))) ⊛ raw (ensured 𝓤 H A scan.ended (scan.clauses 𝓤 H A mem run) (ν ∷ [], (κ₁, tt)) (s δ, (area, (w, tt))) tt v)))) (id⊢ 𝓤 _) $ await ! tt $ pick ! (λ v.
         split ! $ move ! (1 ∷ []) $ use1 W (raw (fact 𝓤 (v ≡ found w))) (said-scan w ν δ v) $ heard ! (v ≡ found w) (λ e. split ! $ move ! (1 ∷ []) $
         peeks ! Y.the-row (Is Y.the-row) (shows 𝓤 H A Y.the-row) v (w₂ ∷ []) (λ is-v.
         land ! (from ! (stop !)) (init ! 24 refl (LL.lawful Y.the-type Y′.the-laws 𝓤 H A W .typed v _ is-v .0)) $ rewrite ! 24 (λ (u : Val). ‵ (fat fullShare Y′.mir l₆ 0 u)) (ap only (LL.tells Y.the-type Y′.the-laws v _ is-v)) refl $ drop ! $

@@ -10,11 +10,11 @@ use Rattle.text.specs.Equal.{sameBytes}
 use Rattle.text.specs.declared.Seen.the-variants.{Fine}
 use Rattle.command.specs.Text.{checkCommand}
 use Rattle.join.specs.Join.{Joined, Joins, Refuses, join}
-use Rattle.board.specs.Board.{isDesignator, Move, Stay, Put, Free, inTurn, placing, handing}
+use Rattle.board.specs.Board.{isDesignator, Move, Stay, Put, Free, pastRefusals, placing, handing}
 use Rattle.board.specs.Lent.{noSlot}
 use Rattle.board.specs.declared.Slot.{Slot}
 use Rattle.board.specs.declared.Wanted.{Wanted}
-use Rattle.board.specs.declared.Survey.{Survey}
+use Rattle.board.specs.declared.Findings.{Findings}
 use Rattle.board.specs.declared.Done.{Done}
 
 -- the aircraft that a call is about
@@ -35,15 +35,15 @@ noneFor d [] = true
 noneFor d (x ∷ xs) = not (usedFor d x) && noneFor d xs
 
 -- no slot before a used one is for its aircraft; not looked at where the board is not valid anyway
-unfoldable pub aloneIn : Survey → Slot → List Slot → Bool
+unfoldable pub aloneIn : Findings → Slot → List Slot → Bool
 aloneIn a x before = cond (a .valid && isUsed x) (noneFor (x .designator) before) true
 
--- whether a slot tells anything: a free one behind a free one does not
-abbrev pub tellsOf : Survey → Slot → ℕ → Bool
-tellsOf a x i = isUsed x || leb i (a .free)
+-- whether a slot has to be looked at: a free one behind a free one tells nothing new
+abbrev pub isLookedAt : Findings → Slot → ℕ → Bool
+isLookedAt a x i = isUsed x || leb i (a .free)
 
 -- before which slot that is looked at
-unfoldable pub untilAt : Survey → Slot → ℕ → ℕ → ℕ
+unfoldable pub untilAt : Findings → Slot → ℕ → ℕ → ℕ
 untilAt a x i n = cond (a .valid && isUsed x) (cond (ltb i n) i n) 0
 
 -- designator and text of the used slot i
@@ -59,15 +59,15 @@ soundAt x area i =
 abbrev pub firstOf : ℕ → ℕ → ℕ
 firstOf found i = cond (ltb found i) found i
 
-unfoldable pub startOf : ℕ → ℕ → Survey
+unfoldable pub startOf : ℕ → ℕ → Findings
 startOf n bytes =
     record { valid = leb n 64 && eqb bytes (835 * n); length = 0; own = n; free = n; count = n }
 
 -- a free slot, and a used one
-abbrev pub withFree : Survey → ℕ → Survey
+abbrev pub withFree : Findings → ℕ → Findings
 withFree a i = record { valid = true; length = a .length; own = a .own; free = firstOf (a .free) i; count = a .count }
 
-abbrev pub withUsed : Survey → Slot → Bool → ℕ → List ℕ → Survey
+abbrev pub withUsed : Findings → Slot → Bool → ℕ → List ℕ → Findings
 withUsed a x fine i d =
     cond (ltb (a .own) i)
     (record { valid = fine; length = a .length; own = a .own; free = a .free; count = a .count })
@@ -75,18 +75,18 @@ withUsed a x fine i d =
     (record { valid = fine; length = x .length; own = i; free = a .free; count = a .count })
     (record { valid = fine; length = a .length; own = a .own; free = a .free; count = a .count }))
 
-unfoldable pub stepOf : List ℕ → Wanted → Survey → Slot → Bool → ℕ → Survey
+unfoldable pub stepOf : List ℕ → Wanted → Findings → Slot → Bool → ℕ → Findings
 stepOf area w a x clear i =
     cond (a .valid)
     (cond (isUsed x) (withUsed a x (clear && soundAt x area i) i (w .designator)) (withFree a i))
     a
 
 -- all slots ys, those from slot i on being left
-unfoldable pub scanFrom : List ℕ → Wanted → List Slot → Survey → ℕ → List Slot → Survey
+unfoldable pub scanFrom : List ℕ → Wanted → List Slot → Findings → ℕ → List Slot → Findings
 scanFrom area w ys a i [] = a
 scanFrom area w ys a i (x ∷ xs) = scanFrom area w ys (stepOf area w a x (aloneIn a x (take i ys)) i) (suc i) xs
 
-abbrev pub scanned : List ℕ → Wanted → List Slot → Survey
+abbrev pub scanned : List ℕ → Wanted → List Slot → Findings
 scanned area w xs = scanFrom area w xs (startOf (length xs) (length area)) 0 xs
 
 -- ---- What is then done, by what was found
@@ -95,36 +95,36 @@ abbrev pub fitsAt : ℕ → ℕ → ℕ → Bool
 fitsAt i n bytes = ltb i 64 && leb n 835 && leb (835 * i + 835) bytes
 
 -- the text that waits
-abbrev pub waitsAt : Survey → List ℕ → List ℕ
+abbrev pub waitsAt : Findings → List ℕ → List ℕ
 waitsAt v area = part (835 * v .own) (v .length) area
 
 abbrev pub joinsTo : Joined → ℕ → List ℕ → Move
 joinsTo (Joins t) i d = Put i d t
 joinsTo (Refuses code place which) i d = Stay 10 0
 
-unfoldable pub ownMove : Survey → Wanted → List ℕ → List ℕ → Move
+unfoldable pub ownMove : Findings → Wanted → List ℕ → List ℕ → Move
 ownMove v w area t =
     cond (fitsAt (v .own) (v .length) (length area)) (joinsTo (join (waitsAt v area) t 835) (v .own) (w .designator)) (Stay 10 0)
 
-unfoldable pub freeMove : Survey → Wanted → List ℕ → List ℕ → Move
+unfoldable pub freeMove : Findings → Wanted → List ℕ → List ℕ → Move
 freeMove v w area t =
     cond (fitsAt (v .free) (length t) (length area)) (Put (v .free) (w .designator) t) (Stay 10 0)
 
-abbrev pub placedMove : Survey → Wanted → List ℕ → List ℕ → Move
+abbrev pub placedMove : Findings → Wanted → List ℕ → List ℕ → Move
 placedMove v w area t =
     placing Stay (ltb (v .own) (v .count)) (ltb (v .free) (v .count)) (ownMove v w area t) (freeMove v w area t)
 
-unfoldable pub addMove : Survey → Wanted → List ℕ → List ℕ → Move
+unfoldable pub addMove : Findings → Wanted → List ℕ → List ℕ → Move
 addMove v w area t =
-    inTurn Stay (v .valid) (w .fine) (checkCommand t) (placedMove v w area t)
+    pastRefusals Stay (v .valid) (w .fine) (checkCommand t) (placedMove v w area t)
 
-abbrev pub handedMove : Survey → List ℕ → ℕ → Move
+abbrev pub handedMove : Findings → List ℕ → ℕ → Move
 handedMove v area room =
     handing Stay (ltb (v .own) (v .count)) (leb (v .length) room)
     (cond (fitsAt (v .own) (v .length) (length area)) (Free (v .own) (waitsAt v area)) (Stay 10 0))
 
-unfoldable pub takeMove : Survey → Wanted → List ℕ → ℕ → Move
-takeMove v w area room = inTurn Stay (v .valid) (w .fine) Fine (handedMove v area room)
+unfoldable pub takeMove : Findings → Wanted → List ℕ → ℕ → Move
+takeMove v w area room = pastRefusals Stay (v .valid) (w .fine) Fine (handedMove v area room)
 
 -- what is answered, and which slot is stored where
 abbrev pub doneOf : ℕ → Wanted → Move → Done

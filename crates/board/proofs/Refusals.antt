@@ -5,18 +5,18 @@ use Prim.Native.Nat.{ℕ}
 use native.Mathlib.Omega.{arith}
 use Rattle.text.specs.declared.Seen.{Seen}
 use Rattle.text.specs.declared.Seen.the-variants.{Fine, Bad}
-use Rattle.board.specs.Board.{inTurn, placing, handing}
+use Rattle.board.specs.Board.{pastRefusals, placing, handing}
 
 module _ {A : Type 0} (P : A → Type 0) (refuse : ℕ → ℕ → A) where
   -- what is so of each refusal that can come, and of what is done where none does, is so of a call
-  pub turn-all : (v n : Bool) (s : Seen) (m : A) → P (refuse 10 0) → P (refuse 4 0)
+  pub refusals-all : (v n : Bool) (s : Seen) (m : A) → P (refuse 10 0) → P (refuse 4 0)
       → ((code place : ℕ) → s ≡ Bad code place → P (refuse code place))
       → (v ≡ true → n ≡ true → s ≡ Fine → P m)
-      → P (inTurn refuse v n s m)
-  turn-all true true Fine m ten four own f = f refl refl refl
-  turn-all true true (Bad code place) m ten four own f = own code place refl
-  turn-all true false s m ten four own f = four
-  turn-all false n s m ten four own f = ten
+      → P (pastRefusals refuse v n s m)
+  refusals-all true true Fine m ten four own f = f refl refl refl
+  refusals-all true true (Bad code place) m ten four own f = own code place refl
+  refusals-all true false s m ten four own f = four
+  refusals-all false n s m ten four own f = ten
 
   -- so of adding
   pub placing-all : (waits free : Bool) (onto into : A) → P (refuse 9 0) → (waits ≡ true → P onto)
@@ -35,12 +35,12 @@ module _ {A : Type 0} (P : A → Type 0) (refuse : ℕ → ℕ → A) where
 
 module _ {A : Type 0} (refuse : ℕ → ℕ → A) where
   -- two calls that find the same, and then do the same, are the same
-  pub turn-same : (v u n k : Bool) (s : Seen) (m o : A) → v ≡ u → n ≡ k → (v ≡ true → n ≡ true → s ≡ Fine → m ≡ o)
-      → inTurn refuse v n s m ≡ inTurn refuse u k s o
-  turn-same true u true k Fine m o e f g = rw (← e, ← f) (g refl refl refl)
-  turn-same true u true k (Bad code place) m o e f g = rw (← e, ← f)
-  turn-same true u false k s m o e f g = rw (← e, ← f)
-  turn-same false u n k s m o e f g = rw (← e)
+  pub refusals-same : (v u n k : Bool) (s : Seen) (m o : A) → v ≡ u → n ≡ k → (v ≡ true → n ≡ true → s ≡ Fine → m ≡ o)
+      → pastRefusals refuse v n s m ≡ pastRefusals refuse u k s o
+  refusals-same true u true k Fine m o e f g = rw (← e, ← f) (g refl refl refl)
+  refusals-same true u true k (Bad code place) m o e f g = rw (← e, ← f)
+  refusals-same true u false k s m o e f g = rw (← e, ← f)
+  refusals-same false u n k s m o e f g = rw (← e)
 
   pub placing-same : (a b c d : Bool) (m n o p : A) → a ≡ b → c ≡ d → (a ≡ true → m ≡ n) → (a ≡ false → c ≡ true → o ≡ p)
       → placing refuse a c m o ≡ placing refuse b d n p
@@ -55,6 +55,6 @@ module _ {A : Type 0} (refuse : ℕ → ℕ → A) where
   handing-same false b c d m n e f g = rw (← e)
 
   -- a board that isn't shaped is refused as one that isn't valid is
-  pub turn-shaped : (a v n : Bool) (s : Seen) (m : A) → cond a (inTurn refuse v n s m) (refuse 10 0) ≡ inTurn refuse (a && v) n s m
-  turn-shaped true v n s m = refl
-  turn-shaped false v n s m = refl
+  pub refusals-shaped : (a v n : Bool) (s : Seen) (m : A) → cond a (pastRefusals refuse v n s m) (refuse 10 0) ≡ pastRefusals refuse (a && v) n s m
+  refusals-shaped true v n s m = refl
+  refusals-shaped false v n s m = refl
