@@ -12,7 +12,8 @@ use Rattle.packed.specs.declared.Figure.the-variants.{Given, Missing}
 use Rattle.packed.specs.declared.Packed.{Packed}
 use Rattle.packed.specs.declared.Packed.the-variants.{Is, Refused}
 use Rattle.observation.specs.Figures.{inRange, ranged, readFigure, Figures, All, Stop, before, readFigures}
-use Rattle.observation.specs.Observation.{airRows, waterRows, firstRows, laterRows, isKind, isQuality, alike, positionFrom, readPosition, airFrom, readAir, waterFrom, readWater, observed, readFields, readFirst, presentFrom, readLater}
+use Rattle.observation.specs.Observation.{isKind, isQuality, alike, positionFrom, readPosition, airFrom, readAir, waterFrom, readWater, observed, readFields, readFirst, presentFrom, readLater}
+use Rattle.observation.specs.Rows.{airRows, waterRows, firstRows, laterRows}
 use Rattle.observation.specs.declared.Row.{Row}
 use Rattle.observation.specs.declared.Air.{Air}
 use Rattle.observation.specs.declared.AirRead.{AirRead}

@@ -13,7 +13,7 @@ use Rattle.packed.specs.declared.Figure.{Figure}
 use Rattle.packed.specs.declared.Figure.the-variants.{Missing}
 use Rattle.packed.proofs.RoundTrip.{field-length}
 use Rattle.observation.specs.Figures.{figuresText}
-use Rattle.observation.specs.Steps.{fittingAll}
+use Rattle.observation.specs.Inner.{fittingAll}
 use Rattle.observation.specs.declared.Row.{Row}
 use Rattle.observation.proofs.Figures.{total}
 use Rattle.observation.proofs.Rows.{first-fits, others-fit}

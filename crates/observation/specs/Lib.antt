@@ -1,3 +1,5 @@
 pub mod Figures
+pub mod Inner
 pub mod Observation
-pub mod Steps
+pub mod Record
+pub mod Rows

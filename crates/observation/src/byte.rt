@@ -10,14 +10,20 @@ ghost use Rattle.observation.specs.Observation.{isKind, isQuality, alike
 pub fn is_kind(b: u8) -> bool
     ensures { λ r. ⌜ r ≡ isKind b ⌝ }
 {
-    (b == b'A') | (b == b'D') | (b == b'R') | (b == b'W') | (b == b'U') | (b == b'E')
+    match b {
+        b'A' | b'D' | b'R' | b'W' | b'U' | b'E' => true,
+        _ => false,
+    }
 }
 
 // Quality, `0`-`9` or `/`.
 pub fn is_quality(b: u8) -> bool
     ensures { λ r. ⌜ r ≡ isQuality b ⌝ }
 {
-    (b'0' <= b) & (b <= b'9') | (b == b'/')
+    match b {
+        b'0'..=b'9' | b'/' => true,
+        _ => false,
+    }
 }
 
 // An absent observation is wholly solidi. Gathered: an empty line of a report is tested so.

@@ -24,14 +24,7 @@ ghost use mathlib.Core.Path.{_≡_};
 ghost use mathlib.Core.List.{[], _∷_};
 ghost use Prim.Native.Nat.{_+_, _≤_};
 ghost use Rattle.observation.specs.Figures.{checkFigures};
-ghost use Rattle.observation.specs.Observation.{
-  positionFigures,
-  checkAir,
-  checkWater,
-  checkFields,
-  checkFirst,
-  checkLater,
-};
+ghost use Rattle.observation.specs.Record.{positionFigures, checkAir, checkWater, checkFields, checkFirst, checkLater};
 
 fn check_position(p: Position, at: usize, a: Row, b: Row, c: Row) -> Seen
     requires { ⌜ (at ≤ 8192) × (a .width ≤ 5) × (b .width ≤ 5) ⌝ }

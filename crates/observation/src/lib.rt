@@ -1,10 +1,11 @@
 // One observation of a report: the first, with an absolute position and time, or a later one, with changes.
 mod byte;
 pub mod check;
-pub mod fine;
-pub mod quick;
-pub mod read;
+mod gather;
+pub mod part;
+mod read;
 mod table;
+pub mod take;
 pub mod write;
 
 use packed::Figure;
@@ -58,6 +59,13 @@ pub enum FirstRead {
 // What reading a later observation gives.
 pub enum LaterRead {
     Is(Later),
+    Not(u8, usize),
+}
+
+// What a later observation's part is found to be: an observation, an absent one, or refused with code and place.
+pub enum Found {
+    Present,
+    Absent,
     Not(u8, usize),
 }
 

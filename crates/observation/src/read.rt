@@ -1,27 +1,19 @@
-// Reading an observation: its bytes s, which begin at the place `at` of a report.
+// An observation read field by field, for the code and place of what is wrong: its bytes s, which begin at the place `at`
+// of a report.
 use crate::Air;
 use crate::AirRead;
 use crate::FirstRead;
-use crate::Later;
-use crate::LaterRead;
 use crate::Observation;
 use crate::Position;
 use crate::PositionRead;
 use crate::Row;
 use crate::Water;
 use crate::WaterRead;
-use crate::byte::all_solidi;
 use crate::byte::are_alike;
 use crate::byte::in_range;
-use crate::byte::is_kind;
 use crate::byte::is_quality;
 use crate::table::ALTITUDE;
-use crate::table::CHANGE;
 use crate::table::DIRECTION;
-use crate::table::LATITUDE;
-use crate::table::LONGITUDE;
-use crate::table::SECONDS;
-use crate::table::SINCE;
 use crate::table::SPEED;
 use crate::table::TEMPERATURE;
 use crate::table::VAPOUR;
@@ -35,15 +27,7 @@ ghost use lib.ListN.{length, drop};
 ghost use Rattle.text.specs.Parts.{part};
 ghost use Rattle.packed.specs.Packed.{worths};
 ghost use Rattle.observation.specs.Figures.{All, readFigure};
-ghost use Rattle.observation.specs.Observation.{
-  airFrom,
-  readPosition,
-  readAir,
-  readWater,
-  readFields,
-  readFirst,
-  readLater,
-};
+ghost use Rattle.observation.specs.Observation.{airFrom, readPosition, readAir, readWater, readFields};
 
 // One figure, s being its field: a packed field in its row's range.
 fn figure(t: &[u8; 256], s: &[u8], row: Row, at: usize) -> Packed
@@ -66,7 +50,7 @@ fn figure(t: &[u8; 256], s: &[u8], row: Row, at: usize) -> Packed
 }
 
 // The figure that begins `from` bytes into the observation.
-pub fn field(t: &[u8; 256], s: &[u8], at: usize, from: usize, row: Row) -> Packed
+fn field(t: &[u8; 256], s: &[u8], at: usize, from: usize, row: Row) -> Packed
     requires { ⌜ now t ≡ worths ⌝ }
     requires { ⌜ (at ≤ 4096) × (length (now s) ≤ 27) × (from + row .width ≤ length (now s)) ⌝ }
     ensures { λ r. ⌜ r ≡ readFigure row (at + from) (part from (row .width) (now (s .entry))) ⌝ }
@@ -198,7 +182,7 @@ fn water(t: &[u8; 256], s: &[u8], at: usize, from: usize) -> WaterRead
 }
 
 // The fields behind P of an observation whose position takes n bytes.
-fn fields(t: &[u8; 256], s: &[u8], at: usize, n: usize, a: Row, b: Row, c: Row) -> FirstRead
+pub fn fields(t: &[u8; 256], s: &[u8], at: usize, n: usize, a: Row, b: Row, c: Row) -> FirstRead
     requires { ⌜ now t ≡ worths ⌝ }
     requires { ⌜ (at ≤ 4096) × (n ≤ 11) × (length (now s) ≡ 16 + n) × (1 + a .width + b .width + c .width ≤ length (now s)) ⌝ }
     ensures { λ r. ⌜ r ≡ readFields (a ∷ b ∷ c ∷ []) n at (now (s .entry)) ⌝ }
@@ -228,41 +212,4 @@ fn fields(t: &[u8; 256], s: &[u8], at: usize, n: usize, a: Row, b: Row, c: Row) 
         air,
         water,
     })
-}
-
-// The first observation, 27 bytes.
-pub fn first(t: &[u8; 256], s: &[u8], at: usize) -> FirstRead
-    requires { ⌜ now t ≡ worths ⌝ }
-    requires { ⌜ (length (now s) ≡ 27) × (at ≤ 4096) ⌝ }
-    ensures { λ r. ⌜ r ≡ readFirst at (now (s .entry)) ⌝ }
-{
-    if !is_kind(s[0]) {
-        return FirstRead::Not(4, at);
-    }
-    fields(t, s, at, 11, LATITUDE, LONGITUDE, SECONDS)
-}
-
-// A later observation, 23 bytes; `ended` where an absent one came before, after which no present one follows.
-pub fn later(t: &[u8; 256], s: &[u8], ended: bool, at: usize) -> LaterRead
-    requires { ⌜ now t ≡ worths ⌝ }
-    requires { ⌜ (length (now s) ≡ 23) × (at ≤ 4096) ⌝ }
-    ensures { λ r. ⌜ r ≡ readLater ended at (now (s .entry)) ⌝ }
-{
-    let kind = s[0];
-    if kind == b'/' {
-        if all_solidi(s) {
-            return LaterRead::Is(Later::Absent);
-        }
-        return LaterRead::Not(7, at);
-    }
-    if !is_kind(kind) {
-        return LaterRead::Not(4, at);
-    }
-    if ended {
-        return LaterRead::Not(7, at);
-    }
-    match fields(t, s, at, 7, CHANGE, CHANGE, SINCE) {
-        FirstRead::Is(o) => LaterRead::Is(Later::Present(o)),
-        FirstRead::Not(code, place) => LaterRead::Not(code, place),
-    }
 }

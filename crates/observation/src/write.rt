@@ -21,20 +21,9 @@ ghost use Rattle.text.specs.Over.{over};
 ghost use Rattle.text.specs.declared.Seen.the-variants.{Fine};
 ghost use Rattle.packed.specs.Packed.{digits, fieldOf, fitting};
 ghost use Rattle.observation.specs.Figures.{figuresText};
-ghost use Rattle.observation.specs.Observation.{
-  firstRows,
-  airRows,
-  waterRows,
-  positionFigures,
-  airFigures,
-  waterFigures,
-  checkFirst,
-  checkLater,
-  observationText,
-  firstText,
-  laterText,
-};
-ghost use Rattle.observation.specs.Steps.{fittingAll, Fitting};
+ghost use Rattle.observation.specs.Rows.{airRows, waterRows};
+ghost use Rattle.observation.specs.Record.{positionFigures, airFigures, waterFigures, checkFirst, checkLater, observationText, firstText, laterText};
+ghost use Rattle.observation.specs.Inner.{fittingAll, Fitting};
 
 // One figure, into the part that begins `from` bytes into the observation.
 fn put_field(t: &[u8; 40], figure: Figure, width: usize, from: usize, d: &mut [u8])
@@ -115,22 +104,6 @@ fn put_observation(t: &[u8; 40], o: Observation, n: usize, a: Row, b: Row, c: Ro
     put_water(t, water, third, d);
 }
 
-// The first observation, into all of d: with one caller each, this and the later one's are laid out there, by their widths.
-fn put_opening(t: &[u8; 40], o: Observation, d: &mut [u8])
-    requires { ⌜ now t ≡ digits ⌝ }
-    requires { ⌜ (length (now d) ≡ 27) × Fitting firstRows o ⌝ }
-    ensures { λ _. ⌜ now (d .exit) ≡ observationText firstRows o ⌝ }
-{
-    let kind = o.kind;
-    let position = o.position;
-    let air = o.air;
-    let water = o.water;
-    d[0] = kind;
-    put_position(t, position, LATITUDE, LONGITUDE, SECONDS, d);
-    put_air(t, air, 12, d);
-    put_water(t, water, 21, d);
-}
-
 // An absent observation.
 fn fill(d: &mut [u8])
     ensures { λ _. ⌜ now (d .exit) ≡ replicate (length (now (d .entry))) 47 ⌝ }
@@ -148,7 +121,7 @@ pub fn write_first(t: &[u8; 40], o: Observation, d: &mut [u8])
     requires { ⌜ (length (now d) ≡ 27) × (checkFirst 0 o ≡ Fine) ⌝ }
     ensures { λ _. ⌜ now (d .exit) ≡ firstText o ⌝ }
 {
-    put_opening(t, o, d);
+    put_observation(t, o, 11, LATITUDE, LONGITUDE, SECONDS, d);
 }
 
 // A later observation, 23 bytes.

@@ -1,5 +1,7 @@
 -- The laws of the packed field.
+pub mod Decoding
 pub mod Digits
+mod Fewest
 pub mod Put
 pub mod Refusal
 pub mod RoundTrip

@@ -15,7 +15,7 @@ use borrow.Author.Tests.{ltb-true, eqb-true, le-leb}
 use lib.Dec.{eqb}
 use Rattle.text.proofs.Cases.{by-test, both-left, both-right}
 use Rattle.packed.specs.Packed.{trim, allSolidi, allDigits, worthOf, number, readPacked, spelt, halfOf}
-use Rattle.packed.specs.Steps.{numberOf, otherField}
+use Rattle.packed.specs.Inner.{numberOf, otherField}
 use Rattle.packed.specs.declared.read.Number.the-variants.{Whole, Other}
 
 pub next : (l : List ℕ) (i : ℕ) → i < length l → drop i l ≡ getD l i 0 ∷ drop (i + 1) l

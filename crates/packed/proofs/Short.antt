@@ -11,7 +11,7 @@ use lib.ListN.{length, set}
 use borrow.Author.Tests.{lt-ltb, le-ltb}
 use Rattle.text.proofs.Cases.{by-lt}
 use Rattle.packed.specs.Packed.{digitOf, halfOf, fewest, above, spell, spelling}
-use Rattle.packed.specs.Steps.{lastDigit}
+use Rattle.packed.specs.Inner.{lastDigit}
 use Rattle.packed.proofs.Signs.{above-lt}
 
 -- ---- bytes set one after the other

@@ -1,3 +1,4 @@
+pub mod Decoding
+pub mod Inner
 pub mod Packed
-pub mod Steps
 pub mod Words

@@ -9,7 +9,7 @@ ghost use mathlib.Core.Path.{_≡_};
 ghost use Prim.Native.Nat.{_≤_, _<_, _^_};
 ghost use lib.ListN.{length, drop};
 ghost use Rattle.packed.specs.Packed.{worths, readPacked, spelt, trim, allSolidi, halfOf};
-ghost use Rattle.packed.specs.Steps.{numberOf, otherField};
+ghost use Rattle.packed.specs.Inner.{numberOf, otherField};
 
 // A run of digits as the number that it spells, or that it is no such run.
 enum Number {

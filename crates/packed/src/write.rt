@@ -23,7 +23,7 @@ ghost use Rattle.packed.specs.Packed.{
   writeCode,
   written,
 };
-ghost use Rattle.packed.specs.Steps.{lastDigit};
+ghost use Rattle.packed.specs.Inner.{lastDigit};
 
 // The fewest digits, w at the most, that hold a figure of size m.
 fn fewest_of(w: usize, m: u32) -> usize

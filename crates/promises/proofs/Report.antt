@@ -14,7 +14,8 @@ use Rattle.text.specs.Checks.{must, _andThen_}
 use Rattle.text.specs.declared.Seen.{Seen}
 use Rattle.text.specs.declared.Seen.the-variants.{Fine, Bad}
 use Rattle.text.proofs.Checks.{must-held, both-fine}
-use Rattle.report.specs.Report.{checkText, got, readReport, reportOf, reportText, leftBy}
+use Rattle.report.specs.Report.{checkText, got, readReport, reportOf}
+use Rattle.report.specs.Record.{reportText, leftBy}
 use Rattle.report.proofs.RoundTrip.{report-sized, report-seven}
 use Rattle.caller.specs.Records.{noHost, hostObservation, hostSeat, hostReport, recordOf}
 use Rattle.caller.specs.Forms.{checkHost, hostSeen}

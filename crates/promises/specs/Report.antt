@@ -4,7 +4,8 @@ use mathlib.Core.Logic.{_↔_}
 use mathlib.Core.List.{List, [], _++_}
 use Prim.Native.Nat.{ℕ, _≤_}
 use lib.ListN.{length, take, drop, replicate}
-use Rattle.report.specs.Report.{checkText, readReport, reportText, leftBy}
+use Rattle.report.specs.Report.{checkText, readReport}
+use Rattle.report.specs.Record.{reportText, leftBy}
 use Rattle.caller.specs.Records.{noHost, recordOf}
 use Rattle.caller.specs.Forms.{hostSeen}
 use Rattle.caller.specs.Allowed.{Allowed, Held}

@@ -5,7 +5,7 @@ use Rattle.observation.proofs.check.check_air.Tie as tie
 use mathlib.Core.Path.{sym, _∙_}
 use borrow.Author.Tests.{not-true, not-false}
 use Rattle.observation.specs.Figures.{checkFigures}
-use Rattle.observation.specs.Observation.{checkAir}
+use Rattle.observation.specs.Record.{checkAir}
 
 add-second : tie.Need-add-second
 add-second c = search needs

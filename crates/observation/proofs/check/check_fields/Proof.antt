@@ -3,7 +3,7 @@ use borrow.Author.Needs.{needs}
 use Rattle.observation.proofs.check.check_fields.Statement.{statement}
 use Rattle.observation.proofs.check.check_fields.Tie as tie
 use mathlib.Core.Path.{sym, _∙_}
-use Rattle.observation.specs.Observation.{checkFields}
+use Rattle.observation.specs.Record.{checkFields}
 
 add-check-position : tie.Need-add-check-position
 add-check-position c = search needs

@@ -4,7 +4,7 @@ use Rattle.observation.proofs.check.check_first.Statement.{statement}
 use Rattle.observation.proofs.check.check_first.Tie as tie
 use mathlib.Core.Path.{sym, _∙_}
 use borrow.Author.Tests.{not-true, not-false}
-use Rattle.observation.specs.Observation.{checkFirst}
+use Rattle.observation.specs.Record.{checkFirst}
 
 is-kind-requires : tie.Need-is-kind-requires
 is-kind-requires c κs = search needs

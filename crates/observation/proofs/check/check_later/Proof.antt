@@ -4,7 +4,7 @@ use Rattle.observation.proofs.check.check_later.Statement.{statement}
 use Rattle.observation.proofs.check.check_later.Tie as tie
 use mathlib.Core.Path.{sym, _∙_}
 use borrow.Author.Tests.{not-true, not-false}
-use Rattle.observation.specs.Observation.{checkLater}
+use Rattle.observation.specs.Record.{checkLater}
 
 enum-told : tie.Need-enum-told
 enum-told c = search needs

@@ -5,7 +5,7 @@ use Rattle.observation.proofs.check.check_water.Tie as tie
 use mathlib.Core.Path.{sym, _∙_}
 use borrow.Author.Tests.{not-true, not-false}
 use Rattle.observation.specs.Figures.{checkFigures}
-use Rattle.observation.specs.Observation.{checkWater}
+use Rattle.observation.specs.Record.{checkWater}
 
 allowed-requires : tie.Need-allowed-requires
 allowed-requires c κs = search needs

@@ -8,8 +8,8 @@ use denote.Ref.{now}
 use Rattle.text.specs.Parts.{part}
 use Rattle.packed.specs.declared.Packed.the-variants.{Is}
 use Rattle.observation.specs.Figures.{readFigure}
-use Rattle.observation.specs.Observation.{altitudeRow, temperatureRow, directionRow, speedRow}
-use Rattle.observation.proofs.Steps.{air-from}
+use Rattle.observation.specs.Rows.{altitudeRow, temperatureRow, directionRow, speedRow}
+use Rattle.observation.proofs.Offsets.{air-from}
 
 -- each figure as it was read
 altitude : (c : tie.After-x) → let a = c .before .before .before .before .args in readFigure altitudeRow (a .at + a .from) (part (a .from) 3 (now (a .s))) ≡ Is (c .x .given .0 .0)

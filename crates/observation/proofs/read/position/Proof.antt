@@ -9,7 +9,7 @@ use Rattle.text.specs.Parts.{part}
 use Rattle.packed.specs.declared.Packed.the-variants.{Is}
 use mathlib.Core.List.{[], _∷_}
 use Rattle.observation.specs.Figures.{readFigure}
-use Rattle.observation.proofs.Steps.{position-from}
+use Rattle.observation.proofs.Offsets.{position-from}
 
 -- each figure as it was read
 latitude : (c : tie.After-x) → let a = c .before .before .before .before .before .before .args in readFigure (a .a) (a .at + 1) (part 1 (a .a .width) (now (a .s))) ≡ Is (c .x .given .0 .0)

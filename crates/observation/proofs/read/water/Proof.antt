@@ -9,8 +9,8 @@ use Rattle.text.specs.Parts.{part}
 use Rattle.packed.specs.declared.Packed.the-variants.{Is}
 use native.Mathlib.Nat.{add-assoc}
 use Rattle.observation.specs.Figures.{readFigure}
-use Rattle.observation.specs.Observation.{speedRow, vapourRow}
-use Rattle.observation.proofs.Steps.{water-from}
+use Rattle.observation.specs.Rows.{speedRow, vapourRow}
+use Rattle.observation.proofs.Offsets.{water-from}
 
 -- each figure as it was read
 gust : (c : tie.After-x) → let a = c .before .before .before .before .args in readFigure speedRow (a .at + a .from) (part (a .from) 2 (now (a .s))) ≡ Is (c .x .given .0 .0)

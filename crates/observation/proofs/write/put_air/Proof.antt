@@ -6,7 +6,8 @@ use native.Mathlib.Omega.{arith}
 use lib.Dec.{lit<}
 use denote.Ref.{now}
 use Rattle.observation.proofs.Text.{written-text, fits-at}
-use Rattle.observation.specs.Observation.{airRows, airFigures}
+use Rattle.observation.specs.Rows.{airRows}
+use Rattle.observation.specs.Record.{airFigures}
 use Rattle.observation.proofs.Figures.{total}
 
 add-second : tie.Need-add-second

@@ -9,7 +9,8 @@ use mathlib.Core.List.{[], _∷_, _++_}
 use denote.Ref.{now}
 use lib.ListN.{length, length-set, length-append}
 use Rattle.observation.specs.Figures.{figuresText}
-use Rattle.observation.specs.Observation.{airRows, waterRows, positionFigures, airFigures, waterFigures, observationText}
+use Rattle.observation.specs.Rows.{airRows, waterRows}
+use Rattle.observation.specs.Record.{positionFigures, airFigures, waterFigures, observationText}
 use Rattle.observation.proofs.Text.{whole-text}
 use Rattle.observation.proofs.RoundTrip.{figures-length}
 use Rattle.observation.proofs.Figures.{total}

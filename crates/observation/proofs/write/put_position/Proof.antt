@@ -7,7 +7,7 @@ use lib.Dec.{lit<}
 use denote.Ref.{now}
 use mathlib.Core.List.{[], _∷_}
 use Rattle.observation.proofs.Text.{written-text, fits-at}
-use Rattle.observation.specs.Observation.{positionFigures}
+use Rattle.observation.specs.Record.{positionFigures}
 use Rattle.observation.proofs.Figures.{total}
 
 put-field-requires : tie.Need-put-field-requires

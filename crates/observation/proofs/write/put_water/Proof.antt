@@ -7,7 +7,8 @@ use mathlib.Core.Path.{_≡_, refl, ap, _∙_}
 use lib.Dec.{lit<}
 use denote.Ref.{now}
 use Rattle.observation.proofs.Text.{written-text, fits-at, then-byte}
-use Rattle.observation.specs.Observation.{waterRows, waterFigures}
+use Rattle.observation.specs.Rows.{waterRows}
+use Rattle.observation.specs.Record.{waterFigures}
 use Prim.Native.Nat.{ℕ, _+_}
 use mathlib.Core.List.{List}
 use lib.ListN.{length, set, length-set}

@@ -5,7 +5,8 @@ use Rattle.observation.proofs.write.write_later.Tie as tie
 use mathlib.Core.Path.{ap, _∙_}
 use Prim.Native.Nat.{ℕ}
 use lib.ListN.{replicate}
-use Rattle.observation.specs.Observation.{laterRows, laterText}
+use Rattle.observation.specs.Rows.{laterRows}
+use Rattle.observation.specs.Record.{laterText}
 use Rattle.observation.proofs.RoundTrip.{later-sound}
 use Rattle.observation.proofs.Checked.{present-allowed, allowed-fitting}
 use mathlib.Core.Bool.{false}

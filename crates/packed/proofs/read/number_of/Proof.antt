@@ -4,7 +4,7 @@ use borrow.Author.Needs.{needs}
 use native.Mathlib.Omega.{arith}
 use Rattle.packed.proofs.Scan.{digits-step, digits-stop, digits-end, number-step, number-end}
 use Rattle.packed.specs.Packed.{allDigits, number, worthOf}
-use Rattle.packed.specs.Steps.{numberOf}
+use Rattle.packed.specs.Inner.{numberOf}
 use Prim.Native.Nat.{_≤_, _<_, _-_, _^_, _+_, _*_}
 use lib.ListN.{length, drop}
 use mathlib.Core.Path.{_≡_, refl, sym, _∙_, ap}

@@ -1,7 +1,7 @@
 use borrow.Author.Needs.{needs}
 use Rattle.packed.proofs.read.other.Statement.{statement}
 use Rattle.packed.proofs.read.other.Tie as tie
-use Rattle.packed.specs.Steps.{otherField}
+use Rattle.packed.specs.Inner.{otherField}
 use mathlib.Core.Path.{sym, _∙_}
 
 all-solidi-requires : tie.Need-all-solidi-requires

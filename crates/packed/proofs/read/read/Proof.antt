@@ -11,7 +11,7 @@ use Prim.Native.Nat.{_+_, _-_, _≤_, _<_, _^_}
 use native.Mathlib.Nat.{pow-le-pow-right}
 use lib.Dec.{lit<}
 use Rattle.packed.specs.Packed.{trim}
-use Rattle.packed.specs.Steps.{numberOf}
+use Rattle.packed.specs.Inner.{numberOf}
 use Rattle.packed.specs.declared.read.Number.the-variants.{Whole, Other}
 
 -- what stands behind the spaces is the field trimmed

@@ -4,7 +4,7 @@ use Rattle.packed.proofs.write.last_digit.Statement.{statement}
 use Rattle.packed.proofs.write.last_digit.Tie as tie
 use native.Mathlib.Omega.{arith}
 use mathlib.Core.Path.{_∙_}
-use Rattle.packed.specs.Steps.{lastDigit}
+use Rattle.packed.specs.Inner.{lastDigit}
 use Rattle.packed.proofs.Short.{shift-le}
 
 shift-requires : tie.Need-shift-requires
