@@ -7,7 +7,7 @@ use native.Mathlib.Omega.{arith}
 use lib.ListN.{length}
 use Rattle.text.specs.Checks.{isFine}
 use Rattle.text.proofs.Cases.{by-test, both-left, both-right}
-use Rattle.section.specs.declared.Settings.{Settings}
+use Rattle.settings.specs.declared.Settings.{Settings}
 use Rattle.command.specs.Text.{checkCommand, longest}
 use Rattle.command.proofs.Accepted.{accepted, longest-is}
 use Rattle.config.specs.Config.{applyTo}

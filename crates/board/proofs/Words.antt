@@ -11,7 +11,7 @@ use Rattle.text.specs.Checks.{isFine}
 use Rattle.text.specs.declared.Seen.{Seen}
 use Rattle.text.specs.declared.Seen.the-variants.{Fine, Bad}
 use Rattle.text.proofs.Equal.{same-self}
-use Rattle.section.specs.declared.Settings.{Settings}
+use Rattle.settings.specs.declared.Settings.{Settings}
 use Rattle.command.specs.Text.{checkCommand}
 use Rattle.command.proofs.Codes.{check-coded}
 use Rattle.config.specs.Config.{applyTo}

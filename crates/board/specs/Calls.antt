@@ -5,7 +5,7 @@ use mathlib.Core.List.{List, [], _∷_, foldl}
 use Prim.Native.Nat.{ℕ, _≤_}
 use lib.Dec.{eqb}
 use lib.ListN.{length}
-use Rattle.section.specs.declared.Settings.{Settings}
+use Rattle.settings.specs.declared.Settings.{Settings}
 use Rattle.command.specs.Text.{longest}
 use Rattle.board.specs.Board.{WaitingSlot, waiting, Move, replyOf}
 use Rattle.board.specs.History.{Event, Add, Take, Entry, since, joined, calledFor, act}

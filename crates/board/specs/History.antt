@@ -8,7 +8,7 @@ use lib.ListN.{length}
 use Rattle.text.specs.Checks.{isFine}
 use Rattle.text.specs.Equal.{sameBytes}
 use Rattle.text.specs.declared.Seen.the-variants.{Fine}
-use Rattle.section.specs.declared.Settings.{Settings}
+use Rattle.settings.specs.declared.Settings.{Settings}
 use Rattle.command.specs.Text.{checkCommand, longest}
 use Rattle.config.specs.Config.{applyTo}
 use Rattle.join.specs.Join.{joinText}

@@ -3,14 +3,15 @@ use crate::Findings;
 use crate::Slot;
 use crate::Wanted;
 use command::check::check;
-use config::settings::is_fine;
 use field::record::middle;
+use text::Seen;
 use text::all_allowed;
 ghost use mathlib.Core.Path.{_≡_};
 ghost use mathlib.Core.Bool.{not, _&&_};
 ghost use Prim.Native.Nat.{_<_};
 ghost use mathlib.Core.List.{[]};
 ghost use lib.ListN.{length};
+ghost use Rattle.text.specs.Checks.{isFine};
 ghost use Rattle.text.specs.Equal.{sameBytes};
 ghost use Rattle.board.specs.Inner.{wantedBy, usedFor, soundAt, isLookedAt, untilAt, startOf, firstOf, withUsed, stepOf};
 
@@ -95,6 +96,15 @@ pub fn until(a: Findings, s: Slot, i: usize, n: usize) -> usize
         return i;
     }
     n
+}
+
+fn is_fine(seen: Seen) -> bool
+    ensures { λ r. ⌜ r ≡ isFine seen ⌝ }
+{
+    match seen {
+        Seen::Fine => true,
+        Seen::Bad(_, _) => false,
+    }
 }
 
 // Whether a used slot's designator is well formed and its text accepted.

@@ -8,7 +8,7 @@ use crate::hand::refused;
 use command::check::check;
 use field::record::middle;
 use join::Told;
-use join::join_accepted_second;
+use join::join_texts;
 use text::Seen;
 use text::copy;
 ghost use mathlib.Core.Path.{_≡_};
@@ -16,8 +16,6 @@ ghost use Prim.Native.Nat.{_*_, _+_, _≤_, _<_};
 ghost use lib.ListN.{length};
 ghost use Rattle.text.specs.Parts.{part};
 ghost use Rattle.text.specs.Over.{over};
-ghost use Rattle.text.specs.declared.Seen.the-variants.{Fine};
-ghost use Rattle.command.specs.Text.{checkCommand};
 ghost use Rattle.board.specs.Lent.{onArea};
 ghost use Rattle.board.specs.Inner.{doneOf, ownMove, freeMove, addMove};
 
@@ -49,7 +47,6 @@ fn put_at(i: usize, t: &[u8], area: &mut [u8])
 
 // Joins the command onto the text that waits.
 fn join_onto(v: Findings, w: Wanted, area: &mut [u8], t: &[u8]) -> Done
-    requires { ⌜ checkCommand (now t) ≡ Fine ⌝ }
     ensures { λ r. ⌜
         (r ≡ doneOf (v .count) w (ownMove v w (now (area .entry)) (now (t .entry))))
         × (now (area .exit) ≡ onArea (ownMove v w (now (area .entry)) (now (t .entry))) (now (area .entry)))
@@ -63,7 +60,7 @@ fn join_onto(v: Findings, w: Wanted, area: &mut [u8], t: &[u8]) -> Done
     let at = 835 * i;
     let end = at + n;
     let mut joined = [0u8; 835];
-    match join_accepted_second(&area[at..end], t, &mut joined) {
+    match join_texts(&area[at..end], t, &mut joined) {
         Told::Refused(_, _, _) => refused(v, w, 10, 0),
         Told::Text(m) => {
             put_at(i, &joined[..m], area);

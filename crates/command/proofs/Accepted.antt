@@ -17,9 +17,9 @@ use Rattle.field.specs.Fields.{after}
 use Rattle.field.specs.declared.Step.{Step}
 use Rattle.field.specs.declared.Step.the-variants.{Next, Stop}
 use Rattle.field.proofs.Local.{after-cases, part-byte}
-use Rattle.section.specs.Layout.{layoutOf, itemsMost}
-use Rattle.command.specs.Text.{isFlag, isDownlink, isIndicator, numbers, isNamed, checkHead, checkFrom, sectionsMost, longest, ended, checkCommand}
-use Rattle.command.specs.Record.{heldIn}
+use Rattle.section.specs.Layout.{layoutOf, tableOf, itemsMost, numbers}
+use Rattle.command.specs.Text.{isFlag, isDownlink, isIndicator, isNamed, checkHead, checkFrom, sectionsMost, longest, ended, checkCommand}
+use Rattle.command.specs.Sections.{isOneOf, heldIn}
 use Rattle.command.proofs.Each.{Each, Rising}
 use Rattle.command.proofs.Head.{Head, head-next, head-passes, passes, passes-apart, passes-at, part-cons}
 use Rattle.command.proofs.Parts.{present, marks, bodies, textOf, bodyOf, partsOf, flagTests, Sound, holds}
@@ -30,12 +30,12 @@ use Rattle.command.proofs.Walk.{Walked, walked, held-body}
 
 -- 22 bytes and every section at its longest are 835
 pub longest-is : longest ≡ 835
-unfolding longest sectionsMost layoutOf itemsMost
+unfolding longest sectionsMost layoutOf tableOf itemsMost
 longest-is = refl
 
 -- so 22 bytes and the longest sections are
 pub most-is : 22 + sectionsMost numbers ≡ 835
-unfolding sectionsMost layoutOf itemsMost
+unfolding sectionsMost layoutOf tableOf itemsMost
 most-is = refl
 
 -- the 22 bytes, then the named sections up to the end, in at most 835 bytes
@@ -149,5 +149,11 @@ module _ (s : List ℕ) (a : Accepted s) where
   named-present = sections-walked .named
 
   -- what a section holds is what its own bytes hold
-  pub held-own : (k : ℕ) → heldIn s k ≡ holds k (bodyOf s k)
-  held-own k = held-body numbers s 22 (length s) k (a .walk)
+  pub held-own : (k : ℕ) → isOneOf numbers k ≡ true → heldIn s k ≡ holds k (bodyOf s k)
+  held-own k i = held-body s (length s) k i (a .walk)
+
+  pub held-each : Each (λ k. heldIn s k ≡ holds k (bodyOf s k)) numbers
+  held-each = (
+    held-own 2 refl,
+    (held-own 3 refl, (held-own 4 refl, (held-own 5 refl, (held-own 6 refl, (held-own 7 refl, (held-own 8 refl, (held-own 9 refl, tt))))))),
+  )

@@ -28,12 +28,12 @@ use Rattle.lists.specs.Lists.{allZero, airfieldsAllowed, regionZero, regionsZer
 use Rattle.lists.specs.declared.Airfields.{Airfields}
 use Rattle.lists.specs.declared.Boxes.{Boxes}
 use Rattle.lists.proofs.RoundTrip.{airfields-held, airfields-fine, boxes-held, boxes-fine}
-use Rattle.section.specs.Layout.{Item, Number, Mark, AirfieldList, BoxList, layoutOf, isEmpty}
+use Rattle.section.specs.Layout.{Item, Digits, AirfieldList, BoxList, layoutOf, tableOf, isEmpty, numbers}
 use Rattle.section.specs.Contents.{Content, amountOf, namesOf, areasOf, contentText, contentAllowed, contentsAllowed}
-use Rattle.section.specs.Settings.{contentsOf}
-use Rattle.section.specs.declared.Settings.{Settings}
-use Rattle.command.specs.Text.{numbers}
-use Rattle.command.specs.Record.{flagAllowed, flagsAllowed, namedAllowed, marksAllowed, areZero, names, sectionText, sectionsAllowed, commandAllowed}
+use Rattle.settings.specs.Settings.{contentsOf, fixedHold}
+use Rattle.settings.specs.declared.Settings.{Settings}
+use Rattle.command.specs.Record.{flagAllowed, flagsAllowed, namedAllowed, marksAllowed, names, sectionText, sectionsAllowed, commandAllowed}
+use Rattle.settings.specs.Valid.{areZero}
 use Rattle.command.specs.Allowed.{every, nought, allowedEdge, signed, allowedBox, allowedBoxes, allowedAirfields, allowedSection, zeroSection, zeroOrOne, allowedFlag, allowedIndicator, inTurn, allowedCommand}
 use Rattle.command.specs.declared.Command.{Command}
 use Rattle.command.proofs.Each.{Each, each-map}
@@ -178,8 +178,7 @@ boxes-are at l =
 
 -- what an item holds is allowed, wherever it would stand
 abbrev contentIs : Item → Content → Bool
-contentIs (Number w least most) c = between least most (amountOf c)
-contentIs (Mark least most) c = between least most (amountOf c)
+contentIs (Digits r) c = between (r .least) (r .most) (amountOf c)
 contentIs AirfieldList c = allowedAirfields (namesOf c)
 contentIs BoxList c = allowedBoxes (areasOf c)
 
@@ -189,8 +188,7 @@ contentsAre (i ∷ is) [] = true
 contentsAre (i ∷ is) (c ∷ cs) = contentIs i c && contentsAre is cs
 
 content-same : (i : Item) (at : ℕ) (c : Content) → isFine (contentAllowed i at c) ≡ contentIs i c
-content-same (Number w least most) at c = fine-must (between least most (amountOf c)) 5 at
-content-same (Mark least most) at c = fine-must (between least most (amountOf c)) 4 at
+content-same (Digits r) at c = fine-must (between (r .least) (r .most) (amountOf c)) (r .code) at
 content-same AirfieldList at c = airfields-same at (namesOf c)
 content-same BoxList at c = boxes-are at (areasOf c)
 
@@ -204,7 +202,7 @@ contents-same (i ∷ is) at (c ∷ cs) =
 
 -- the layout's limits are document 01's ranges, section by section
 ranges-are : (x : Settings) → Each (λ k. contentsAre (layoutOf k) (contentsOf x k) ≡ allowedSection x k) numbers
-unfolding layoutOf contentsOf allowedSection
+unfolding layoutOf tableOf contentsOf fixedHold allowedSection
 ranges-are x = (
   simp (and-assoc, and-true),
   (
@@ -218,7 +216,7 @@ ranges-are x = (
 
 -- and what a section that is not named holds is zero in every member
 zeros-are : (x : Settings) → Each (λ k. areZero (contentsOf x k) ≡ zeroSection x k) numbers
-unfolding contentsOf areZero zeroSection every
+unfolding contentsOf fixedHold areZero zeroSection every
 zeros-are x = (
   simp (zero-boxes, and-assoc, and-true),
   (
@@ -285,7 +283,7 @@ pub eight-values : (vs : List ℕ) → length vs ≡ 8 → vs ≡ map (λ (k : �
 eight-values vs l = sym (take-all 8 vs (omega arith)) ∙ part-bytes 8 0 vs (omega arith)
 
 indicators-same : (c : Command) → length (c .named) ≡ 8 → isFine (namedAllowed numbers 13 (c .named)) ≡ every (allowedIndicator c) numbers
-unfolding layoutOf every
+unfolding layoutOf tableOf every
 indicators-same c l =
     ap (λ (vs : List ℕ). isFine (namedAllowed numbers 13 vs)) (eight-values (c .named) l)
     ∙ marks-same numbers 13 (λ (k : ℕ). getD (c .named) (k - 2) 0)

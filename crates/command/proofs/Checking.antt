@@ -21,9 +21,10 @@ use Rattle.field.specs.declared.Step.the-variants.{Next, Stop}
 use Rattle.field.proofs.Local.{ends-inside}
 use Rattle.section.proofs.Local.{items-local}
 use Rattle.section.proofs.Own.{cut-end}
-use Rattle.section.specs.Layout.{layoutOf, isEmpty, checkItems, checkSection, itemsSize}
-use Rattle.command.specs.Text.{awr04, isFlag, isNamed, headBytes, numbers, checkAwr04, checkEach, checkHead, checkFrom}
-use Rattle.command.specs.Steps.{headTest, sectionSeen, placeFrom}
+use Rattle.section.specs.Layout.{layoutOf, tableOf, isEmpty, checkItems, checkSection, itemsSize, numbers}
+use Rattle.command.specs.Text.{awr04, isFlag, isNamed, headBytes, checkAwr04, checkEach, checkHead, checkFrom}
+use Rattle.command.specs.Inner.{headTest, sectionSeen}
+use Rattle.command.specs.Sections.{placeFrom}
 
 -- ---- `AWR04`
 
@@ -46,7 +47,7 @@ tests-at f i (suc n) (suc k) h = tests-at f (suc i) n k (le-of-suc-le-suc h) ∙
 
 -- each byte's test, by its place
 pub head-test : (i : ℕ) → i < 16 → getD headBytes i isFlag ≡ headTest i
-unfolding layoutOf
+unfolding layoutOf tableOf
 head-test i h = tests-at headTest 0 16 i h ∙ ap headTest (zero-add i)
 
 head-next : (i : ℕ) → i < 16 → drop i headBytes ≡ headTest i ∷ drop (i + 1) headBytes

@@ -1,7 +1,7 @@
 -- A command's refusals are codes 1 to 8.
 use mathlib.Core.Path.{_≡_, refl}
 use mathlib.Core.Logic.{_↔_}
-use mathlib.Core.Bool.{Bool, true, false, cond, _&&_}
+use mathlib.Core.Bool.{Bool, true, false, cond, _&&_, _||_}
 use mathlib.Core.List.{List, [], _∷_}
 use Prim.Native.Nat.{ℕ, zero, suc, _+_, _≤_}
 use native.Mathlib.Omega.{arith}
@@ -11,15 +11,18 @@ use borrow.Author.Tests.{leb-true}
 use Rattle.text.specs.declared.Seen.{Seen}
 use Rattle.text.specs.declared.Seen.the-variants.{Fine, Bad}
 use Rattle.text.proofs.Cases.{both-left, both-right}
-use Rattle.field.specs.Fields.{after, checkNumber, checkMark, checkDelimiter, checkAirfield, repeat}
+use Rattle.text.specs.Parts.{part}
+use Rattle.field.specs.Decimal.{allDigits, value}
+use Rattle.field.specs.Fields.{after, checkDigits, checkDelimiter, checkAirfield, repeat}
 use Rattle.field.specs.Boxes.{checkEdge, checkPair, checkBox}
 use Rattle.field.specs.declared.Step.{Step}
 use Rattle.field.specs.declared.Step.the-variants.{Next, Stop}
 use Rattle.field.specs.declared.Circle.{Circle}
 use Rattle.field.specs.declared.Edge.{Edge}
-use Rattle.lists.specs.Lists.{checkList}
-use Rattle.section.specs.Layout.{Item, Number, Mark, AirfieldList, BoxList, layoutOf, checkItem, checkItems}
-use Rattle.command.specs.Text.{numbers, isNamed, checkEach, checkAwr04, checkHead, checkFrom, longest, ended, checkCommand}
+use Rattle.lists.specs.Lists.{countAt, checkList}
+use Rattle.section.specs.Layout.{Item, Digits, AirfieldList, BoxList, layoutOf, checkItem, checkItems, numbers}
+use Rattle.section.proofs.Rows.{codesFit, table-coded, four-or-five}
+use Rattle.command.specs.Text.{isNamed, checkEach, checkAwr04, checkHead, checkFrom, longest, ended, checkCommand}
 use Rattle.command.specs.Record.{commandOf, got, readCommand}
 
 abbrev codeOf : Step → ℕ
@@ -42,13 +45,14 @@ ruleset parts = (either, then)
 
 -- ---- Fields
 
-number-coded : (w least most : ℕ) (s : List ℕ) (at : ℕ) → Coded (checkNumber w least most s at)
-unfolding checkNumber
-number-coded w least most s at = search parts depth 8
-
-mark-coded : (least most : ℕ) (s : List ℕ) (at : ℕ) → Coded (checkMark least most s at)
-unfolding checkMark
-mark-coded least most s at = search parts depth 8
+digits-coded : (code w least most : ℕ) (s : List ℕ) (at : ℕ) → (eqb code 4 || eqb code 5) ≡ true → Coded (checkDigits code w least most s at)
+unfolding checkDigits
+digits-coded code w least most s at e =
+    let v = value (part at w s) in
+    either (leb (at + w) (length s)) _ (Stop 8 at)
+    (either (allDigits (part at w s)) _ (Stop 4 at)
+    (either (leb least v && leb v most) (Next (at + w)) (Stop code at) (record { coded = refl }) (record { coded = four-or-five (λ n. leb 1 n && leb n 8) code refl refl e })) (record { coded = refl }))
+    (record { coded = refl })
 
 delimiter-coded : (s : List ℕ) (at : ℕ) → Coded (checkDelimiter s at)
 unfolding checkDelimiter
@@ -77,27 +81,29 @@ repeat-coded check (suc n) at h = then (check at) (repeat check n) (h at) (λ i.
 
 list-coded : (limit : ℕ) (entry : List ℕ → ℕ → Step) (s : List ℕ) (at : ℕ) → ((i : ℕ) → Coded (entry s i)) → Coded (checkList limit entry s at)
 unfolding checkList
-list-coded limit entry s at h = search (parts, number-coded, repeat-coded)
+list-coded limit entry s at h =
+    then (checkDigits 5 2 0 limit s at) (repeat (entry s) (countAt s at)) (digits-coded 5 2 0 limit s at refl) (λ i. repeat-coded (entry s) (countAt s at) i h)
 
 -- ---- Sections
 
-item-coded : (x : Item) (s : List ℕ) (at : ℕ) → Coded (checkItem x s at)
-item-coded (Number w least most) s at = number-coded w least most s at
-item-coded (Mark least most) s at = mark-coded least most s at
-item-coded AirfieldList s at = list-coded 20 checkAirfield s at (airfield-coded s)
-item-coded BoxList s at = list-coded 16 checkBox s at (box-coded s)
-
-items-coded : (xs : List Item) (s : List ℕ) (at : ℕ) → Coded (checkItems xs s at)
-unfolding checkItems
-items-coded [] s at = delimiter-coded s at
-items-coded (x ∷ xs) s at = then (checkItem x s at) (checkItems xs s) (item-coded x s at) (items-coded xs s)
+items-coded : (xs : List Item) (s : List ℕ) (at : ℕ) → codesFit xs ≡ true → Coded (checkItems xs s at)
+unfolding checkItems codesFit
+items-coded [] s at e = delimiter-coded s at
+items-coded (Digits r ∷ xs) s at e =
+    let fits = eqb (r .code) 4 || eqb (r .code) 5 in
+    then (checkItem (Digits r) s at) (checkItems xs s) (digits-coded (r .code) (r .width) (r .least) (r .most) s at (both-left fits (codesFit xs) e))
+    (λ p. items-coded xs s p (both-right fits (codesFit xs) e))
+items-coded (AirfieldList ∷ xs) s at e =
+    then (checkItem AirfieldList s at) (checkItems xs s) (list-coded 20 checkAirfield s at (airfield-coded s)) (λ p. items-coded xs s p e)
+items-coded (BoxList ∷ xs) s at e =
+    then (checkItem BoxList s at) (checkItems xs s) (list-coded 16 checkBox s at (box-coded s)) (λ p. items-coded xs s p e)
 
 sections-coded : (ks s : List ℕ) (at : ℕ) → Coded (checkFrom ks s at)
 unfolding checkFrom
 sections-coded [] s at = record { coded = refl }
 sections-coded (k ∷ ks) s at =
     either (isNamed s k) (after (checkItems (layoutOf k) s at) (checkFrom ks s)) (checkFrom ks s at)
-    (then (checkItems (layoutOf k) s at) (checkFrom ks s) (items-coded (layoutOf k) s at) (sections-coded ks s)) (sections-coded ks s at)
+    (then (checkItems (layoutOf k) s at) (checkFrom ks s) (items-coded (layoutOf k) s at (table-coded k)) (sections-coded ks s)) (sections-coded ks s at)
 
 -- ---- The whole
 

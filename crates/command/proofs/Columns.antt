@@ -8,9 +8,9 @@ use lib.Dec.{eqb}
 use lib.ListN.{getD}
 use borrow.Author.Tests.{eqb-true, eq-eqb, ne-eqb}
 use Rattle.text.proofs.Cases.{by-test, by-eq, by-lt}
-use Rattle.section.specs.Layout.{layoutOf, isEmpty}
+use Rattle.section.specs.Layout.{layoutOf, tableOf, isEmpty}
 use Rattle.command.specs.Text.{isFlag, isDownlink, isIndicator}
-use Rattle.command.specs.Steps.{headTest, isAmong}
+use Rattle.command.specs.Inner.{headTest, isAmong}
 
 abbrev pub ones : List ℕ
 ones = 49 ∷ 49 ∷ 49 ∷ 49 ∷ 49 ∷ 49 ∷ 49 ∷ 49 ∷ 48 ∷ 48 ∷ 48 ∷ 48 ∷ 48 ∷ 48 ∷ 48 ∷ 48 ∷ []
@@ -71,7 +71,7 @@ below P (suc n) h i l =
 
 -- a byte that is among its place's is allowed there
 pub columns : (i : ℕ) → i < 16 → Fits i
-unfolding layoutOf
+unfolding layoutOf tableOf
 columns =
     below Fits 16
     ((((((((((((((((tt, flag), flag), flag), flag), flag), flag), flag), downlink), λ b. own 2 b refl), λ b. own 3 b refl), λ b. own 4 b refl), λ b. own 5 b refl), λ b. own 6 b refl), none), λ b. own 8 b refl), λ b. own 9 b refl)

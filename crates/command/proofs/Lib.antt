@@ -2,6 +2,7 @@
 pub mod Each
 pub mod Head
 pub mod Parts
+pub mod Standing
 pub mod Walk
 pub mod Marks
 pub mod Accepted

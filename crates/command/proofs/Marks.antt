@@ -10,8 +10,8 @@ use borrow.Author.Tests.{eq-eqb, ne-eqb, eqb-true}
 use Rattle.text.specs.Parts.{part}
 use Rattle.text.proofs.Cases.{by-test, both-left, both-right}
 use Rattle.text.proofs.Parts.{part-bytes}
-use Rattle.section.specs.Layout.{layoutOf, isEmpty}
-use Rattle.command.specs.Text.{isIndicator, isNamed, numbers}
+use Rattle.section.specs.Layout.{layoutOf, isEmpty, numbers}
+use Rattle.command.specs.Text.{isIndicator, isNamed}
 use Rattle.command.proofs.Each.{Each, Rising}
 use Rattle.command.proofs.Head.{passes}
 use Rattle.command.proofs.Parts.{present, markOf, marks, Place, Absent, Present}

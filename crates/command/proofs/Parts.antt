@@ -6,10 +6,10 @@ use Prim.Native.Nat.{ℕ, _+_}
 use lib.Dec.{eqb}
 use lib.ListN.{getD}
 use Rattle.text.specs.Parts.{part}
-use Rattle.section.specs.Layout.{layoutOf, isEmpty, itemsSize}
+use Rattle.section.specs.Layout.{layoutOf, isEmpty, itemsSize, numbers}
 use Rattle.section.specs.Contents.{Content, contentsAt}
 use Rattle.section.proofs.Own.{Own}
-use Rattle.command.specs.Text.{awr04, isFlag, isDownlink, numbers, isNamed}
+use Rattle.command.specs.Text.{awr04, isFlag, isDownlink, isNamed}
 use Rattle.command.proofs.Each.{Each}
 use Rattle.command.proofs.Head.{passes}
 

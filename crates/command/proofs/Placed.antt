@@ -1,6 +1,6 @@
 -- The sections of an accepted text at their places, and the digits of its first 22 bytes.
 use mathlib.Core.Path.{_≡_, refl, sym, ap, _∙_}
-use mathlib.Core.Bool.{Bool, true, false, not, _||_}
+use mathlib.Core.Bool.{Bool, true, false, cond, not, _||_}
 use mathlib.Core.List.{List, [], _∷_}
 use Prim.Native.Nat.{ℕ, _+_, _≤_, _<_}
 use native.Mathlib.Omega.{arith}
@@ -11,77 +11,16 @@ use Rattle.text.specs.declared.Seen.the-variants.{Fine}
 use Rattle.text.proofs.Cases.{by-test, by-eq, both-left, both-right}
 use Rattle.field.specs.declared.Step.the-variants.{Next}
 use Rattle.field.proofs.Local.{after-cases}
-use Rattle.section.specs.Layout.{layoutOf, isEmpty, checkSection, itemsSize, Accepted}
+use Rattle.section.specs.Layout.{layoutOf, tableOf, isEmpty, checkSection, itemsSize, Accepted, numbers}
 use Rattle.section.specs.Contents.{Content, contentsAt}
-use Rattle.section.proofs.Own.{cut-end}
-use Rattle.command.specs.Text.{isFlag, isIndicator, numbers, isNamed, checkFrom, checkCommand}
-use Rattle.command.specs.Record.{held, heldIn}
-use Rattle.command.specs.Steps.{isOneOf, placeFrom, Stands, Noted, heldOver}
+use Rattle.settings.specs.Settings.{amountIn, regionsFrom, airportsFrom, enrouteFrom, ascentFrom, hoursFrom, settingsFrom, contentsOf, fixedHold}
+use Rattle.settings.specs.Valid.{noSettings}
+use Rattle.command.specs.Text.{isFlag, isIndicator, isNamed, checkFrom, checkCommand}
+use Rattle.command.specs.Sections.{isOneOf, placeOf, heldIn, placeFrom}
+use Rattle.command.specs.Inner.{Stands, Noted, heldOver}
 use Rattle.command.proofs.Each.{Each, each-map, each-with}
+use Rattle.command.proofs.Standing.{accepted-place, one-least, one-most}
 use Rattle.command.proofs.Accepted.{accepted, flag-byte, downlink-byte, indicators-are}
-
--- ---- The walk to a section
-
--- what a section holds that is named is what the text holds at its place
-held-place : (ks s : List ℕ) (at j : ℕ) → isOneOf ks j ≡ true → isNamed s j ≡ true
-    → held ks s at j ≡ contentsAt (layoutOf j) s (placeFrom ks s at j)
-unfolding held placeFrom
-held-place [] s at j i n = cc
-held-place (k ∷ ks) s at j i n =
-    by-test (eqb j k)
-    (λ (y : eqb j k ≡ true). rw (y, ← eqb-true j k y, n))
-    (λ (y : eqb j k ≡ false).
-    by-test (isNamed s k)
-    (λ (m : isNamed s k ≡ true). rw (y, m) (held-place ks s (at + itemsSize (layoutOf k) s at) j (rw y at i) n))
-    (λ (m : isNamed s k ≡ false). rw (y, m) (held-place ks s at j (rw y at i) n)))
-
--- a section that isn't named holds nothing
-held-none : (ks s : List ℕ) (at j : ℕ) → isNamed s j ≡ false → held ks s at j ≡ []
-unfolding held
-held-none [] s at j n = refl
-held-none (k ∷ ks) s at j n =
-    by-test (isNamed s k)
-    (λ (m : isNamed s k ≡ true).
-    rw (m, ne-eqb j k (λ (e : j ≡ k). let z : _≡_ {A = ℕ} 0 1 = cc in omega arith))
-    (held-none ks s (at + itemsSize (layoutOf k) s at) j n))
-    (λ (m : isNamed s k ≡ false). rw m (held-none ks s at j n))
-
--- and a named one was accepted there
-accepted-place : (ks s : List ℕ) (at j p : ℕ) → isOneOf ks j ≡ true → isNamed s j ≡ true → checkFrom ks s at ≡ Next p
-    → Accepted j s (placeFrom ks s at j)
-unfolding checkFrom placeFrom
-accepted-place [] s at j p i n e = cc
-accepted-place (k ∷ ks) s at j p i n e =
-    by-test (isNamed s k)
-    (λ (m : isNamed s k ≡ true).
-    after-cases (checkSection k s at) (checkFrom ks s) p (rw m at e)
-    (λ q (c : checkSection k s at ≡ Next q) (d : checkFrom ks s q ≡ Next p).
-    let end = cut-end (layoutOf k) s at q c in
-    by-test (eqb j k)
-    (λ (y : eqb j k ≡ true). rw (y, eqb-true j k y) (c ∙ ap Next end))
-    (λ (y : eqb j k ≡ false).
-    rw (y, m) (accepted-place ks s (at + itemsSize (layoutOf k) s at) j p (rw y at i) n (rw end at d)))))
-    (λ (m : isNamed s k ≡ false).
-    by-test (eqb j k)
-    (λ (y : eqb j k ≡ true).
-    let d : j ≡ k = eqb-true j k y in
-    let z : _≡_ {A = ℕ} 0 1 = cc in
-    absurd (omega arith))
-    (λ (y : eqb j k ≡ false). rw (y, m) (accepted-place ks s at j p (rw y at i) n (rw m at e))))
-
-pub one-least : (least : ℕ) (ks : List ℕ) (j : ℕ) → Each (λ k. least ≤ k) ks → isOneOf ks j ≡ true → least ≤ j
-one-least least [] j h i = let z : _≡_ {A = ℕ} 0 1 = cc in absurd (omega arith)
-one-least least (k ∷ ks) j h i =
-    by-test (eqb j k)
-    (λ (y : eqb j k ≡ true). rw (eqb-true j k y) (h .0))
-    (λ (y : eqb j k ≡ false). one-least least ks j (h .1) (rw y at i))
-
-pub one-most : (most : ℕ) (ks : List ℕ) (j : ℕ) → Each (λ k. k ≤ most) ks → isOneOf ks j ≡ true → j ≤ most
-one-most most [] j h i = let z : _≡_ {A = ℕ} 0 1 = cc in absurd (omega arith)
-one-most most (k ∷ ks) j h i =
-    by-test (eqb j k)
-    (λ (y : eqb j k ≡ true). rw (eqb-true j k y) (h .0))
-    (λ (y : eqb j k ≡ false). one-most most ks j (h .1) (rw y at i))
 
 -- ---- A section at its place
 
@@ -96,13 +35,17 @@ module _ {s : List ℕ} {k at : ℕ} (p : Stands s k at) where
       rw (p .place) (accepted-place numbers s 22 k (length s) (p .number) n (accepted s (p .fine) .walk))
 
   -- and holds what the text holds there
-  pub stands-held : isNamed s k ≡ true → contentsAt (layoutOf k) s at ≡ heldIn s k
-  stands-held n = rw (p .place) (sym (held-place numbers s 22 k (p .number) n))
+  pub stands-held : contentsAt (layoutOf k) s at ≡ contentsAt (layoutOf k) s (placeOf s k)
+  stands-held = rw (p .place)
 
 -- a noted place is its section's
 pub noted-stands : {s places : List ℕ} → checkCommand s ≡ Fine → Noted s places → (k : ℕ) → isOneOf numbers k ≡ true
     → Stands s k (getD places k 0)
-noted-stands fine n k i = record { fine = fine; number = i; place = n .under k i }
+noted-stands fine n k i =
+    record { fine = fine; number = i; place = n .under k (one-least 2 numbers k (omega arith) i) (below-ten (one-most 9 numbers k (omega arith) i)) }
+  where
+    below-ten : {k : ℕ} → k ≤ 9 → k ≤ 10
+    below-ten h = omega arith
 
 -- ---- The digits of the first 22 bytes
 
@@ -155,7 +98,7 @@ module _ (s : List ℕ) (fine : checkCommand s ≡ Fine) where
 
   -- no text names section 7
   pub no-seven : isNamed s 7 ≡ false
-  unfolding layoutOf
+  unfolding layoutOf tableOf
   no-seven =
       let b = getD s 18 0 in
       let i : isIndicator 7 b ≡ true = indicators-are s (accepted s fine) .1 .1 .1 .1 .1 .0 in
@@ -170,11 +113,22 @@ module _ (s : List ℕ) where
   over-zero f k old e =
       by-test (isNamed s k)
       (λ (n : isNamed s k ≡ true). rw n)
-      (λ (n : isNamed s k ≡ false). rw (n, held-none numbers s 22 k n) e)
+      (λ (n : isNamed s k ≡ false). rw n e)
 
-  -- a section that is not named
-  pub not-held : (k : ℕ) → isNamed s k ≡ false → heldIn s k ≡ []
-  not-held k n = held-none numbers s 22 k n
+-- what a text's sections are over nothing is what they hold
+pub over-nothing : (s fs : List ℕ) → settingsFrom fs (λ k. cond (isNamed s k) (heldIn s k) (contentsOf noSettings k)) ≡ settingsFrom fs (heldIn s)
+unfolding settingsFrom contentsOf fixedHold noSettings regionsFrom airportsFrom enrouteFrom ascentFrom hoursFrom
+over-nothing s fs =
+    let none = noSettings in
+    rw (
+      over-zero s regionsFrom 2 (contentsOf none 2) refl,
+      over-zero s airportsFrom 3 (contentsOf none 3) refl,
+      over-zero s enrouteFrom 4 (contentsOf none 4) refl,
+      over-zero s ascentFrom 5 (contentsOf none 5) refl,
+      over-zero s (λ cs. amountIn cs 0) 6 (contentsOf none 6) refl,
+      over-zero s (λ cs. amountIn cs 0) 8 (contentsOf none 8) refl,
+      over-zero s hoursFrom 9 (contentsOf none 9) refl,
+    )
 
 -- ---- A text that names no section of lists
 

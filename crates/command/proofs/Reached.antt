@@ -7,25 +7,19 @@ use lib.ListN.{length, drop, getD, set, length-set}
 use lib.Seq.{getD-set-same, getD-set-other}
 use Rattle.text.proofs.Cases.{by-eq, by-lt}
 use Rattle.field.specs.declared.Step.the-variants.{Next, Stop}
-use Rattle.command.specs.Text.{numbers, checkFrom}
-use Rattle.command.specs.Steps.{sectionSeen, placeOf, Reached, Noted}
+use Rattle.command.specs.Text.{checkFrom}
+use Rattle.section.specs.Layout.{numbers}
+use Rattle.command.specs.Inner.{sectionSeen, Reached, Noted}
+use Rattle.command.specs.Sections.{placeFrom, placeOf}
 use Rattle.command.proofs.Checking.{section-stop, section-on, section-inside, sections-end, place-here, place-on}
-use Rattle.command.proofs.Placed.{one-least, one-most}
-
--- the place that a step goes on from
-pub same-place : (p q : ℕ) → Next p ≡ Next q → p ≡ q
-same-place p q e = cc
 
 -- before the first
-pub reached-first : (s places : List ℕ) → 22 ≤ length s → length places ≡ 10 → Reached s 2 22 places
+pub reached-first : (s places : List ℕ) → 22 ≤ length s → length places ≡ 11 → Reached s 2 22 places
 reached-first s places h l = record { inside = h; decides = refl; room = l; later = λ j k. refl; noted = λ j k m. absurd (omega arith) }
 
 -- another place before this one
 below : (j k : ℕ) → j < k + 1 → (j ≡ k → ⊥) → j < k
 below j k h n = by-lt j k (λ l. l) (λ m. absurd (n (omega arith)))
-
-last : {j k : ℕ} → j ≤ 9 → 10 ≤ k → j < k
-last h m = omega arith
 
 module _ (s : List ℕ) (k p : ℕ) (places : List ℕ) (lo : 2 ≤ k) (hi : k < 10) (r : Reached s k p places) where
   -- a section that is refused decides
@@ -52,7 +46,15 @@ module _ (s : List ℕ) (k p : ℕ) (places : List ℕ) (h : 10 ≤ k) (r : Reac
   pub reached-end : checkFrom numbers s 22 ≡ Next p
   reached-end = r .decides ∙ sections-end s k p h
 
-  pub reached-noted : Noted s places
-  reached-noted = record {
-    under = λ j i. r .noted j (one-least 2 numbers j (omega arith) i) (last (one-most 9 numbers j (omega arith) i) h);
-  }
+  -- the place where the last ends is noted too
+  pub reached-noted : k ≤ 10 → Noted s (set places 10 p)
+  unfolding placeFrom
+  reached-noted few =
+      let ten : k ≡ 10 = omega arith in
+      record {
+        under =
+            λ j lo hi.
+            by-eq j 10
+            (λ (y : j ≡ 10). rw y (getD-set-same places 10 p 0 (omega (arith, r .room)) ∙ sym (r .later 10 (omega arith) ∙ rw ten)))
+            (λ (n : j ≡ 10 → ⊥). getD-set-other places 10 j p 0 n ∙ r .noted j lo (omega arith));
+      }

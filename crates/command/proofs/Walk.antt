@@ -14,13 +14,14 @@ use Rattle.text.proofs.Cases.{by-test, both-left}
 use Rattle.text.proofs.Parts.{part-rest}
 use Rattle.field.specs.declared.Step.the-variants.{Next}
 use Rattle.field.proofs.Local.{after-cases}
-use Rattle.section.specs.Layout.{layoutOf, isEmpty, checkSection, checkItems, itemsSize}
+use Rattle.section.specs.Layout.{numbers, layoutOf, isEmpty, checkSection, checkItems, itemsSize}
 use Rattle.section.specs.Contents.{contentsAt}
 use Rattle.section.proofs.Own.{Own, own-some, put-check, put-size, put-part, cut-end, cut-own, cut-contents}
 use Rattle.command.specs.Text.{isIndicator, isNamed, checkFrom}
-use Rattle.command.specs.Record.{held}
+use Rattle.command.specs.Sections.{isOneOf, placeOf, heldIn}
 use Rattle.command.proofs.Each.{Each, Rising, each-rising}
-use Rattle.command.proofs.Parts.{present, bodies, bodyFrom, Place, Absent, Present, holds}
+use Rattle.command.proofs.Parts.{present, bodies, bodyFrom, bodyOf, Place, Absent, Present, holds}
+use Rattle.command.proofs.Standing.{accepted-place, bytes-body, body-absent}
 
 -- ---- Bodies and the walk in a list that rises
 
@@ -150,23 +151,18 @@ walked lo (k ∷ ks) s at p h r i e =
     (λ (n : isNamed s k ≡ false).
     walked-unnamed k ks s at p (r .1) n (walked (suc k) ks s at p (omega arith) (r .1) (i .1) (rw n at e)))
 
--- what section j holds is what its own bytes hold
-pub held-body : (ks s : List ℕ) (at p j : ℕ) → checkFrom ks s at ≡ Next p → held ks s at j ≡ holds j (bodyFrom ks s at j)
-unfolding checkFrom held bodyFrom
-held-body [] s at p j e = refl
-held-body (k ∷ ks) s at p j e =
+-- what section k of an accepted text holds is what its own bytes hold
+pub held-body : (s : List ℕ) (p k : ℕ) → isOneOf numbers k ≡ true → checkFrom numbers s 22 ≡ Next p → heldIn s k ≡ holds k (bodyOf s k)
+held-body s p k i e =
     by-test (isNamed s k)
     (λ (n : isNamed s k ≡ true).
-    let m = itemsSize (layoutOf k) s at in
-    after-cases (checkSection k s at) (checkFrom ks s) p (rw n at e)
-    (λ q (c : checkSection k s at ≡ Next q) (d : checkFrom ks s q ≡ Next p).
-    by-test (eqb j k)
-    (λ (y : eqb j k ≡ true).
-    rw (n, y, eqb-true j k y)
-    (cut-contents (layoutOf k) s at q c
-    ∙ holds-some k (part at m s) (own-some (layoutOf k) (part at m s) (cut-own (layoutOf k) s at q c))))
-    (λ (y : eqb j k ≡ false). rw (n, y) (held-body ks s (at + m) p j (rw (cut-end (layoutOf k) s at q c) at d)))))
-    (λ (n : isNamed s k ≡ false). rw n (held-body ks s at p j (rw n at e)))
+    let at = placeOf s k in
+    let c = accepted-place numbers s 22 k p i n e in
+    let q = at + itemsSize (layoutOf k) s at in
+    let b = part at (itemsSize (layoutOf k) s at) s in
+    let body : bodyOf s k ≡ b = rw n at (sym (bytes-body s k i)) in
+    rw (n, body) (cut-contents (layoutOf k) s at q c ∙ holds-some k b (own-some (layoutOf k) b (cut-own (layoutOf k) s at q c))))
+    (λ (n : isNamed s k ≡ false). rw (n, body-absent numbers s 22 k n))
 
 -- ---- Sections put one after the other are found again
 

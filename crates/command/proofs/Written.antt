@@ -9,9 +9,9 @@ use lib.Seq.{take-at, getD-at, drop-append-add}
 use Rattle.text.specs.Parts.{part}
 use Rattle.text.specs.declared.Seen.the-variants.{Fine}
 use Rattle.field.specs.declared.Step.the-variants.{Next}
-use Rattle.section.specs.Layout.{layoutOf}
+use Rattle.section.specs.Layout.{layoutOf, numbers}
 use Rattle.section.proofs.Own.{own-most}
-use Rattle.command.specs.Text.{awr04, isDownlink, isIndicator, numbers, isNamed, sectionsMost, checkCommand}
+use Rattle.command.specs.Text.{awr04, isDownlink, isIndicator, isNamed, sectionsMost, checkCommand}
 use Rattle.command.proofs.Each.{Each}
 use Rattle.command.proofs.Head.{Head, passes, passes-length, passes-append}
 use Rattle.command.proofs.Parts.{Parts, present, marks, bodies, textOf, bodyOf, Place, Absent, Present, flagTests, Sound}

@@ -13,12 +13,11 @@ use Rattle.field.specs.declared.Region.{Region}
 use Rattle.lists.specs.Lists.{regionZero}
 use Rattle.lists.specs.declared.Airfields.{Airfields}
 use Rattle.lists.specs.declared.Boxes.{Boxes}
-use Rattle.section.specs.Layout.{look}
-use Rattle.section.specs.declared.Regions.{Regions}
-use Rattle.section.specs.declared.Airports.{Airports}
-use Rattle.section.specs.declared.Ascent.{Ascent}
-use Rattle.section.specs.declared.Settings.{Settings}
-use Rattle.command.specs.Text.{numbers}
+use Rattle.section.specs.Layout.{look, numbers}
+use Rattle.settings.specs.declared.Regions.{Regions}
+use Rattle.settings.specs.declared.Airports.{Airports}
+use Rattle.settings.specs.declared.Ascent.{Ascent}
+use Rattle.settings.specs.declared.Settings.{Settings}
 use Rattle.command.specs.declared.Command.{Command}
 
 -- every entry of a list passes a test

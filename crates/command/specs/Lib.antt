@@ -1,5 +1,6 @@
 pub mod Allowed
 pub mod Examples
+pub mod Inner
 pub mod Record
-pub mod Steps
+pub mod Sections
 pub mod Text

@@ -9,27 +9,17 @@ use Rattle.text.specs.Over.{over}
 use Rattle.text.specs.Checks.{must, _andThen_}
 use Rattle.text.specs.declared.Seen.{Seen}
 use Rattle.text.specs.declared.Seen.the-variants.{Fine, Bad}
-use Rattle.lists.specs.Lists.{allZero, regionsZero}
-use Rattle.section.specs.Layout.{layoutOf, isEmpty, itemsSize}
-use Rattle.section.specs.Contents.{Content, Amount, Names, Areas, contentsAt, contentsText, contentsAllowed}
-use Rattle.section.specs.Settings.{contentsOf, settingsFrom}
-use Rattle.section.specs.declared.Settings.{Settings}
-use Rattle.command.specs.Text.{awr04, numbers, isNamed, checkCommand}
+use Rattle.section.specs.Layout.{numbers, layoutOf, isEmpty}
+use Rattle.section.specs.Contents.{contentsText, contentsAllowed}
+use Rattle.settings.specs.Settings.{contentsOf, settingsFrom}
+use Rattle.settings.specs.declared.Settings.{Settings}
+use Rattle.command.specs.Text.{awr04, isNamed, checkCommand}
+use Rattle.settings.specs.Valid.{areZero, noSettings}
+use Rattle.command.specs.Sections.{heldIn}
 use Rattle.command.specs.declared.Command.{Command}
 use Rattle.command.specs.declared.Got.{Got}
 
 -- ---- Out of the text
-
--- what section j holds: found by walking over the named ones before it, nothing where it isn't named
-unfoldable pub held : List ℕ → List ℕ → ℕ → ℕ → List Content
-held [] s at j = []
-held (k ∷ ks) s at j =
-    cond (isNamed s k)
-    (cond (eqb j k) (contentsAt (layoutOf k) s at) (held ks s (at + itemsSize (layoutOf k) s at) j))
-    (held ks s at j)
-
-abbrev pub heldIn : List ℕ → ℕ → List Content
-heldIn s k = held numbers s 22 k
 
 abbrev pub digitsOf : List ℕ → List ℕ
 digitsOf bytes = map (λ (b : ℕ). b - 48) bytes
@@ -47,7 +37,7 @@ commandOf s =
 -- the one empty command, which every refusal carries: all zero
 unfoldable pub noCommand : Command
 noCommand =
-    record { settings = settingsFrom (replicate 7 0) (λ (k : ℕ). []); downlink = 0; named = replicate 8 0; spare = 0 }
+    record { settings = noSettings; downlink = 0; named = replicate 8 0; spare = 0 }
 
 -- reading answers what the check says, and the command where that is nothing
 abbrev pub got : Seen → Command → Got
@@ -72,15 +62,6 @@ namedAllowed [] at vs = Fine
 namedAllowed (k ∷ ks) at [] = Fine
 namedAllowed (k ∷ ks) at (v ∷ vs) =
     must (eqb v 0 || (not (isEmpty (layoutOf k)) && eqb v k)) 4 at andThen namedAllowed ks (at + 1) vs
-
-abbrev pub isZero : Content → Bool
-isZero (Amount v) = eqb v 0
-isZero (Names l) = eqb (l .count) 0 && allZero (l .names)
-isZero (Areas l) = eqb (l .count) 0 && regionsZero (l .regions)
-
-unfoldable pub areZero : List Content → Bool
-areZero [] = true
-areZero (c ∷ cs) = isZero c && areZero cs
 
 -- whether the record names section k
 abbrev pub names : Command → ℕ → Bool

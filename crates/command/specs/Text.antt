@@ -13,7 +13,7 @@ use Rattle.text.specs.declared.Seen.the-variants.{Fine, Bad}
 use Rattle.field.specs.Fields.{after, room, checkDelimiter}
 use Rattle.field.specs.declared.Step.{Step}
 use Rattle.field.specs.declared.Step.the-variants.{Next, Stop}
-use Rattle.section.specs.Layout.{layoutOf, isEmpty, checkSection, itemsSize, itemsMost}
+use Rattle.section.specs.Layout.{numbers, layoutOf, isEmpty, checkSection, itemsMost}
 
 -- ---- The first 22 bytes: `AWR04`, seven flags, a downlink digit, eight indicators E2 to E9, `/`
 
@@ -31,10 +31,6 @@ isDownlink b = between 48 50 b
 -- 0 or its own number, if there is such a section
 abbrev pub isIndicator : ℕ → ℕ → Bool
 isIndicator k b = eqb b 48 || (not (isEmpty (layoutOf k)) && eqb b (48 + k))
-
--- the section numbers, in rising order
-abbrev pub numbers : List ℕ
-numbers = 2 ∷ 3 ∷ 4 ∷ 5 ∷ 6 ∷ 7 ∷ 8 ∷ 9 ∷ []
 
 -- the bytes from the first flag to the last indicator
 abbrev pub headBytes : List (ℕ → Bool)

@@ -3,21 +3,21 @@ use field::Step;
 use field::check::delimiter;
 use field::digits::is_digit;
 use field::record::wide;
-use section::check::check_fixed;
-use section::check::check_lists;
+use section::check::check_section;
+use section::table::is_section;
 use text::Seen;
 ghost use mathlib.Core.Path.{_≡_};
-ghost use mathlib.Core.Bool.{true, not};
+ghost use mathlib.Core.Bool.{true};
 ghost use Prim.Native.Nat.{ℕ, _+_, _≤_, _<_};
 ghost use lib.ListN.{length};
 ghost use Rattle.text.specs.Equal.{sameBytes};
 ghost use Rattle.text.specs.Parts.{part};
-ghost use Rattle.section.specs.Layout.{layoutOf, isEmpty};
-ghost use Rattle.command.specs.Text.{awr04, isFlag, isDownlink, isIndicator, isNamed, headBytes, numbers, checkAwr04, checkEach, checkHead, checkFrom, ended, checkCommand};
+ghost use Rattle.command.specs.Text.{awr04, isFlag, isDownlink, isIndicator, isNamed, headBytes, checkAwr04, checkEach, checkHead, checkFrom, ended, checkCommand};
+ghost use Rattle.section.specs.Layout.{numbers};
 ghost use Rattle.field.specs.Fields.{after, checkDelimiter};
-ghost use Rattle.field.specs.declared.Step.the-variants.{Next, Stop};
+ghost use Rattle.field.specs.declared.Step.the-variants.{Next};
 ghost use Rattle.text.specs.declared.Seen.the-variants.{Fine};
-ghost use Rattle.command.specs.Steps.{headTest, isAmong, sectionSeen, Reached, Noted};
+ghost use Rattle.command.specs.Inner.{headTest, isAmong, sectionSeen, Noted};
 
 fn is_awr04(s: &[u8]) -> bool
     requires { ⌜ 5 ≤ length (now s) ⌝ }
@@ -42,27 +42,17 @@ fn check_awr04(s: &[u8]) -> Step
 fn is_flag(b: u8) -> bool
     ensures { λ r. ⌜ r ≡ isFlag b ⌝ }
 {
-    (b == b'0') | (b == b'1') | (b == b'9')
+    match b {
+        b'0' | b'1' | b'9' => true,
+        _ => false,
+    }
 }
 
 fn is_downlink(b: u8) -> bool
     ensures { λ r. ⌜ r ≡ isDownlink b ⌝ }
 {
-    (b'0' <= b) & (b <= b'2')
-}
-
-// Whether there is a section of this number: E7 is only 0.
-pub fn is_section(k: usize) -> bool
-    ensures { λ r. ⌜ r ≡ not (isEmpty (layoutOf k)) ⌝ }
-{
-    match k {
-        2 => true,
-        3 => true,
-        4 => true,
-        5 => true,
-        6 => true,
-        8 => true,
-        9 => true,
+    match b {
+        b'0'..=b'2' => true,
         _ => false,
     }
 }
@@ -181,66 +171,30 @@ pub fn is_named(s: &[u8], k: usize) -> bool
     wide(s[11 + k]) == 48 + k
 }
 
-fn list_seen(s: &[u8], k: usize, at: usize) -> Step
-    requires { ⌜ (k ≤ 3) × (22 ≤ length (now s)) × (at ≤ length (now s)) ⌝ }
+fn section_seen(s: &[u8], k: usize, at: usize) -> Step
+    requires { ⌜ (k ≤ 9) × (22 ≤ length (now s)) × (at ≤ length (now s)) ⌝ }
     ensures { λ r. ⌜ r ≡ sectionSeen (now (s .entry)) k at ⌝ }
 {
     if is_named(s, k) {
-        return check_lists(s, at, k);
+        return check_section(s, at, k);
     }
     Step::Next(at)
 }
 
-fn fixed_seen(s: &[u8], k: usize, at: usize) -> Step
-    requires { ⌜ (4 ≤ k) × (k ≤ 9) × (22 ≤ length (now s)) × (at ≤ length (now s)) ⌝ }
-    ensures { λ r. ⌜ r ≡ sectionSeen (now (s .entry)) k at ⌝ }
-{
-    if is_named(s, k) {
-        return check_fixed(s, at, k);
-    }
-    Step::Next(at)
-}
-
-// The sections named, in rising order: first those of lists, 2 and 3. The place of each is noted under its number; an unnamed one's is
-// where it would stand.
-fn list_sections(s: &[u8], places: &mut [usize]) -> Step
-    requires { ⌜ (22 ≤ length (now s)) × (length (now places) ≡ 10) ⌝ }
+// The sections named, in rising order. The place of each is noted under its number, and under 10 where the last ends; an unnamed
+// one's is where it would stand.
+fn check_sections(s: &[u8], places: &mut [usize]) -> Step
+    requires { ⌜ (22 ≤ length (now s)) × (length (now places) ≡ 11) ⌝ }
     ensures { λ r. ⌜
-        ((code place : ℕ) → r ≡ Stop code place → checkFrom numbers (now (s .entry)) 22 ≡ Stop code place)
-        × ((at : ℕ) → r ≡ Next at → Reached (now (s .entry)) 4 at (now (places .exit)))
+        (r ≡ checkFrom numbers (now (s .entry)) 22)
+        × ((p : ℕ) → r ≡ Next p → Noted (now (s .entry)) (now (places .exit)))
         ⌝ }
 {
     let mut k: usize = 2;
     let mut at = 22;
-    while k < 4 {
-        places[k] = at;
-        match list_seen(s, k, at) {
-            Step::Stop(code, place) => {
-                return Step::Stop(code, place);
-            }
-            Step::Next(p) => {
-                at = p;
-            }
-        }
-        k += 1;
-    }
-    Step::Next(at)
-}
-
-// Then those of one length, 4 to 9, from where they begin. They have a loop of their own: with the lists in it, what these need would
-// be made ready for each of them.
-fn fixed_sections(s: &[u8], from: usize, places: &mut [usize]) -> Step
-    requires { ⌜ (22 ≤ length (now s)) × Reached (now s) 4 from (now places) ⌝ }
-    ensures { λ r. ⌜
-        (r ≡ checkFrom numbers (now (s .entry)) 22)
-        × ((p : ℕ) → r ≡ Next p → Noted (now (s .entry)) (now (places .exit)))
-        ⌝ }
-{
-    let mut k: usize = 4;
-    let mut at = from;
     while k < 10 {
         places[k] = at;
-        match fixed_seen(s, k, at) {
+        match section_seen(s, k, at) {
             Step::Stop(code, place) => {
                 return Step::Stop(code, place);
             }
@@ -250,25 +204,13 @@ fn fixed_sections(s: &[u8], from: usize, places: &mut [usize]) -> Step
         }
         k += 1;
     }
+    places[10] = at;
     Step::Next(at)
-}
-
-fn check_sections(s: &[u8], places: &mut [usize]) -> Step
-    requires { ⌜ (22 ≤ length (now s)) × (length (now places) ≡ 10) ⌝ }
-    ensures { λ r. ⌜
-        (r ≡ checkFrom numbers (now (s .entry)) 22)
-        × ((p : ℕ) → r ≡ Next p → Noted (now (s .entry)) (now (places .exit)))
-        ⌝ }
-{
-    match list_sections(s, places) {
-        Step::Stop(code, place) => Step::Stop(code, place),
-        Step::Next(at) => fixed_sections(s, at, places),
-    }
 }
 
 // Bytes after the last delimiter are 8 at the first of them.
 fn check_end(s: &[u8], places: &mut [usize]) -> Seen
-    requires { ⌜ (22 ≤ length (now s)) × (length (now places) ≡ 10) ⌝ }
+    requires { ⌜ (22 ≤ length (now s)) × (length (now places) ≡ 11) ⌝ }
     ensures { λ r. ⌜
         (r ≡ ended (now (s .entry)) (checkFrom numbers (now (s .entry)) 22))
         × (r ≡ Fine → Noted (now (s .entry)) (now (places .exit)))
@@ -287,7 +229,7 @@ fn check_end(s: &[u8], places: &mut [usize]) -> Seen
 
 // The code and place of a command's text; where it is accepted, also the places of its sections.
 pub fn walk(s: &[u8], places: &mut [usize]) -> Seen
-    requires { ⌜ length (now places) ≡ 10 ⌝ }
+    requires { ⌜ length (now places) ≡ 11 ⌝ }
     ensures { λ r. ⌜
         (r ≡ checkCommand (now (s .entry)))
         × (r ≡ Fine → Noted (now (s .entry)) (now (places .exit)))
@@ -306,6 +248,6 @@ pub fn walk(s: &[u8], places: &mut [usize]) -> Seen
 pub fn check(s: &[u8]) -> Seen
     ensures { λ r. ⌜ r ≡ checkCommand (now (s .entry)) ⌝ }
 {
-    let mut places: [usize; 10] = [0; 10];
+    let mut places: [usize; 11] = [0; 11];
     walk(s, &mut places)
 }

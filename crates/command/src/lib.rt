@@ -2,7 +2,7 @@
 pub mod check;
 pub mod read;
 
-use section::Settings;
+use settings::Settings;
 
 // What a command carries: flags 0, 1 or 9 (no change), the sections that it names, all others zero; the downlink digit;
 // and for each section number from 2 on, that number where the section is named, else 0; `spare` is 0.

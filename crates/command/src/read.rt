@@ -1,38 +1,40 @@
 // Reading a command: its text checked, then what it holds as a record.
 use crate::Command;
 use crate::check::is_named;
-use field::read::no_region;
-use lists::Airfields;
-use lists::Boxes;
-use section::Airports;
-use section::Ascent;
-use section::ByPhase;
-use section::Enroute;
-use section::Hours;
-use section::Regions;
-use section::Settings;
-use section::read::airports_at;
-use section::read::ascent_at;
-use section::read::both_lists_at;
-use section::read::digit_at;
-use section::read::enroute_at;
-use section::read::hours_at;
-use section::read::mark_at;
-use section::read::regions_at;
-use section::size::lists_at;
+use section::numbers::numbers_at;
+use section::table::layout_of;
+use settings::Airports;
+use settings::Fixed;
+use settings::Regions;
+use settings::Settings;
+use settings::empty::no_airports;
+use settings::empty::no_fixed;
+use settings::empty::no_regions;
+use settings::empty::no_settings;
+use settings::numbers::ascent_from;
+use settings::numbers::digit_from;
+use settings::numbers::enroute_from;
+use settings::numbers::fixed_of;
+use settings::numbers::hours_from;
+use settings::numbers::numbers_of;
+use settings::places::lists_at;
+use settings::section2::regions_at;
+use settings::section3::airports_at;
 ghost use mathlib.Core.Path.{_≡_};
 ghost use mathlib.Core.Bool.{false, cond};
-ghost use mathlib.Core.List.{[]};
-ghost use Prim.Native.Nat.{ℕ};
-ghost use lib.ListN.{replicate};
+ghost use mathlib.Core.List.{map};
+ghost use Prim.Native.Nat.{ℕ, _+_, _-_, _≤_};
+ghost use lib.ListN.{length, getD};
 ghost use Rattle.text.specs.Parts.{part};
 ghost use Rattle.text.specs.declared.Seen.the-variants.{Fine};
-ghost use Rattle.lists.specs.Lists.{noAirfields, noBoxes};
-ghost use Rattle.section.specs.Layout.{layoutOf};
-ghost use Rattle.section.specs.Settings.{regionsHold, airportsHold, enrouteHold, ascentHold, digitHold, hoursHold, contentsOf, amountIn, byPhase, regionsFrom, airportsFrom, enrouteFrom, ascentFrom, hoursFrom, settingsFrom};
+ghost use Rattle.section.specs.Layout.{tableOf};
+ghost use Rattle.section.specs.Contents.{Amount};
+ghost use Rattle.section.specs.Inner.{Fit, numbersOf};
+ghost use Rattle.settings.specs.Settings.{regionsHold, airportsHold, fixedOf, fixedHold, contentsOf, regionsFrom, airportsFrom, settingsFrom};
 ghost use Rattle.command.specs.Text.{isNamed, checkCommand};
-ghost use Rattle.command.specs.Record.{heldIn, digitsOf, flagsOf, downlinkOf, commandOf, noCommand};
-ghost use Rattle.command.specs.Steps.{Stands, Noted, heldOver, namesLists};
+ghost use Rattle.command.specs.Sections.{heldIn};
+ghost use Rattle.command.specs.Record.{digitsOf, flagsOf, downlinkOf, commandOf, noCommand};
+ghost use Rattle.command.specs.Inner.{Stands, Noted, heldOver, fixedOver, namesLists};
 
 // ---- Each section: what the text holds where it names the section, else the old one
 
@@ -56,68 +58,62 @@ fn airports_over(s: &[u8], at: usize, old: Airports) -> Airports
     old
 }
 
-fn enroute_over(s: &[u8], at: usize, old: Enroute) -> Enroute
-    requires { ⌜ Stands (now s) 4 at ⌝ }
-    ensures { λ r. ⌜ r ≡ enrouteFrom (heldOver (now (s .entry)) 4 (enrouteHold old)) ⌝ }
-{
-    if is_named(s, 4) {
-        return enroute_at(s, at);
-    }
-    old
-}
-
-fn ascent_over(s: &[u8], at: usize, old: Ascent) -> Ascent
-    requires { ⌜ Stands (now s) 5 at ⌝ }
-    ensures { λ r. ⌜ r ≡ ascentFrom (heldOver (now (s .entry)) 5 (ascentHold old)) ⌝ }
-{
-    if is_named(s, 5) {
-        return ascent_at(s, at);
-    }
-    old
-}
-
-// Sections 6 and 8, which have one layout.
-fn digit_over(s: &[u8], k: usize, at: usize, old: u8) -> u8
-    requires { ⌜ Stands (now s) k at ⌝ }
-    requires { ⌜ layoutOf k ≡ layoutOf 6 ⌝ }
-    ensures { λ r. ⌜ r ≡ amountIn (heldOver (now (s .entry)) k (digitHold old)) 0 ⌝ }
+// The numbers of a section without lists.
+fn numbers_over(s: &[u8], k: usize, at: usize, old: Fixed) -> [u16; 8]
+    requires { ⌜ Stands (now s) k at × (4 ≤ k) ⌝ }
+    ensures { λ r. ⌜ (r ≡ numbersOf (heldOver (now (s .entry)) k (fixedHold old k))) × Fit (tableOf k) r ⌝ }
 {
     if is_named(s, k) {
-        return digit_at(s, at);
+        return numbers_at(s, at, layout_of(k));
     }
-    old
+    numbers_of(old, k)
 }
 
-fn hours_over(s: &[u8], at: usize, old: Hours) -> Hours
-    requires { ⌜ Stands (now s) 9 at ⌝ }
-    ensures { λ r. ⌜ r ≡ hoursFrom (heldOver (now (s .entry)) 9 (hoursHold old)) ⌝ }
+fn fixed_over(s: &[u8], places: [usize; 11], old: Fixed) -> Fixed
+    requires { ⌜ (checkCommand (now s) ≡ Fine) × Noted (now s) places ⌝ }
+    ensures { λ r. ⌜ r ≡ fixedOver (now (s .entry)) old ⌝ }
 {
-    if is_named(s, 9) {
-        return hours_at(s, at);
+    Fixed {
+        enroute: enroute_from(numbers_over(s, 4, places[4], old)),
+        ascent: ascent_from(numbers_over(s, 5, places[5], old)),
+        routine6: digit_from(numbers_over(s, 6, places[6], old)),
+        routine8: digit_from(numbers_over(s, 8, places[8], old)),
+        hours: hours_from(numbers_over(s, 9, places[9], old)),
     }
-    old
 }
 
 // Flags, and the sections of an accepted text over those of other settings. The record is put together once.
-pub fn settings_over(x: Settings, flags: [u8; 7], s: &[u8], places: [usize; 10]) -> Settings
+pub fn settings_over(x: Settings, flags: [u8; 7], s: &[u8], places: [usize; 11]) -> Settings
     requires { ⌜ (checkCommand (now s) ≡ Fine) × Noted (now s) places ⌝ }
     ensures { λ r. ⌜
         r ≡ settingsFrom flags (λ (k : ℕ). cond (isNamed (now (s .entry)) k) (heldIn (now (s .entry)) k) (contentsOf x k))
         ⌝ }
 {
+    let fixed = fixed_over(s, places, fixed_of(x));
+    let enroute = fixed.enroute;
+    let ascent = fixed.ascent;
+    let hours = fixed.hours;
     Settings {
         flags,
         regions: regions_over(s, places[2], x.regions),
         airports: airports_over(s, places[3], x.airports),
-        enroute: enroute_over(s, places[4], x.enroute),
-        ascent: ascent_over(s, places[5], x.ascent),
-        routine6: digit_over(s, 6, places[6], x.routine6),
-        routine8: digit_over(s, 8, places[8], x.routine8),
-        hours: hours_over(s, places[9], x.hours),
+        enroute,
+        ascent,
+        routine6: fixed.routine6,
+        routine8: fixed.routine8,
+        hours,
     }
 }
 
 // ---- The digits of the first 22 bytes
+
+// A digit that is a byte by itself.
+fn mark_at(s: &[u8], at: usize) -> u8
+    requires { ⌜ (at + 1 ≤ length (now s)) × (48 ≤ getD (now s) at 0) ⌝ }
+    ensures { λ r. ⌜ r ≡ getD (now (s .entry)) at 0 - 48 ⌝ }
+{
+    s[at] - b'0'
+}
 
 pub fn flags_of(s: &[u8]) -> [u8; 7]
     requires { ⌜ checkCommand (now s) ≡ Fine ⌝ }
@@ -157,90 +153,7 @@ fn named_of(s: &[u8]) -> [u8; 8]
     ]
 }
 
-// ---- Nothing, which is all zero
-
-fn no_boxes() -> Boxes
-    ensures { λ r. ⌜ r ≡ noBoxes ⌝ }
-{
-    let none = no_region();
-    Boxes {
-        count: 0,
-        regions: [none; 16],
-    }
-}
-
-fn no_phases() -> ByPhase
-    ensures { λ r. ⌜ r ≡ byPhase noAirfields noAirfields ⌝ }
-{
-    let none = Airfields {
-        count: 0,
-        names: [0u8; 80],
-    };
-    ByPhase {
-        ascent: none,
-        descent: none,
-    }
-}
-
-fn no_ascent() -> Ascent
-    ensures { λ r. ⌜ r ≡ ascentFrom [] ⌝ }
-{
-    Ascent {
-        mode: 0,
-        interval1: 0,
-        duration: 0,
-        interval2: 0,
-        total: 0,
-        top: 0,
-        list: 0,
-        timer: 0,
-    }
-}
-
-pub fn no_regions() -> Regions
-    ensures { λ r. ⌜ r ≡ regionsFrom [] ⌝ }
-{
-    Regions {
-        reporting: no_boxes(),
-        inhibiting: no_boxes(),
-    }
-}
-
-pub fn no_airports() -> Airports
-    ensures { λ r. ⌜ r ≡ airportsFrom [] ⌝ }
-{
-    Airports {
-        selected: no_phases(),
-        inhibited: no_phases(),
-        routine: 0,
-    }
-}
-
-// Flags, and sections that hold nothing.
-fn only_flags(flags: [u8; 7]) -> Settings
-    ensures { λ r. ⌜ r ≡ settingsFrom flags (λ (k : ℕ). []) ⌝ }
-{
-    Settings {
-        flags,
-        regions: no_regions(),
-        airports: no_airports(),
-        enroute: Enroute {
-            interval: 0,
-            wind: 0,
-        },
-        ascent: no_ascent(),
-        routine6: 0,
-        routine8: 0,
-        hours: Hours { start: 0, end: 0 },
-    }
-}
-
-// The settings that every refusal carries.
-pub fn no_settings() -> Settings
-    ensures { λ r. ⌜ r ≡ settingsFrom (replicate 7 0) (λ (k : ℕ). []) ⌝ }
-{
-    only_flags([0u8; 7])
-}
+// ---- The whole
 
 // The command that every refusal carries.
 pub fn no_command() -> Command
@@ -254,64 +167,6 @@ pub fn no_command() -> Command
     }
 }
 
-// ---- The whole
-
-// The large sections over nothing: written at once, where those over others are copied.
-fn regions_in(s: &[u8], at: usize) -> Regions
-    requires { ⌜ Stands (now s) 2 at ⌝ }
-    ensures { λ r. ⌜ r ≡ regionsFrom (heldIn (now (s .entry)) 2) ⌝ }
-{
-    if !is_named(s, 2) {
-        return no_regions();
-    }
-    both_lists_at(s, at)
-}
-
-fn airports_in(s: &[u8], at: usize) -> Airports
-    requires { ⌜ Stands (now s) 3 at ⌝ }
-    ensures { λ r. ⌜ r ≡ airportsFrom (heldIn (now (s .entry)) 3) ⌝ }
-{
-    if !is_named(s, 3) {
-        return no_airports();
-    }
-    airports_at(s, lists_at(s, at))
-}
-
-fn ascent_in(s: &[u8], at: usize) -> Ascent
-    requires { ⌜ Stands (now s) 5 at ⌝ }
-    ensures { λ r. ⌜ r ≡ ascentFrom (heldIn (now (s .entry)) 5) ⌝ }
-{
-    if !is_named(s, 5) {
-        return no_ascent();
-    }
-    ascent_at(s, at)
-}
-
-// Flags and sections of an accepted text: those that aren't named are zero. The airports are read first: each of their lists is found
-// behind the one before it, and meanwhile the rest goes on.
-fn settings_of(s: &[u8], places: [usize; 10]) -> Settings
-    requires { ⌜ (checkCommand (now s) ≡ Fine) × Noted (now s) places ⌝ }
-    ensures { λ r. ⌜ r ≡ settingsFrom (flagsOf (now (s .entry))) (heldIn (now (s .entry))) ⌝ }
-{
-    let enroute = Enroute {
-        interval: 0,
-        wind: 0,
-    };
-    let hours = Hours { start: 0, end: 0 };
-    let airports = airports_in(s, places[3]);
-    let regions = regions_in(s, places[2]);
-    Settings {
-        flags: flags_of(s),
-        regions,
-        airports,
-        enroute: enroute_over(s, places[4], enroute),
-        ascent: ascent_in(s, places[5]),
-        routine6: digit_over(s, 6, places[6], 0),
-        routine8: digit_over(s, 8, places[8], 0),
-        hours: hours_over(s, places[9], hours),
-    }
-}
-
 // Whether a text names a section of lists.
 pub fn names_lists(s: &[u8]) -> bool
     requires { ⌜ checkCommand (now s) ≡ Fine ⌝ }
@@ -320,44 +175,42 @@ pub fn names_lists(s: &[u8]) -> bool
     is_named(s, 2) | is_named(s, 3)
 }
 
-// The command of an accepted text that names none: its digits and numbers, all read before the first zero of the record is written.
-pub fn short_of(s: &[u8], places: [usize; 10]) -> Command
+// Flags and sections of a text that names none: its digits and numbers, and no list is looked at.
+fn short_settings(s: &[u8], places: [usize; 11]) -> Settings
     requires { ⌜ (checkCommand (now s) ≡ Fine) × Noted (now s) places ⌝ }
     requires { ⌜ namesLists (now s) ≡ false ⌝ }
-    ensures { λ r. ⌜ r ≡ commandOf (now (s .entry)) ⌝ }
+    ensures { λ r. ⌜ r ≡ settingsFrom (flagsOf (now (s .entry))) (heldIn (now (s .entry))) ⌝ }
 {
     let flags = flags_of(s);
-    let downlink = downlink_of(s);
-    let named = named_of(s);
-    let none = Enroute {
-        interval: 0,
-        wind: 0,
-    };
-    let never = Hours { start: 0, end: 0 };
-    let enroute = enroute_over(s, places[4], none);
-    let ascent = ascent_in(s, places[5]);
-    let routine6 = digit_over(s, 6, places[6], 0);
-    let routine8 = digit_over(s, 8, places[8], 0);
-    let hours = hours_over(s, places[9], never);
-    Command {
-        settings: Settings {
-            flags,
-            regions: no_regions(),
-            airports: no_airports(),
-            enroute,
-            ascent,
-            routine6,
-            routine8,
-            hours,
-        },
-        downlink,
-        named,
-        spare: 0,
+    let fixed = fixed_over(s, places, no_fixed());
+    let enroute = fixed.enroute;
+    let ascent = fixed.ascent;
+    let hours = fixed.hours;
+    Settings {
+        flags,
+        regions: no_regions(),
+        airports: no_airports(),
+        enroute,
+        ascent,
+        routine6: fixed.routine6,
+        routine8: fixed.routine8,
+        hours,
     }
 }
 
+// Flags and sections of an accepted text: those that aren't named are zero.
+fn settings_of(s: &[u8], places: [usize; 11]) -> Settings
+    requires { ⌜ (checkCommand (now s) ≡ Fine) × Noted (now s) places ⌝ }
+    ensures { λ r. ⌜ r ≡ settingsFrom (flagsOf (now (s .entry))) (heldIn (now (s .entry))) ⌝ }
+{
+    if names_lists(s) {
+        return settings_over(no_settings(), flags_of(s), s, places);
+    }
+    short_settings(s, places)
+}
+
 // An accepted text's command.
-pub fn command_of(s: &[u8], places: [usize; 10]) -> Command
+pub fn command_of(s: &[u8], places: [usize; 11]) -> Command
     requires { ⌜ (checkCommand (now s) ≡ Fine) × Noted (now s) places ⌝ }
     ensures { λ r. ⌜ r ≡ commandOf (now (s .entry)) ⌝ }
 {

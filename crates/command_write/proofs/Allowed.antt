@@ -19,12 +19,13 @@ use Rattle.field.specs.declared.Step.the-variants.{Next}
 use Rattle.field.proofs.Decimal.{part-long}
 use Rattle.field.proofs.Local.{after-cases}
 use Rattle.lists.proofs.RoundTrip.{airfields-full, boxes-full}
-use Rattle.section.specs.Layout.{Item, Number, Mark, AirfieldList, BoxList, layoutOf, checkItem, checkItems, itemSize}
+use Rattle.section.specs.Layout.{numbers, Item, Digits, AirfieldList, BoxList, layoutOf, checkItem, checkItems, itemSize}
 use Rattle.section.specs.Contents.{Content, Amount, Names, Areas, namesOf, areasOf, contentAt, contentsAt}
-use Rattle.section.specs.Settings.{settingsFrom, regionsFrom, airportsFrom}
+use Rattle.settings.specs.Settings.{settingsFrom, regionsFrom, airportsFrom}
 use Rattle.section.proofs.Local.{item-sized}
 use Rattle.command.specs.Text.{checkCommand}
-use Rattle.command.specs.Record.{heldIn, commandOf, readCommand, commandAllowed, commandText, writeSeen, leftBy}
+use Rattle.command.specs.Record.{commandOf, readCommand, commandAllowed, commandText, writeSeen, leftBy}
+use Rattle.command.specs.Sections.{isOneOf, heldIn}
 use Rattle.command.specs.Allowed.{allowedCommand}
 use Rattle.command.specs.declared.Command.{Command}
 use Rattle.command.proofs.Parts.{bodyOf, Place, Absent, Present, holds}
@@ -58,8 +59,7 @@ AllFull [] = Unit
 AllFull (c ∷ cs) = Full c × AllFull cs
 
 item-full : (i : Item) (s : List ℕ) (at p : ℕ) → checkItem i s at ≡ Next p → Full (contentAt i s at)
-item-full (Number w least most) s at p e = tt
-item-full (Mark least most) s at p e = tt
+item-full (Digits r) s at p e = tt
 item-full AirfieldList s at p e = airfields-full s at p e
 item-full BoxList s at p e = boxes-full s at p e
 
@@ -92,14 +92,14 @@ holds-full k (x ∷ b) (Absent none) = let z : _≡_ {A = ℕ} 0 1 = cc in absur
 holds-full k (x ∷ b) (Present some own) = items-full (layoutOf k) (x ∷ b) 0 (length (x ∷ b)) own
 
 module _ (s : List ℕ) (a : Accepted s) where
-  held-full : (k i : ℕ) → Place k (bodyOf s k) → Full (getD (heldIn s k) i (Amount 0))
-  held-full k i p = rw (held-own s a k) (full-at (holds k (bodyOf s k)) i (holds-full k (bodyOf s k) p))
+  held-full : (k i : ℕ) → isOneOf numbers k ≡ true → Place k (bodyOf s k) → Full (getD (heldIn s k) i (Amount 0))
+  held-full k i o p = rw (held-own s a k o) (full-at (holds k (bodyOf s k)) i (holds-full k (bodyOf s k) p))
 
   areas : (i : ℕ) → length (areasOf (getD (heldIn s 2) i (Amount 0)) .regions) ≡ 16
-  areas i = areas-full (getD (heldIn s 2) i (Amount 0)) (held-full 2 i (sound s a .sections .0))
+  areas i = areas-full (getD (heldIn s 2) i (Amount 0)) (held-full 2 i refl (sound s a .sections .0))
 
   names : (i : ℕ) → length (namesOf (getD (heldIn s 3) i (Amount 0)) .names) ≡ 80
-  names i = names-full (getD (heldIn s 3) i (Amount 0)) (held-full 3 i (sound s a .sections .1 .0))
+  names i = names-full (getD (heldIn s 3) i (Amount 0)) (held-full 3 i refl (sound s a .sections .1 .0))
 
   -- as the types of its arrays say
   pub read-filled : Filled (commandOf s)

@@ -1,11 +1,11 @@
 -- A command that is not written is refused with a code from 2 to 7, never 0.
 use mathlib.Core.Path.{_≡_, refl}
 use mathlib.Core.Logic.{_↔_}
-use mathlib.Core.Bool.{Bool, true, false, _&&_}
+use mathlib.Core.Bool.{Bool, true, false, _&&_, _||_}
 use mathlib.Core.List.{List, [], _∷_}
 use Prim.Native.Nat.{ℕ, zero, suc, _+_, _≤_}
 use native.Mathlib.Omega.{arith}
-use lib.Dec.{leb}
+use lib.Dec.{leb, eqb}
 use lib.ListN.{length, drop}
 use borrow.Author.Tests.{leb-true}
 use Rattle.text.specs.Checks.{must, _andThen_}
@@ -19,9 +19,10 @@ use Rattle.field.specs.declared.Region.{Region}
 use Rattle.lists.specs.Lists.{namesAllowed, airfieldsAllowed, regionsAllowed, boxesAllowed}
 use Rattle.lists.specs.declared.Airfields.{Airfields}
 use Rattle.lists.specs.declared.Boxes.{Boxes}
-use Rattle.section.specs.Layout.{Item, Number, Mark, AirfieldList, BoxList, layoutOf}
-use Rattle.section.specs.Contents.{Content, namesOf, areasOf, contentText, contentAllowed, contentsAllowed}
-use Rattle.section.specs.Settings.{contentsOf}
+use Rattle.section.specs.Layout.{Item, Digits, AirfieldList, BoxList, layoutOf}
+use Rattle.section.proofs.Rows.{codesFit, table-coded, four-or-five}
+use Rattle.section.specs.Contents.{Content, amountOf, namesOf, areasOf, contentText, contentAllowed, contentsAllowed}
+use Rattle.settings.specs.Settings.{contentsOf}
 use Rattle.command.specs.Record.{flagsAllowed, namedAllowed, names, sectionText, sectionsAllowed, commandAllowed, writeSeen}
 use Rattle.command.specs.declared.Command.{Command}
 use Rattle.command_write.specs.Writing.{wrote}
@@ -73,19 +74,25 @@ airfields-coded at l = search (one, then, names-coded) depth 8
 
 -- ---- Sections
 
-content-coded : (i : Item) (at : ℕ) (c : Content) → Coded (contentAllowed i at c)
-content-coded (Number w least most) at c = search one
-content-coded (Mark least most) at c = search one
-content-coded AirfieldList at c = airfields-coded at (namesOf c)
-content-coded BoxList at c = boxes-coded at (areasOf c)
+digits-coded : (ok : Bool) (code at : ℕ) → (eqb code 4 || eqb code 5) ≡ true → Coded (must ok code at)
+digits-coded ok code at e = one ok code at (four-or-five (λ n. leb 2 n && leb n 7) code refl refl e)
 
-contents-coded : (is : List Item) (at : ℕ) (cs : List Content) → Coded (contentsAllowed is at cs)
-unfolding contentsAllowed
-contents-coded [] at cs = record { coded = refl }
-contents-coded (i ∷ is) at [] = record { coded = refl }
-contents-coded (i ∷ is) at (c ∷ cs) =
-    let next = at + length (contentText i c) in
-    then (contentAllowed i at c) (contentsAllowed is next cs) (content-coded i at c) (contents-coded is next cs)
+contents-coded : (is : List Item) (at : ℕ) (cs : List Content) → codesFit is ≡ true → Coded (contentsAllowed is at cs)
+unfolding contentsAllowed codesFit
+contents-coded [] at cs e = record { coded = refl }
+contents-coded (i ∷ is) at [] e = record { coded = refl }
+contents-coded (Digits r ∷ is) at (c ∷ cs) e =
+    let next = at + length (contentText (Digits r) c) in
+    let fits = eqb (r .code) 4 || eqb (r .code) 5 in
+    then (contentAllowed (Digits r) at c) (contentsAllowed is next cs)
+    (digits-coded (leb (r .least) (amountOf c) && leb (amountOf c) (r .most)) (r .code) at (both-left fits (codesFit is) e))
+    (contents-coded is next cs (both-right fits (codesFit is) e))
+contents-coded (AirfieldList ∷ is) at (c ∷ cs) e =
+    let next = at + length (contentText AirfieldList c) in
+    then (contentAllowed AirfieldList at c) (contentsAllowed is next cs) (airfields-coded at (namesOf c)) (contents-coded is next cs e)
+contents-coded (BoxList ∷ is) at (c ∷ cs) e =
+    let next = at + length (contentText BoxList c) in
+    then (contentAllowed BoxList at c) (contentsAllowed is next cs) (boxes-coded at (areasOf c)) (contents-coded is next cs e)
 
 sections-coded : (ks : List ℕ) (at : ℕ) (c : Command) → Coded (sectionsAllowed ks at c)
 unfolding sectionsAllowed
@@ -95,7 +102,7 @@ sections-coded (k ∷ ks) at c =
     by-test (names c k)
     (λ (n : names c k ≡ true).
     let next = at + length (sectionText c k) in
-    rw n (then (contentsAllowed (layoutOf k) at cs) (sectionsAllowed ks next c) (contents-coded (layoutOf k) at cs) (sections-coded ks next c)))
+    rw n (then (contentsAllowed (layoutOf k) at cs) (sectionsAllowed ks next c) (contents-coded (layoutOf k) at cs (table-coded k)) (sections-coded ks next c)))
     (λ (n : names c k ≡ false). let rest = sections-coded ks at c in rw n (search (one, then)))
 
 -- ---- The whole

@@ -11,22 +11,24 @@ use Rattle.text.specs.Parts.{part}
 use Rattle.text.specs.declared.Seen.the-variants.{Fine}
 use Rattle.text.proofs.Cases.{by-test, by-eq, both-left, both-right}
 use Rattle.lists.specs.Lists.{allZero, regionsZero}
-use Rattle.section.specs.Layout.{layoutOf, isEmpty}
+use Rattle.section.specs.Layout.{layoutOf, tableOf, isEmpty, numbers}
 use Rattle.section.specs.Contents.{Content, contentsAt, contentsAllowed}
-use Rattle.section.specs.Settings.{contentsOf, settingsFrom, regionsFrom, airportsFrom, enrouteFrom, ascentFrom, hoursFrom}
+use Rattle.settings.specs.Settings.{contentsOf, fixedHold, settingsFrom, regionsFrom, airportsFrom, enrouteFrom, ascentFrom, hoursFrom}
 use Rattle.section.proofs.Allowed.{contents-fine}
 use Rattle.section.proofs.Own.{own-some}
 use Rattle.section.proofs.RoundTrip.{own-written}
-use Rattle.command.specs.Text.{isFlag, isIndicator, numbers, isNamed}
-use Rattle.command.specs.Record.{heldIn, digitsOf, flagsOf, commandOf, flagAllowed, flagsAllowed, namedAllowed, areZero, names, sectionText, sectionsAllowed, commandAllowed, digitBytes, sectionsText, commandText}
-use Rattle.command_write.specs.Writing.{textIf}
+use Rattle.command.specs.Text.{isFlag, isIndicator, isNamed}
+use Rattle.command.specs.Record.{digitsOf, flagsOf, commandOf, flagAllowed, flagsAllowed, namedAllowed, names, sectionText, sectionsAllowed, commandAllowed, digitBytes, sectionsText, commandText}
+use Rattle.settings.specs.Valid.{areZero}
+use Rattle.command.specs.Sections.{heldIn}
+use Rattle.settings.specs.Inner.{textIf}
 use Rattle.command.specs.declared.Command.{Command}
 use Rattle.command.proofs.Allowed.{indicated}
 use Rattle.command.proofs.Each.{Each, Rising, each-with}
 use Rattle.command.proofs.Head.{passes}
 use Rattle.command.proofs.Parts.{present, bodies, textOf, bodyOf, Place, Absent, Present, holds}
 use Rattle.command.proofs.Marks.{byteOf, indicators}
-use Rattle.command.proofs.Accepted.{Accepted, rising, sound, marked, spelt, indicators-are, named-present, held-own, downlink-byte}
+use Rattle.command.proofs.Accepted.{Accepted, rising, sound, marked, spelt, indicators-are, named-present, held-each, downlink-byte}
 use Rattle.command_write.proofs.Writing.{text-first}
 
 -- ---- Digits
@@ -110,13 +112,13 @@ named-back (k ∷ ks) lo place g some r i =
 module _ (fs : List ℕ) (h : ℕ → List Content) where
   -- what the record holds of a section that was read is what was read
   pub read-held : Each (λ k. (b : List ℕ) → h k ≡ contentsAt (layoutOf k) b 0 → contentsOf (settingsFrom fs h) k ≡ h k) numbers
-  unfolding contentsOf settingsFrom regionsFrom airportsFrom enrouteFrom ascentFrom hoursFrom layoutOf contentsAt
+  unfolding contentsOf fixedHold settingsFrom regionsFrom airportsFrom enrouteFrom ascentFrom hoursFrom layoutOf tableOf contentsAt
   read-held =
       (λ b e. rw e, (λ b e. rw e, (λ b e. rw e, (λ b e. rw e, (λ b e. rw e, (λ b e. sym e, (λ b e. rw e, (λ b e. rw e, tt))))))))
 
   -- and of one that wasn't named nothing: all zero
   pub unread-zero : Each (λ k. h k ≡ [] → areZero (contentsOf (settingsFrom fs h) k) ≡ true) numbers
-  unfolding contentsOf settingsFrom regionsFrom airportsFrom enrouteFrom ascentFrom hoursFrom areZero allZero regionsZero
+  unfolding contentsOf fixedHold settingsFrom regionsFrom airportsFrom enrouteFrom ascentFrom hoursFrom areZero allZero regionsZero
   unread-zero = (λ e. rw e, (λ e. rw e, (λ e. rw e, (λ e. rw e, (λ e. rw e, (λ e. refl, (λ e. rw e, (λ e. rw e, tt))))))))
 
 -- a section of a record that is fine: allowed where it is named, else zero
@@ -212,14 +214,16 @@ module _ (s : List ℕ) (a : Accepted s) where
   sections-back =
       let fs = flagsOf s in
       let h = heldIn s in
-      each-with (λ k. Place k (bodyOf s k))
+      each-with (λ k. Place k (bodyOf s k) × (h k ≡ holds k (bodyOf s k)))
       (λ k.
       (names c k ≡ present (bodyOf s k))
       × ((y : List ℕ) → h k ≡ contentsAt (layoutOf k) y 0 → contentsOf (settingsFrom fs h) k ≡ h k)
       × (h k ≡ [] → areZero (contentsOf (settingsFrom fs h) k) ≡ true))
       (λ k. (textIf (names c k) k (contentsOf (c .settings) k) ≡ bodyOf s k) × Good c k)
-      (λ k p q. section-back c k (bodyOf s k) (h k) p (q .0) (held-own s a k) (q .1) (q .2))
-      numbers (sound s a .sections)
+      (λ k p q. section-back c k (bodyOf s k) (h k) (p .0) (q .0) (p .1) (q .1) (q .2))
+      numbers
+      (each-with (λ k. Place k (bodyOf s k)) (λ k. h k ≡ holds k (bodyOf s k)) (λ k. Place k (bodyOf s k) × (h k ≡ holds k (bodyOf s k))) (λ k p e. (p, e))
+      numbers (sound s a .sections) (held-each s a))
       (each-with (λ k. names c k ≡ present (bodyOf s k))
       (λ k. ((y : List ℕ) → h k ≡ contentsAt (layoutOf k) y 0 → contentsOf (settingsFrom fs h) k ≡ h k)
       × (h k ≡ [] → areZero (contentsOf (settingsFrom fs h) k) ≡ true))

@@ -13,23 +13,25 @@ use Rattle.text.specs.Parts.{part}
 use Rattle.text.specs.declared.Seen.the-variants.{Fine}
 use Rattle.text.proofs.Cases.{by-test, by-eq, both-left, both-right}
 use Rattle.text.proofs.Checks.{must-held, both-fine}
-use Rattle.section.specs.Layout.{layoutOf, isEmpty}
+use Rattle.section.specs.Layout.{layoutOf, tableOf, isEmpty, numbers}
 use Rattle.section.specs.Contents.{Content, Amount, Names, Areas, contentsText, contentsAllowed}
-use Rattle.section.specs.Settings.{contentsOf, settingsFrom, regionsFrom, airportsFrom, enrouteFrom, ascentFrom, hoursFrom, amountIn}
+use Rattle.settings.specs.Settings.{contentsOf, fixedHold, settingsFrom, regionsFrom, airportsFrom, enrouteFrom, ascentFrom, hoursFrom, amountIn}
 use Rattle.section.proofs.Own.{own-some}
 use Rattle.section.proofs.RoundTrip.{Shaped, written-own}
-use Rattle.section.proofs.Kept.{regions-kept, airports-kept, enroute-kept, ascent-kept, digit-kept, hours-kept}
-use Rattle.command.specs.Text.{isFlag, isDownlink, numbers, checkCommand}
-use Rattle.command.specs.Record.{heldIn, digitsOf, commandOf, flagAllowed, flagsAllowed, namedAllowed, marksAllowed, isZero, areZero, names, sectionText, sectionsAllowed, commandAllowed, digitBytes, commandText}
+use Rattle.settings.proofs.Kept.{regions-kept, airports-kept, enroute-kept, ascent-kept, digit-kept, hours-kept}
+use Rattle.command.specs.Text.{isFlag, isDownlink, checkCommand}
+use Rattle.command.specs.Record.{digitsOf, commandOf, flagAllowed, flagsAllowed, namedAllowed, marksAllowed, names, sectionText, sectionsAllowed, commandAllowed, digitBytes, commandText}
+use Rattle.settings.specs.Valid.{isZero, areZero}
+use Rattle.command.specs.Sections.{heldIn}
 use Rattle.command_write.specs.Filled.{Filled}
-use Rattle.command_write.specs.Writing.{textIf}
+use Rattle.settings.specs.Inner.{textIf}
 use Rattle.command.specs.declared.Command.{Command}
 use Rattle.command.proofs.Allowed.{indicated, eight-values}
 use Rattle.command.proofs.Each.{Each, each-with, each-map}
 use Rattle.command.proofs.Head.{passes}
 use Rattle.command.proofs.Parts.{Parts, markOf, marks, textOf, bodyOf, Place, Absent, Present, Sound, holds}
 use Rattle.command.proofs.Walk.{holds-some}
-use Rattle.command.proofs.Accepted.{accepted, held-own}
+use Rattle.command.proofs.Accepted.{accepted, held-each}
 use Rattle.command.proofs.Written.{flags-back, downlink-back, marks-back, bodies-back, text-accepted, text-fine}
 use Rattle.command_write.proofs.Writing.{named-at, headAllowed, allowed-halves, sections-named}
 use Rattle.command_write.proofs.ReadBack.{texts-are, flagsN, read-allowed, read-written}
@@ -144,7 +146,7 @@ zero-more d cs e = (both-left (isZero d) (areZero cs) e, both-right (isZero d) (
 
 -- each section has its layout's kinds of contents
 pub shaped : (c : Command) → Filled c → Each (λ k. Shaped (layoutOf k) (contentsOf (c .settings) k)) numbers
-unfolding layoutOf contentsOf
+unfolding layoutOf tableOf contentsOf fixedHold
 shaped c full =
     let ten : 1 < 10 = lit< tt in
     let sixty : 60 < 100 = lit< tt in
@@ -154,7 +156,7 @@ shaped c full =
         (full .selected .0, (full .selected .1, (full .inhibited .0, (full .inhibited .1, (ten, tt))))),
         (
           (sixty, (ten, tt)),
-          ((tt, (lit< tt, (lit< tt, (sixty, (lit< tt, (lit< tt, (tt, (tt, tt)))))))), ((ten, tt), (tt, ((ten, tt), ((hour, (hour, tt)), tt))))),
+          ((ten, (lit< tt, (lit< tt, (sixty, (lit< tt, (lit< tt, (lit< tt, (ten, tt)))))))), ((ten, tt), (tt, ((ten, tt), ((hour, (hour, tt)), tt))))),
         ),
       ),
     )
@@ -246,11 +248,14 @@ module _ (c : Command) (full : Filled c) (fine : commandAllowed c ≡ Fine) wher
   -- what each section of that text holds
   held-back : Each (λ k. heldIn (textOf parts) k ≡ cond (names c k) (held k) []) numbers
   held-back =
-      each-with (λ k. bodyOf (textOf parts) k ≡ body k) (λ k. Kept k (value k) (names c k) (held k))
+      each-with (λ k. heldIn (textOf parts) k ≡ holds k (body k)) (λ k. Kept k (value k) (names c k) (held k))
       (λ k. heldIn (textOf parts) k ≡ cond (names c k) (held k) [])
-      (λ k (b : bodyOf (textOf parts) k ≡ body k) (x : Kept k (value k) (names c k) (held k)).
-      held-own (textOf parts) (text-accepted parts sound-parts) k ∙ ap (holds k) b ∙ x .reads)
-      numbers (bodies-back parts sound-parts) all-kept
+      (λ k (h : heldIn (textOf parts) k ≡ holds k (body k)) (x : Kept k (value k) (names c k) (held k)). h ∙ x .reads)
+      numbers
+      (each-with (λ k. heldIn (textOf parts) k ≡ holds k (bodyOf (textOf parts) k)) (λ k. bodyOf (textOf parts) k ≡ body k)
+      (λ k. heldIn (textOf parts) k ≡ holds k (body k)) (λ k h b. h ∙ ap (holds k) b) numbers
+      (held-each (textOf parts) (text-accepted parts sound-parts)) (bodies-back parts sound-parts))
+      all-kept
 
   -- no text is longer than the longest
   pub written-short : length (commandText c) ≤ 835
@@ -260,7 +265,7 @@ module _ (c : Command) (full : Filled c) (fine : commandAllowed c ≡ Fine) wher
   unnamed = sections-zero numbers 22 c (halves .1)
 
   regions-back : regionsFrom (heldIn (textOf parts) 2) ≡ c .settings .regions
-  unfolding contentsOf
+  unfolding contentsOf fixedHold
   regions-back =
       let x = c .settings .regions in
       regions-kept x (full .reporting) (full .inhibiting) (names c 2) (heldIn (textOf parts) 2) (held-back .0)
@@ -270,7 +275,7 @@ module _ (c : Command) (full : Filled c) (fine : commandAllowed c ≡ Fine) wher
       (a .0, b .0))
 
   airports-back : airportsFrom (heldIn (textOf parts) 3) ≡ c .settings .airports
-  unfolding contentsOf
+  unfolding contentsOf fixedHold
   airports-back =
       let x = c .settings .airports in
       airports-kept x (full .selected) (full .inhibited) (names c 3) (heldIn (textOf parts) 3) (held-back .1 .0)
@@ -287,7 +292,7 @@ module _ (c : Command) (full : Filled c) (fine : commandAllowed c ≡ Fine) wher
       ((a .0, b .0), (d .0, e .0), f .0))
 
   enroute-back : enrouteFrom (heldIn (textOf parts) 4) ≡ c .settings .enroute
-  unfolding contentsOf
+  unfolding contentsOf fixedHold
   enroute-back =
       let x = c .settings .enroute in
       enroute-kept x (names c 4) (heldIn (textOf parts) 4) (held-back .1 .1 .0)
@@ -297,7 +302,7 @@ module _ (c : Command) (full : Filled c) (fine : commandAllowed c ≡ Fine) wher
       (a .0, b .0))
 
   ascent-back : ascentFrom (heldIn (textOf parts) 5) ≡ c .settings .ascent
-  unfolding contentsOf
+  unfolding contentsOf fixedHold
   ascent-back =
       let x = c .settings .ascent in
       ascent-kept x (names c 5) (heldIn (textOf parts) 5) (held-back .1 .1 .1 .0)
@@ -329,21 +334,21 @@ module _ (c : Command) (full : Filled c) (fine : commandAllowed c ≡ Fine) wher
       })
 
   routine6-back : amountIn (heldIn (textOf parts) 6) 0 ≡ c .settings .routine6
-  unfolding contentsOf
+  unfolding contentsOf fixedHold
   routine6-back =
       let d = c .settings .routine6 in
       digit-kept d (names c 6) (heldIn (textOf parts) 6) (held-back .1 .1 .1 .1 .0)
       (λ (n : names c 6 ≡ false). zero-more (Amount d) [] (unnamed .1 .1 .1 .1 .0 n) .0)
 
   routine8-back : amountIn (heldIn (textOf parts) 8) 0 ≡ c .settings .routine8
-  unfolding contentsOf
+  unfolding contentsOf fixedHold
   routine8-back =
       let d = c .settings .routine8 in
       digit-kept d (names c 8) (heldIn (textOf parts) 8) (held-back .1 .1 .1 .1 .1 .1 .0)
       (λ (n : names c 8 ≡ false). zero-more (Amount d) [] (unnamed .1 .1 .1 .1 .1 .1 .0 n) .0)
 
   hours-back : hoursFrom (heldIn (textOf parts) 9) ≡ c .settings .hours
-  unfolding contentsOf
+  unfolding contentsOf fixedHold
   hours-back =
       let x = c .settings .hours in
       hours-kept x (names c 9) (heldIn (textOf parts) 9) (held-back .1 .1 .1 .1 .1 .1 .1 .0)

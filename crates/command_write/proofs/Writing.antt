@@ -1,11 +1,11 @@
 -- Steps of the record's own check and of the writer.
 use mathlib.Core.Path.{_≡_, refl, sym, ap, _∙_}
-use mathlib.Core.Bool.{Bool, true, false, cond, _&&_, _||_, not, and-assoc, and-true}
+use mathlib.Core.Bool.{Bool, true, false, cond, _&&_, _||_, not}
 use mathlib.Core.List.{List, [], _∷_, _++_, append-assoc, append-nil}
 use Prim.Native.Nat.{ℕ, zero, suc, _+_, _-_, _≤_, _<_}
 use native.Mathlib.Omega.{arith}
 use native.Mathlib.Numerals.{add-one}
-use lib.Dec.{leb, eqb, lit<}
+use lib.Dec.{leb, eqb}
 use lib.ListN.{length, getD, set, take, drop, length-append, length-map, drop-of-length-le}
 use lib.Seq.{drop-cons, take-all}
 use borrow.Author.Tests.{eqb-true, leb-true}
@@ -15,25 +15,27 @@ use Rattle.text.specs.declared.Seen.the-variants.{Fine, Bad}
 use Rattle.text.proofs.Cases.{by-test, by-lt, both-right}
 use Rattle.text.proofs.Checks.{must-held, both-fine}
 use Rattle.text.specs.Over.{over}
-use Rattle.text.proofs.Over.{over-turn, then-part, length-then}
-use Rattle.text.proofs.Parts.{part-length}
-use borrow.Rule.Slice.PartMut.{putMid}
+use Rattle.text.proofs.Over.{over-turn}
 use Rattle.text.proofs.Table.{at}
 use Rattle.field.proofs.Accepted.{stop-next}
 use Rattle.field.specs.Fields.{after}
 use Rattle.field.specs.declared.Step.{Step}
 use Rattle.field.specs.declared.Step.the-variants.{Next, Stop}
-use Rattle.section.specs.Layout.{layoutOf, isEmpty}
-use Rattle.section.specs.Contents.{Content, Names, Areas, contentsText, contentsAllowed}
-use Rattle.section.specs.Settings.{contentsOf, regionsHold, airportsHold}
-use Rattle.section.specs.declared.Regions.{Regions}
-use Rattle.section.specs.declared.Airports.{Airports}
-use Rattle.section.specs.Turn.{goesOn, contentsTurn, Reaches}
-use Rattle.section.proofs.Short.{goes-reaches, contents-anywhere}
-use Rattle.command.specs.Text.{awr04, numbers}
-use Rattle.command.specs.Record.{flagAllowed, flagsAllowed, namedAllowed, marksAllowed, isZero, areZero, names, sectionText, sectionsAllowed, commandAllowed, digitBytes, sectionsText, commandText, writeSeen}
+use Rattle.section.specs.Layout.{layoutOf, isEmpty, numbers}
+use Rattle.section.specs.Contents.{contentsText, contentsAllowed}
+use Rattle.settings.specs.Settings.{contentsOf, fixedOf, fixedHold}
+use Rattle.settings.specs.declared.Fixed.{Fixed}
+use Rattle.settings.proofs.ByNumber.{contents-fixed}
+use Rattle.command.proofs.Each.{Each}
+use Rattle.command.proofs.Checking.{numbers-next}
+use Rattle.settings.specs.Inner.{passSection, textIf}
+use Rattle.section.specs.Inner.{goesOn}
+use Rattle.section.proofs.Short.{contents-anywhere}
+use Rattle.command.specs.Text.{awr04}
+use Rattle.command.specs.Record.{flagAllowed, flagsAllowed, namedAllowed, marksAllowed, names, sectionText, sectionsAllowed, commandAllowed, digitBytes, sectionsText, commandText, writeSeen}
+use Rattle.settings.specs.Valid.{areZero}
 use Rattle.command.proofs.Allowed.{indicated}
-use Rattle.command_write.specs.Writing.{sectionTurn, recordTurns, front, back, headText, textIf, AllNamed, Digits}
+use Rattle.command_write.specs.Inner.{passSections, passNumbered, numberedText, headText, AllNamed, Digits}
 use Rattle.command.specs.declared.Command.{Command}
 
 -- what is left of a list, from its i-th entry on
@@ -91,44 +93,25 @@ named-at (k ∷ ks) (v ∷ vs) place zero e h =
 named-at (k ∷ ks) (v ∷ vs) place (suc i) e h =
     named-at ks vs (place + 1) i (both-fine (must (indicated k v) 4 place) (namedAllowed ks (place + 1) vs) e .1) (omega arith)
 
-zero-alone : (v : ℕ) → (eqb v 0 || (false && eqb v 7)) ≡ true → v ≡ 0
-zero-alone v e = eqb-true v 0 (go (eqb v 0) e)
-  where
-    go : (t : Bool) → (t || false) ≡ true → t ≡ true
-    go true w = refl
-    go false w = w
-
--- there is no section 7: it is never named
-pub no-seven : (c : Command) → namedAllowed numbers 13 (c .named) ≡ Fine → names c 7 ≡ false
-unfolding layoutOf
-no-seven c e =
-    let z : getD (c .named) 5 0 ≡ 0 = zero-alone (getD (c .named) 5 0) (named-at numbers (c .named) 13 5 e (lit< tt)) in
-    rw z
-
--- ---- Sections in their turn
+-- ---- Sections, one after the other
 
 module _ (k : ℕ) (ks : List ℕ) (at : ℕ) (c : Command) where
-  abbrev turn : Step
-  turn = sectionTurn (names c k) k at (contentsOf (c .settings) k)
+  abbrev passed : Step
+  passed = passSection (names c k) k at (contentsOf (c .settings) k)
 
   -- a section that is refused ends the check
-  pub turns-stop : (code place : ℕ) → turn ≡ Stop code place → recordTurns (k ∷ ks) at c ≡ Stop code place
-  unfolding recordTurns
-  turns-stop code place e = rw e
+  pub sections-stop : (code place : ℕ) → passed ≡ Stop code place → passSections (k ∷ ks) at c ≡ Stop code place
+  unfolding passSections
+  sections-stop code place e = rw e
 
   -- any other goes on from where it ends
-  pub turns-on : (p : ℕ) → turn ≡ Next p → recordTurns (k ∷ ks) at c ≡ recordTurns ks p c
-  unfolding recordTurns
-  turns-on p e = rw e
+  pub sections-on : (p : ℕ) → passed ≡ Next p → passSections (k ∷ ks) at c ≡ passSections ks p c
+  unfolding passSections
+  sections-on p e = rw e
 
-after-next : (r : Step) → after r (λ (p : ℕ). Next p) ≡ r
+pub after-next : (r : Step) → after r (λ (p : ℕ). Next p) ≡ r
 after-next (Next p) = refl
 after-next (Stop code place) = refl
-
--- the last one decides
-pub turns-last : (k at : ℕ) (c : Command) → recordTurns (k ∷ []) at c ≡ sectionTurn (names c k) k at (contentsOf (c .settings) k)
-unfolding recordTurns
-turns-last k at c = after-next (sectionTurn (names c k) k at (contentsOf (c .settings) k))
 
 after-assoc : (r : Step) (f g : ℕ → Step) → after (after r f) g ≡ after r (λ (p : ℕ). after (f p) g)
 after-assoc (Next p) f g = refl
@@ -138,49 +121,73 @@ after-same : (r : Step) (f g : ℕ → Step) → ((p : ℕ) → f p ≡ g p) →
 after-same (Next p) f g e = e p
 after-same (Stop code place) f g e = refl
 
-turns-append : (xs ys : List ℕ) (at : ℕ) (c : Command) → recordTurns (xs ++ ys) at c ≡ after (recordTurns xs at c) (λ (p : ℕ). recordTurns ys p c)
-unfolding recordTurns
-turns-append [] ys at c = refl
-turns-append (k ∷ xs) ys at c =
-    let r = sectionTurn (names c k) k at (contentsOf (c .settings) k) in
-    after-same r (λ (p : ℕ). recordTurns (xs ++ ys) p c) (λ (p : ℕ). after (recordTurns xs p c) (λ (q : ℕ). recordTurns ys q c))
-    (λ (p : ℕ). turns-append xs ys p c)
-    ∙ sym (after-assoc r (λ (p : ℕ). recordTurns xs p c) (λ (q : ℕ). recordTurns ys q c))
+pub sections-append : (xs ys : List ℕ) (at : ℕ) (c : Command) → passSections (xs ++ ys) at c ≡ after (passSections xs at c) (λ (p : ℕ). passSections ys p c)
+unfolding passSections
+sections-append [] ys at c = refl
+sections-append (k ∷ xs) ys at c =
+    let r = passSection (names c k) k at (contentsOf (c .settings) k) in
+    after-same r (λ (p : ℕ). passSections (xs ++ ys) p c) (λ (p : ℕ). after (passSections xs p c) (λ (q : ℕ). passSections ys q c))
+    (λ (p : ℕ). sections-append xs ys p c)
+    ∙ sym (after-assoc r (λ (p : ℕ). passSections xs p c) (λ (q : ℕ). passSections ys q c))
 
--- section 7, which there isn't, is passed by
-seven-by : (at : ℕ) (c : Command) → names c 7 ≡ false → recordTurns (6 ∷ 7 ∷ 8 ∷ 9 ∷ []) at c ≡ recordTurns back at c
-unfolding recordTurns contentsOf areZero
-seven-by at c e = rw e
-
--- the sections up to 5, then those from 6 on
-pub turns-halves : (c : Command) → names c 7 ≡ false
-    → recordTurns numbers 22 c ≡ after (recordTurns front 22 c) (λ (p : ℕ). recordTurns back p c)
-turns-halves c e =
-    turns-append front (6 ∷ 7 ∷ 8 ∷ 9 ∷ []) 22 c
-    ∙ after-same (recordTurns front 22 c) (λ (p : ℕ). recordTurns (6 ∷ 7 ∷ 8 ∷ 9 ∷ []) p c) (λ (p : ℕ). recordTurns back p c) (λ (p : ℕ). seven-by p c e)
-
-turn-seen : (x : Seen) (q : ℕ) (more : ℕ → Step) (y : Seen) (n : ℕ) → more q ≡ goesOn y n → after (goesOn x q) more ≡ goesOn (x andThen y) n
-turn-seen Fine q more y n e = e
-turn-seen (Bad code place) q more y n e = refl
+then-seen : (x : Seen) (q : ℕ) (more : ℕ → Step) (y : Seen) (n : ℕ) → more q ≡ goesOn y n → after (goesOn x q) more ≡ goesOn (x andThen y) n
+then-seen Fine q more y n e = e
+then-seen (Bad code place) q more y n e = refl
 
 -- turn by turn the sections are checked as the record's own check says, up to where their text would end
-pub turns-are : (ks : List ℕ) (at : ℕ) (c : Command) → recordTurns ks at c ≡ goesOn (sectionsAllowed ks at c) (at + length (sectionsText ks c))
-unfolding recordTurns sectionsAllowed sectionsText sectionText
-turns-are [] at c = ap Next (omega arith)
-turns-are (k ∷ ks) at c =
+pub sections-are : (ks : List ℕ) (at : ℕ) (c : Command) → passSections ks at c ≡ goesOn (sectionsAllowed ks at c) (at + length (sectionsText ks c))
+unfolding passSections sectionsAllowed sectionsText sectionText
+sections-are [] at c = ap Next (omega arith)
+sections-are (k ∷ ks) at c =
     let cs = contentsOf (c .settings) k in
     let t = contentsText (layoutOf k) cs in
     by-test (names c k)
     (λ (n : names c k ≡ true).
     let m : at + length t + length (sectionsText ks c) ≡ at + length (t ++ sectionsText ks c) = simp length-append (omega arith) in
     rw n
-    (turn-seen (contentsAllowed (layoutOf k) at cs) (at + length t) (λ (p : ℕ). recordTurns ks p c)
+    (then-seen (contentsAllowed (layoutOf k) at cs) (at + length t) (λ (p : ℕ). passSections ks p c)
     (sectionsAllowed ks (at + length t) c) (at + length (t ++ sectionsText ks c))
-    (turns-are ks (at + length t) c ∙ ap (goesOn (sectionsAllowed ks (at + length t) c)) m)))
+    (sections-are ks (at + length t) c ∙ ap (goesOn (sectionsAllowed ks (at + length t) c)) m)))
     (λ (n : names c k ≡ false).
     rw n
-    (turn-seen (must (areZero cs) 7 at) at (λ (p : ℕ). recordTurns ks p c) (sectionsAllowed ks at c)
-    (at + length (sectionsText ks c)) (turns-are ks at c)))
+    (then-seen (must (areZero cs) 7 at) at (λ (p : ℕ). passSections ks p c) (sectionsAllowed ks at c)
+    (at + length (sectionsText ks c)) (sections-are ks at c)))
+
+-- sections of numbers, by their own part of the record
+pub numbered-are : (ks : List ℕ) (at : ℕ) (c : Command) → Each (λ k. 4 ≤ k) ks → passNumbered ks at (fixedOf (c .settings)) (c .named) ≡ passSections ks at c
+unfolding passNumbered passSections
+numbered-are [] at c h = refl
+numbered-are (k ∷ ks) at c h =
+    rw (← contents-fixed (c .settings) k (h .0))
+    (after-same (passSection (names c k) k at (contentsOf (c .settings) k)) (λ (p : ℕ). passNumbered ks p (fixedOf (c .settings)) (c .named))
+    (λ (p : ℕ). passSections ks p c) (λ (p : ℕ). numbered-are ks p c (h .1)))
+
+module _ (x : Fixed) (named : List ℕ) (k : ℕ) (lo : 2 ≤ k) (hi : k < 10) (at : ℕ) where
+  abbrev own : Step
+  own = passSection (eqb (getD named (k - 2) 0) k) k at (fixedHold x k)
+
+  -- one that is refused ends the check, any other goes on from where it ends
+  pub numbered-stop : (code place : ℕ) → own ≡ Stop code place → passNumbered (drop (k - 2) numbers) at x named ≡ Stop code place
+  unfolding passNumbered
+  numbered-stop code place e = rw (numbers-next k lo hi, e)
+
+  pub numbered-on : (p : ℕ) → own ≡ Next p → passNumbered (drop (k - 2) numbers) at x named ≡ passNumbered (drop (k + 1 - 2) numbers) p x named
+  unfolding passNumbered
+  numbered-on p e = rw (numbers-next k lo hi, e)
+
+  -- one more is written
+  pub numbered-text : numberedText (drop (k - 2) numbers) x named
+      ≡ textIf (eqb (getD named (k - 2) 0) k) k (fixedHold x k) ++ numberedText (drop (k + 1 - 2) numbers) x named
+  unfolding numberedText
+  numbered-text = rw (numbers-next k lo hi)
+
+pub numbered-end : (x : Fixed) (named : List ℕ) (k at : ℕ) → 10 ≤ k → passNumbered (drop (k - 2) numbers) at x named ≡ Next at
+unfolding passNumbered
+numbered-end x named k at h = rw (drop-of-length-le numbers {i = k - 2} (omega arith))
+
+pub numbered-texts-end : (x : Fixed) (named : List ℕ) (k : ℕ) → 10 ≤ k → numberedText (drop (k - 2) numbers) x named ≡ []
+unfolding numberedText
+numbered-texts-end x named k h = rw (drop-of-length-le numbers {i = k - 2} (omega arith))
 
 -- ---- The whole record
 
@@ -233,52 +240,6 @@ head-named c e =
     let x = both-fine (flagsAllowed 5 (c .settings .flags)) (must (leb (c .downlink) 2) 4 12 andThen marksAllowed c) e in
     marks-named c (both-fine (must (leb (c .downlink) 2) 4 12) (marksAllowed c) (x .1) .1)
 
--- ---- What the functions of the sections' turns owe
-
-module _ (k most at : ℕ) (cs : List Content) (r : Step) (named : Bool) where
-  -- a named section
-  pub turn-named : named ≡ true → (r ≡ contentsTurn (layoutOf k) at cs) × Reaches (at + most) r → (r ≡ sectionTurn named k at cs) × Reaches (at + most) r
-  turn-named n e = (rw n (e .0), e .1)
-
-  -- one that isn't named
-  pub turn-unnamed : named ≡ false → r ≡ goesOn (must (areZero cs) 7 at) at → (r ≡ sectionTurn named k at cs) × Reaches (at + most) r
-  turn-unnamed n e = (rw n e, rw e (goes-reaches (must (areZero cs) 7 at) at (at + most) (λ f. omega arith)))
-
--- ---- Sections that aren't named
-
--- section 2 is zero when both of its lists are
-pub regions-nothing : (x : Regions) → (isZero (Areas (x .reporting)) && isZero (Areas (x .inhibiting))) ≡ areZero (regionsHold x)
-unfolding areZero
-regions-nothing x = go (isZero (Areas (x .reporting))) (isZero (Areas (x .inhibiting)))
-  where
-    go : (a b : Bool) → (a && b) ≡ (a && (b && true))
-    go a b = rw and-true
-
--- section 3 when its four lists and its digit are
-pub airports-nothing : (x : Airports)
-    → (isZero (Names (x .selected .ascent))
-    && isZero (Names (x .selected .descent))
-    && (isZero (Names (x .inhibited .ascent)) && isZero (Names (x .inhibited .descent)))
-    && eqb (x .routine) 0)
-    ≡ areZero (airportsHold x)
-unfolding areZero
-airports-nothing x =
-    go (isZero (Names (x .selected .ascent))) (isZero (Names (x .selected .descent))) (isZero (Names (x .inhibited .ascent)))
-    (isZero (Names (x .inhibited .descent))) (eqb (x .routine) 0)
-  where
-    go : (a b c d e : Bool) → (a && b && (c && d) && e) ≡ (a && (b && (c && (d && (e && true)))))
-    go a b c d e = simp (and-assoc, and-true)
-
--- ---- The sections all together
-
--- the sections up to 5 and then those from 6 on are all the sections, up to where the text would end
-pub halves-are : (c : Command) → length (c .settings .flags) ≡ 7 → length (c .named) ≡ 8 → namedAllowed numbers 13 (c .named) ≡ Fine
-    → after (recordTurns front 22 c) (λ (p : ℕ). recordTurns back p c) ≡ goesOn (sectionsAllowed numbers 22 c) (length (commandText c))
-halves-are c seven eight e =
-    sym (turns-halves c (no-seven c e))
-    ∙ turns-are numbers 22 c
-    ∙ ap (goesOn (sectionsAllowed numbers 22 c)) (sym (text-length c seven eight))
-
 -- ---- Writing
 
 -- a check that goes on was fine, and says where to
@@ -310,25 +271,6 @@ digits-turn d vs i h k =
 pub digits-done : (d vs : List ℕ) (i : ℕ) → length vs ≤ i → over d 0 (take i (digitBytes vs)) ≡ over d 0 (digitBytes vs)
 digits-done d vs i h = rw (take-all i (digitBytes vs) (omega (arith, length-map vs (λ (v : ℕ). 48 + v))))
 
--- one text and then another, the second into the part that starts where the first ends: D is d with t over its start
-module _ (d D t : List ℕ) (p : ℕ) (is : D ≡ over d 0 t) (starts : p ≡ length t) where
-  -- the part begins in the buffer
-  pub rest-start : (n : ℕ) → p + n ≤ length d → p ≤ length D
-  rest-start n fits = omega (arith, length-then d D t 0 is (omega arith))
-
-  -- there is room for the second
-  pub rest-room : (n : ℕ) → p + n ≤ length d → n ≤ length (take (length D - p) (drop p D))
-  rest-room n fits =
-      let l : length D ≡ length d = length-then d D t 0 is (omega arith) in
-      rw (part-length D p (length D) (omega arith)) (omega arith)
-
-  -- and the buffer then has both
-  pub rest-written : (zs u : List ℕ) → p + length u ≤ length d → zs ≡ over (take (length D - p) (drop p D)) 0 u
-      → putMid p (length D - p) D zs ≡ over d 0 (t ++ u)
-  rest-written zs u fits wrote =
-      let l : length D ≡ length d = length-then d D t 0 is (omega arith) in
-      then-part d D zs t u 0 p (length D) is (omega arith) (omega arith) (omega arith) wrote
-
 -- a section's text where it is named, then the others'
 pub text-first : (k : ℕ) (ks : List ℕ) (c : Command)
     → sectionsText (k ∷ ks) c ≡ textIf (names c k) k (contentsOf (c .settings) k) ++ sectionsText ks c
@@ -339,15 +281,23 @@ text-first k ks c = go (names c k) (contentsText (layoutOf k) (contentsOf (c .se
     go true t u = refl
     go false t u = refl
 
--- two sections
-pub text-two : (j k : ℕ) (c : Command)
-    → sectionsText (j ∷ k ∷ []) c ≡ textIf (names c j) j (contentsOf (c .settings) j) ++ textIf (names c k) k (contentsOf (c .settings) k)
+-- the two sections of lists
+pub text-two : (c : Command)
+    → sectionsText (2 ∷ 3 ∷ []) c ≡ textIf (names c 2) 2 (contentsOf (c .settings) 2) ++ textIf (names c 3) 3 (contentsOf (c .settings) 3)
 unfolding sectionsText
-text-two j k c =
-    let t = textIf (names c k) k (contentsOf (c .settings) k) in
-    text-first j (k ∷ []) c ∙ ap (λ (l : List ℕ). textIf (names c j) j (contentsOf (c .settings) j) ++ l) (text-first k [] c ∙ append-nil t)
+text-two c =
+    let t = textIf (names c 3) 3 (contentsOf (c .settings) 3) in
+    text-first 2 (3 ∷ []) c ∙ ap (λ (l : List ℕ). textIf (names c 2) 2 (contentsOf (c .settings) 2) ++ l) (text-first 3 [] c ∙ append-nil t)
 
--- the sections of two lists
+-- sections of numbers, by their own part of the record
+pub numbered-texts : (ks : List ℕ) (c : Command) → Each (λ k. 4 ≤ k) ks → sectionsText ks c ≡ numberedText ks (fixedOf (c .settings)) (c .named)
+unfolding sectionsText numberedText
+numbered-texts [] c h = refl
+numbered-texts (k ∷ ks) c h =
+    text-first k ks c
+    ∙ rw (contents-fixed (c .settings) k (h .0), numbered-texts ks c (h .1))
+
+-- the sections of two lists of numbers
 pub text-append : (xs ys : List ℕ) (c : Command) → sectionsText (xs ++ ys) c ≡ sectionsText xs c ++ sectionsText ys c
 unfolding sectionsText
 text-append [] ys c = refl
@@ -356,11 +306,6 @@ text-append (k ∷ xs) ys c =
     ∙ ap (λ (l : List ℕ). textIf (names c k) k (contentsOf (c .settings) k) ++ l) (text-append xs ys c)
     ∙ sym (append-assoc (textIf (names c k) k (contentsOf (c .settings) k)) (sectionsText xs c) (sectionsText ys c))
     ∙ ap (λ (l : List ℕ). l ++ sectionsText ys c) (sym (text-first k xs c))
-
--- one section alone
-pub text-one : (k : ℕ) (c : Command) → sectionsText (k ∷ []) c ≡ textIf (names c k) k (contentsOf (c .settings) k)
-unfolding sectionsText
-text-one k c = text-first k [] c ∙ append-nil (textIf (names c k) k (contentsOf (c .settings) k))
 
 -- ---- What an allowed record gives its writer
 
@@ -420,13 +365,7 @@ pub record Ready (c : Command) : Type 0 where
   pub flags : Digits (c .settings .flags)
   pub downlink : c .downlink ≤ 9
   pub named : Digits (c .named)
-  pub first : AllNamed front c
-  pub second : AllNamed back c
-  pub text : commandText c ≡ headText c ++ (sectionsText front c ++ sectionsText back c)
-
-seven-left-out : (c : Command) → names c 7 ≡ false → sectionsText (6 ∷ 7 ∷ 8 ∷ 9 ∷ []) c ≡ sectionsText back c
-unfolding sectionsText
-seven-left-out c n = rw n
+  pub lists : AllNamed (2 ∷ 3 ∷ []) c
 
 -- an allowed record can be written
 pub ready : (c : Command) → length (c .named) ≡ 8 → commandAllowed c ≡ Fine → Ready c
@@ -438,15 +377,11 @@ ready c eight e =
     let n = marks-named c (z .1) in
     let low : c .downlink ≤ 2 = leb-true (c .downlink) 2 (must-held (leb (c .downlink) 2) 4 12 (z .0)) in
     let a = sections-named numbers 22 c (x .1) in
-    let sections : sectionsText numbers c ≡ sectionsText front c ++ sectionsText back c =
-    text-append front (6 ∷ 7 ∷ 8 ∷ 9 ∷ []) c ∙ ap (λ (l : List ℕ). sectionsText front c ++ l) (seven-left-out c (no-seven c n)) in
     record {
       flags = flags-digits 5 (c .settings .flags) (y .0);
       downlink = omega arith;
       named = named-digits (c .named) eight n;
-      first = (a .0, (a .1 .0, (a .1 .1 .0, (a .1 .1 .1 .0, tt))));
-      second = (a .1 .1 .1 .1 .0, (a .1 .1 .1 .1 .1 .1 .0, (a .1 .1 .1 .1 .1 .1 .1 .0, tt)));
-      text = text-halves c ∙ ap (λ (l : List ℕ). headText c ++ l) sections;
+      lists = (a .0, (a .1 .0, tt));
     }
 
 -- a record and its room that pass

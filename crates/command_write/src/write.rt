@@ -1,34 +1,27 @@
 // Writing a command: the record is checked first, then the room, and only then is a byte written.
 use crate::Wrote;
-use crate::record::record_turn;
+use crate::record::pass_record;
 use command::Command;
 use field::Step;
-use section::Airports;
-use section::Ascent;
-use section::Enroute;
-use section::Hours;
-use section::Regions;
-use section::write::put_airports;
-use section::write::put_ascent;
-use section::write::put_digit;
-use section::write::put_enroute;
-use section::write::put_hours;
-use section::write::put_regions;
+use field::record::wide;
+use settings::Fixed;
+use settings::numbers::fixed_of;
+use settings::numbers::put_fixed;
+use settings::section2::put_named_regions;
+use settings::section3::put_named_airports;
 use text::copy;
 ghost use mathlib.Core.Path.{_≡_};
-ghost use mathlib.Core.Bool.{true};
 ghost use mathlib.Core.List.{_∷_, [], _++_};
 ghost use Prim.Native.Nat.{_+_, _≤_};
-ghost use lib.ListN.{length};
+ghost use lib.ListN.{length, drop};
 ghost use Rattle.text.specs.Over.{over};
 ghost use Rattle.text.specs.declared.Seen.the-variants.{Fine};
-ghost use Rattle.section.specs.Layout.{layoutOf};
-ghost use Rattle.section.specs.Contents.{contentsAllowed};
-ghost use Rattle.section.specs.Settings.{regionsHold, airportsHold, enrouteHold, ascentHold, digitHold, hoursHold};
-ghost use Rattle.section.specs.Turn.{goesOn};
+ghost use Rattle.section.specs.Layout.{numbers};
+ghost use Rattle.section.specs.Inner.{goesOn};
 ghost use Rattle.command.specs.Text.{awr04};
 ghost use Rattle.command.specs.Record.{digitBytes, sectionsText, commandText, commandAllowed, writeSeen, leftBy};
-ghost use Rattle.command_write.specs.Writing.{wrote, front, back, headText, textIf, AllNamed, Digits};
+ghost use Rattle.command_write.specs.Writing.{wrote};
+ghost use Rattle.command_write.specs.Inner.{numberedText, headText, AllNamed, Digits};
 
 // `AWR04`, one fixed group.
 fn put_awr04(d: &mut [u8])
@@ -81,90 +74,6 @@ fn put_head(c: Command, d: &mut [u8])
     put_indicators(c.downlink, named, &mut d[12..22]);
 }
 
-// Section 2, where it is named; the answer is how many bytes that is.
-fn put_named_regions(named: bool, x: Regions, d: &mut [u8]) -> usize
-    requires { ⌜ (named ≡ true → contentsAllowed (layoutOf 2) 0 (regionsHold x) ≡ Fine) ⌝ }
-    requires { ⌜ length (textIf named 2 (regionsHold x)) ≤ length (now d) ⌝ }
-    ensures { λ r. ⌜
-        (r ≡ length (textIf named 2 (regionsHold x))) × (now (d .exit) ≡ over (now (d .entry)) 0 (textIf named 2 (regionsHold x)))
-        ⌝ }
-{
-    if named {
-        return put_regions(x, d);
-    }
-    0
-}
-
-// Section 3, where it is named; the answer is how many bytes that is.
-fn put_named_airports(named: bool, x: Airports, d: &mut [u8]) -> usize
-    requires { ⌜ (named ≡ true → contentsAllowed (layoutOf 3) 0 (airportsHold x) ≡ Fine) ⌝ }
-    requires { ⌜ length (textIf named 3 (airportsHold x)) ≤ length (now d) ⌝ }
-    ensures { λ r. ⌜
-        (r ≡ length (textIf named 3 (airportsHold x))) × (now (d .exit) ≡ over (now (d .entry)) 0 (textIf named 3 (airportsHold x)))
-        ⌝ }
-{
-    if named {
-        return put_airports(x, d);
-    }
-    0
-}
-
-// Section 4, where it is named; the answer is how many bytes that is.
-fn put_named_enroute(named: bool, x: Enroute, d: &mut [u8]) -> usize
-    requires { ⌜ (named ≡ true → contentsAllowed (layoutOf 4) 0 (enrouteHold x) ≡ Fine) ⌝ }
-    requires { ⌜ length (textIf named 4 (enrouteHold x)) ≤ length (now d) ⌝ }
-    ensures { λ r. ⌜
-        (r ≡ length (textIf named 4 (enrouteHold x))) × (now (d .exit) ≡ over (now (d .entry)) 0 (textIf named 4 (enrouteHold x)))
-        ⌝ }
-{
-    if named {
-        return put_enroute(x, d);
-    }
-    0
-}
-
-// Section 5, where it is named; the answer is how many bytes that is.
-fn put_named_ascent(named: bool, x: Ascent, d: &mut [u8]) -> usize
-    requires { ⌜ (named ≡ true → contentsAllowed (layoutOf 5) 0 (ascentHold x) ≡ Fine) ⌝ }
-    requires { ⌜ length (textIf named 5 (ascentHold x)) ≤ length (now d) ⌝ }
-    ensures { λ r. ⌜
-        (r ≡ length (textIf named 5 (ascentHold x))) × (now (d .exit) ≡ over (now (d .entry)) 0 (textIf named 5 (ascentHold x)))
-        ⌝ }
-{
-    if named {
-        return put_ascent(x, d);
-    }
-    0
-}
-
-// Sections 6 and 8, where it is named; the answer is how many bytes that is.
-fn put_named_digit(named: bool, x: u8, d: &mut [u8]) -> usize
-    requires { ⌜ (named ≡ true → contentsAllowed (layoutOf 6) 0 (digitHold x) ≡ Fine) ⌝ }
-    requires { ⌜ length (textIf named 6 (digitHold x)) ≤ length (now d) ⌝ }
-    ensures { λ r. ⌜
-        (r ≡ length (textIf named 6 (digitHold x))) × (now (d .exit) ≡ over (now (d .entry)) 0 (textIf named 6 (digitHold x)))
-        ⌝ }
-{
-    if named {
-        return put_digit(x, d);
-    }
-    0
-}
-
-// Section 9, where it is named; the answer is how many bytes that is.
-fn put_named_hours(named: bool, x: Hours, d: &mut [u8]) -> usize
-    requires { ⌜ (named ≡ true → contentsAllowed (layoutOf 9) 0 (hoursHold x) ≡ Fine) ⌝ }
-    requires { ⌜ length (textIf named 9 (hoursHold x)) ≤ length (now d) ⌝ }
-    ensures { λ r. ⌜
-        (r ≡ length (textIf named 9 (hoursHold x))) × (now (d .exit) ≡ over (now (d .entry)) 0 (textIf named 9 (hoursHold x)))
-        ⌝ }
-{
-    if named {
-        return put_hours(x, d);
-    }
-    0
-}
-
 // Sections 2 and 3, those that are named.
 fn put_lists(c: Command, d: &mut [u8]) -> usize
     requires { ⌜ AllNamed (2 ∷ 3 ∷ []) c × (length (sectionsText (2 ∷ 3 ∷ []) c) ≤ length (now d)) ⌝ }
@@ -179,65 +88,34 @@ fn put_lists(c: Command, d: &mut [u8]) -> usize
     at + n
 }
 
-// Sections 4 and 5.
-fn put_schemes(c: Command, d: &mut [u8]) -> usize
-    requires { ⌜ AllNamed (4 ∷ 5 ∷ []) c × (length (sectionsText (4 ∷ 5 ∷ []) c) ≤ length (now d)) ⌝ }
-    ensures { λ r. ⌜ (r ≡ length (sectionsText (4 ∷ 5 ∷ []) c)) × (now (d .exit) ≡ over (now (d .entry)) 0 (sectionsText (4 ∷ 5 ∷ []) c)) ⌝ }
+// Sections 4 to 9, those that are named, each into the part that starts where it begins.
+fn put_numbered(x: Fixed, named: [u8; 8], d: &mut [u8]) -> usize
+    requires { ⌜ length (numberedText (drop 2 numbers) x named) ≤ length (now d) ⌝ }
+    ensures { λ r. ⌜
+        (r ≡ length (numberedText (drop 2 numbers) x named)) × (now (d .exit) ≡ over (now (d .entry)) 0 (numberedText (drop 2 numbers) x named))
+        ⌝ }
 {
-    let settings = c.settings;
-    let named = c.named;
-    let enroute = settings.enroute;
-    let ascent = settings.ascent;
-    let at = put_named_enroute(named[2] == 4, enroute, d);
-    let n = put_named_ascent(named[3] == 5, ascent, &mut d[at..]);
-    at + n
-}
-
-// Sections 6 and 8; there is no section 7.
-fn put_routines(c: Command, d: &mut [u8]) -> usize
-    requires { ⌜ AllNamed (6 ∷ 8 ∷ []) c × (length (sectionsText (6 ∷ 8 ∷ []) c) ≤ length (now d)) ⌝ }
-    ensures { λ r. ⌜ (r ≡ length (sectionsText (6 ∷ 8 ∷ []) c)) × (now (d .exit) ≡ over (now (d .entry)) 0 (sectionsText (6 ∷ 8 ∷ []) c)) ⌝ }
-{
-    let settings = c.settings;
-    let named = c.named;
-    let at = put_named_digit(named[4] == 6, settings.routine6, d);
-    let n = put_named_digit(named[6] == 8, settings.routine8, &mut d[at..]);
-    at + n
-}
-
-// Sections 2 to 5.
-fn put_front(c: Command, d: &mut [u8]) -> usize
-    requires { ⌜ AllNamed front c × (length (sectionsText front c) ≤ length (now d)) ⌝ }
-    ensures { λ r. ⌜ (r ≡ length (sectionsText front c)) × (now (d .exit) ≡ over (now (d .entry)) 0 (sectionsText front c)) ⌝ }
-{
-    let at = put_lists(c, d);
-    let n = put_schemes(c, &mut d[at..]);
-    at + n
-}
-
-// Sections 6, 8 and 9.
-fn put_back(c: Command, d: &mut [u8]) -> usize
-    requires { ⌜ AllNamed back c × (length (sectionsText back c) ≤ length (now d)) ⌝ }
-    ensures { λ r. ⌜ (r ≡ length (sectionsText back c)) × (now (d .exit) ≡ over (now (d .entry)) 0 (sectionsText back c)) ⌝ }
-{
-    let settings = c.settings;
-    let named = c.named;
-    let hours = settings.hours;
-    let at = put_routines(c, d);
-    let n = put_named_hours(named[7] == 9, hours, &mut d[at..]);
-    at + n
+    let mut at = 0;
+    let mut k: usize = 4;
+    while k < 10 {
+        at += put_fixed(wide(named[k - 2]) == k, x, k, &mut d[at..]);
+        k += 1;
+    }
+    at
 }
 
 // The sections that are named, each into the part of the buffer that starts where it begins.
 fn put_sections(c: Command, d: &mut [u8]) -> usize
-    requires { ⌜ AllNamed front c × AllNamed back c × (length (sectionsText front c ++ sectionsText back c) ≤ length (now d)) ⌝ }
+    requires { ⌜ AllNamed (2 ∷ 3 ∷ []) c × (length (sectionsText numbers c) ≤ length (now d)) ⌝ }
     ensures { λ r. ⌜
-        (r ≡ length (sectionsText front c ++ sectionsText back c))
-        × (now (d .exit) ≡ over (now (d .entry)) 0 (sectionsText front c ++ sectionsText back c))
+        (r ≡ length (sectionsText numbers c))
+        × (now (d .exit) ≡ over (now (d .entry)) 0 (sectionsText numbers c))
         ⌝ }
 {
-    let at = put_front(c, d);
-    let n = put_back(c, &mut d[at..]);
+    let named = c.named;
+    let fixed = fixed_of(c.settings);
+    let at = put_lists(c, d);
+    let n = put_numbered(fixed, named, &mut d[at..]);
     at + n
 }
 
@@ -252,10 +130,10 @@ fn put(c: Command, d: &mut [u8]) -> usize
 }
 
 // The record, then the room.
-fn room_turn(c: Command, room: usize) -> Step
+fn pass_room(c: Command, room: usize) -> Step
     ensures { λ r. ⌜ r ≡ goesOn (writeSeen c room) (length (commandText c)) ⌝ }
 {
-    match record_turn(c) {
+    match pass_record(c) {
         Step::Stop(code, place) => Step::Stop(code, place),
         Step::Next(n) => {
             if room < n {
@@ -273,7 +151,7 @@ pub fn write(c: Command, out: &mut [u8]) -> Wrote
         × (now (out .exit) ≡ leftBy (writeSeen c (length (now (out .entry)))) (commandText c) (now (out .entry)))
         ⌝ }
 {
-    match room_turn(c, out.len()) {
+    match pass_room(c, out.len()) {
         Step::Stop(code, place) => Wrote {
             code,
             place,

@@ -4,15 +4,14 @@ use mathlib.Core.Bool.{_&&_}
 use mathlib.Core.List.{List, [], _∷_}
 use Prim.Native.Nat.{ℕ}
 use Rattle.text.specs.Checks.{isFine}
-use Rattle.section.specs.Layout.{layoutOf}
+use Rattle.section.specs.Layout.{layoutOf, numbers}
 use Rattle.section.specs.Contents.{contentsAllowed}
-use Rattle.section.specs.Settings.{contentsOf}
-use Rattle.section.specs.declared.Settings.{Settings}
-use Rattle.command.specs.Text.{numbers}
+use Rattle.settings.specs.Settings.{contentsOf}
+use Rattle.settings.specs.declared.Settings.{Settings}
 use Rattle.command.specs.Allowed.{every, zeroOrOne, allowedSection, allowedSettings}
 use Rattle.command.proofs.Each.{Each}
 use Rattle.command.proofs.Allowed.{low-same, sections-are}
-use Rattle.config.specs.Config.{flagsValid, sectionsValid, valid}
+use Rattle.settings.specs.Valid.{flagsValid, sectionsValid, valid}
 
 flags-same : (fs : List ℕ) → flagsValid fs ≡ every zeroOrOne fs
 unfolding flagsValid every

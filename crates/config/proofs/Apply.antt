@@ -11,22 +11,23 @@ use borrow.Author.Tests.{ne-eqb}
 use Rattle.text.specs.Parts.{part}
 use Rattle.text.proofs.Cases.{by-eq}
 use Rattle.field.proofs.Local.{part-byte}
-use Rattle.section.specs.Layout.{layoutOf}
+use Rattle.section.specs.Layout.{layoutOf, tableOf, numbers}
 use Rattle.section.specs.Contents.{Content, contentsAt}
-use Rattle.section.specs.Settings.{contentsOf, settingsFrom, regionsFrom, airportsFrom, enrouteFrom, ascentFrom, hoursFrom}
-use Rattle.section.specs.declared.Settings.{Settings}
-use Rattle.command.specs.Text.{numbers, isNamed}
-use Rattle.command.specs.Record.{digitsOf, heldIn, flagsOf}
+use Rattle.settings.specs.Settings.{contentsOf, fixedHold, settingsFrom, regionsFrom, airportsFrom, enrouteFrom, ascentFrom, hoursFrom}
+use Rattle.settings.specs.declared.Settings.{Settings}
+use Rattle.command.specs.Text.{isNamed}
+use Rattle.command.specs.Record.{digitsOf, flagsOf}
+use Rattle.command.specs.Sections.{heldIn}
 use Rattle.command.proofs.Each.{Each, each-all, each-map, each-with}
 use Rattle.command.proofs.Parts.{present, bodyOf, holds}
-use Rattle.command.proofs.Accepted.{Accepted, named-present, held-own}
+use Rattle.command.proofs.Accepted.{Accepted, named-present, held-each}
 use Rattle.config.specs.Config.{newFlag, newFlags, applyTo}
 
 -- ---- Settings and what their sections hold
 
 -- settings are their flags and what each section holds
 pub settings-own : (x : Settings) → settingsFrom (x .flags) (contentsOf x) ≡ x
-unfolding settingsFrom contentsOf regionsFrom airportsFrom enrouteFrom ascentFrom hoursFrom
+unfolding settingsFrom contentsOf fixedHold regionsFrom airportsFrom enrouteFrom ascentFrom hoursFrom
 settings-own x = refl
 
 -- settings whose sections hold the same are the same
@@ -42,42 +43,42 @@ pub data Fit (k : ℕ) (cs : List Content) : Type 0 where
 
 module _ (fs : List ℕ) (h : ℕ → List Content) where
   fit2 : Fit 2 (h 2) → contentsOf (settingsFrom fs h) 2 ≡ h 2
-  unfolding settingsFrom contentsOf regionsFrom layoutOf contentsAt
+  unfolding settingsFrom contentsOf fixedHold regionsFrom layoutOf tableOf contentsAt
   fit2 (Held x e) = rw e
   fit2 (Told b e) = rw e
 
   fit3 : Fit 3 (h 3) → contentsOf (settingsFrom fs h) 3 ≡ h 3
-  unfolding settingsFrom contentsOf airportsFrom layoutOf contentsAt
+  unfolding settingsFrom contentsOf fixedHold airportsFrom layoutOf tableOf contentsAt
   fit3 (Held x e) = rw e
   fit3 (Told b e) = rw e
 
   fit4 : Fit 4 (h 4) → contentsOf (settingsFrom fs h) 4 ≡ h 4
-  unfolding settingsFrom contentsOf enrouteFrom layoutOf contentsAt
+  unfolding settingsFrom contentsOf fixedHold enrouteFrom layoutOf tableOf contentsAt
   fit4 (Held x e) = rw e
   fit4 (Told b e) = rw e
 
   fit5 : Fit 5 (h 5) → contentsOf (settingsFrom fs h) 5 ≡ h 5
-  unfolding settingsFrom contentsOf ascentFrom layoutOf contentsAt
+  unfolding settingsFrom contentsOf fixedHold ascentFrom layoutOf tableOf contentsAt
   fit5 (Held x e) = rw e
   fit5 (Told b e) = rw e
 
   fit6 : Fit 6 (h 6) → contentsOf (settingsFrom fs h) 6 ≡ h 6
-  unfolding settingsFrom contentsOf layoutOf contentsAt
+  unfolding settingsFrom contentsOf fixedHold layoutOf tableOf contentsAt
   fit6 (Held x e) = rw e
   fit6 (Told b e) = rw e
 
   fit7 : Fit 7 (h 7) → contentsOf (settingsFrom fs h) 7 ≡ h 7
-  unfolding settingsFrom contentsOf layoutOf contentsAt
+  unfolding settingsFrom contentsOf fixedHold layoutOf tableOf contentsAt
   fit7 (Held x e) = rw e
   fit7 (Told b e) = rw e
 
   fit8 : Fit 8 (h 8) → contentsOf (settingsFrom fs h) 8 ≡ h 8
-  unfolding settingsFrom contentsOf layoutOf contentsAt
+  unfolding settingsFrom contentsOf fixedHold layoutOf tableOf contentsAt
   fit8 (Held x e) = rw e
   fit8 (Told b e) = rw e
 
   fit9 : Fit 9 (h 9) → contentsOf (settingsFrom fs h) 9 ≡ h 9
-  unfolding settingsFrom contentsOf hoursFrom layoutOf contentsAt
+  unfolding settingsFrom contentsOf fixedHold hoursFrom layoutOf tableOf contentsAt
   fit9 (Held x e) = rw e
   fit9 (Told b e) = rw e
 
@@ -120,9 +121,9 @@ module _ (x : Settings) (s : List ℕ) (a : Accepted s) where
   -- a command by its sections' own bytes
   pub hold-own : Each (λ k. cond (isNamed s k) (heldIn s k) (contentsOf x k) ≡ setBy k (bodyOf s k) (contentsOf x k)) numbers
   hold-own =
-      each-map (λ k. isNamed s k ≡ present (bodyOf s k))
+      each-with (λ k. isNamed s k ≡ present (bodyOf s k)) (λ k. heldIn s k ≡ holds k (bodyOf s k))
       (λ k. cond (isNamed s k) (heldIn s k) (contentsOf x k) ≡ setBy k (bodyOf s k) (contentsOf x k))
-      (λ k n. rw (n, held-own s a k) (set-named k (bodyOf s k) (contentsOf x k))) numbers (named-present s a)
+      (λ k n h. rw (h, n) (set-named k (bodyOf s k) (contentsOf x k))) numbers (named-present s a) (held-each s a)
 
   -- applying a command, by its sections' own bytes
   pub apply-own : applyTo x s ≡ settingsFrom (newFlags (x .flags) (flagsOf s)) (λ k. setBy k (bodyOf s k) (contentsOf x k))

@@ -9,14 +9,16 @@ use lib.Dec.{T as Holds, eqb, eqb→eq}
 use lib.ListN.{length, getD}
 use Rattle.text.specs.declared.Seen.{Seen}
 use Rattle.text.specs.declared.Seen.the-variants.{Fine, Bad}
-use Rattle.section.specs.Settings.{contentsOf}
-use Rattle.section.specs.declared.Settings.{Settings}
-use Rattle.command.specs.Text.{numbers, isNamed, checkCommand}
-use Rattle.command.specs.Record.{heldIn}
+use Rattle.settings.specs.Settings.{contentsOf}
+use Rattle.settings.specs.declared.Settings.{Settings}
+use Rattle.command.specs.Text.{isNamed, checkCommand}
+use Rattle.section.specs.Layout.{numbers}
+use Rattle.command.specs.Sections.{heldIn}
 use Rattle.command.proofs.Accepted.{accepted}
 use Rattle.command.proofs.Codes.{check-coded}
 use Rattle.command.proofs.Each.{Each}
-use Rattle.config.specs.Config.{valid, onSeen, refused, applied, keptBy, kept}
+use Rattle.config.specs.Config.{onSeen, refused, applied, keptBy, kept}
+use Rattle.settings.specs.Valid.{valid}
 use Rattle.config.proofs.Apply.{flag-after, section-after}
 
 module _ (x : Settings) (s : List ℕ) where

@@ -11,20 +11,21 @@ use Rattle.text.specs.Checks.{isFine}
 use Rattle.text.specs.Parts.{part}
 use Rattle.text.specs.declared.Seen.the-variants.{Fine}
 use Rattle.text.proofs.Cases.{by-test, both-left, both-right}
-use Rattle.section.specs.Layout.{layoutOf}
+use Rattle.section.specs.Layout.{layoutOf, tableOf, numbers}
 use Rattle.section.specs.Contents.{Content, contentsAt, contentsAllowed}
 use Rattle.lists.specs.Lists.{allZero, namesAllowed, airfieldsAllowed, regionsZero, regionsAllowed, boxesAllowed}
-use Rattle.section.specs.Settings.{contentsOf, settingsFrom, regionsFrom, airportsFrom, enrouteFrom, ascentFrom, hoursFrom}
-use Rattle.section.specs.declared.Settings.{Settings}
+use Rattle.settings.specs.Settings.{contentsOf, fixedHold, settingsFrom, regionsFrom, airportsFrom, enrouteFrom, ascentFrom, hoursFrom}
+use Rattle.settings.specs.declared.Settings.{Settings}
 use Rattle.section.proofs.Own.{own-some}
 use Rattle.section.proofs.Allowed.{contents-fine}
-use Rattle.command.specs.Text.{isFlag, numbers, checkCommand}
+use Rattle.command.specs.Text.{isFlag, checkCommand}
 use Rattle.command.specs.Record.{digitsOf}
 use Rattle.command.proofs.Each.{Each, each-with}
 use Rattle.command.proofs.Head.{passes}
 use Rattle.command.proofs.Parts.{bodyOf, Place, Absent, Present}
 use Rattle.command.proofs.Accepted.{accepted, sound}
-use Rattle.config.specs.Config.{newFlag, newFlags, flagsValid, sectionsValid, valid, reset, applyTo}
+use Rattle.config.specs.Config.{newFlag, newFlags, applyTo}
+use Rattle.settings.specs.Valid.{flagsValid, sectionsValid, valid, reset}
 use Rattle.config.proofs.Apply.{setBy, section-own, flags-own}
 
 -- ---- Flags
@@ -100,5 +101,5 @@ applies-valid x s h e =
 
 -- a configuration after reset is valid
 pub reset-valid : valid reset ≡ true
-unfolding reset valid flagsValid sectionsValid settingsFrom contentsOf contentsAllowed layoutOf regionsFrom airportsFrom enrouteFrom ascentFrom hoursFrom airfieldsAllowed allZero namesAllowed boxesAllowed regionsZero regionsAllowed
+unfolding reset valid flagsValid sectionsValid settingsFrom contentsOf fixedHold contentsAllowed layoutOf tableOf regionsFrom airportsFrom enrouteFrom ascentFrom hoursFrom airfieldsAllowed allZero namesAllowed boxesAllowed regionsZero regionsAllowed
 reset-valid = refl

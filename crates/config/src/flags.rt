@@ -1,19 +1,6 @@
 // The configuration's seven flags.
 ghost use mathlib.Core.Path.{_≡_};
-ghost use Rattle.config.specs.Config.{flagsValid, newFlag, newFlags};
-
-// Each is 0 or 1.
-pub fn are_valid(flags: [u8; 7]) -> bool
-    ensures { λ r. ⌜ r ≡ flagsValid flags ⌝ }
-{
-    (flags[0] <= 1)
-        & (flags[1] <= 1)
-        & (flags[2] <= 1)
-        & (flags[3] <= 1)
-        & (flags[4] <= 1)
-        & (flags[5] <= 1)
-        & (flags[6] <= 1)
-}
+ghost use Rattle.config.specs.Config.{newFlag, newFlags};
 
 // A command's flag that is 9 changes nothing.
 fn new_flag(old: u8, v: u8) -> u8

@@ -1,8 +1,8 @@
 // The onboard configuration that a command changes.
+pub mod applying;
 pub mod flags;
-pub mod settings;
 
-use section::Settings;
+use settings::Settings;
 
 // What applying a command gives: the downlink digit that it asks for and the settings afterwards, or the refusal's code
 // and place beside the one empty digit and settings.

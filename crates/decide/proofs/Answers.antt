@@ -10,7 +10,7 @@ use lib.Signed.{mag}
 use borrow.Author.Tests.{ne-eqb, eqb-true, eqb-false}
 use Rattle.text.proofs.Cases.{by-test}
 use Rattle.lists.specs.declared.Boxes.{Boxes}
-use Rattle.section.specs.declared.Settings.{Settings}
+use Rattle.settings.specs.declared.Settings.{Settings}
 use Rattle.decide.specs.Question.{Question}
 use Rattle.decide.specs.Tests.{inWindow, minutes, firstHolding, has}
 use Rattle.decide.specs.Reason.{decisionOf, inhibitingBox, noReportingBox, isSilent, schemeReason, orRoutine, routineBy, phaseReason, reasonFor, explained, decided}

@@ -12,11 +12,11 @@ use Rattle.field.specs.Boxes.{lineOf, edgeAllowed, regionAllowed, noRegion}
 use Rattle.lists.specs.Lists.{allZero, namesAllowed, airfieldsAllowed, noAirfields, regionsZero, regionsAllowed, boxesAllowed, noBoxes}
 use Rattle.lists.specs.declared.Airfields.{Airfields}
 use Rattle.lists.specs.declared.Boxes.{Boxes}
-use Rattle.section.specs.Layout.{layoutOf}
+use Rattle.section.specs.Layout.{layoutOf, tableOf}
 use Rattle.section.specs.Contents.{Content, Amount, Names, Areas, contentsAllowed}
-use Rattle.section.specs.Settings.{contentsOf, settingsFrom, regionsFrom, airportsFrom, enrouteFrom, ascentFrom, hoursFrom}
-use Rattle.section.specs.declared.Settings.{Settings}
-use Rattle.config.specs.Config.{resetHolds, reset, flagsValid, sectionsValid, valid}
+use Rattle.settings.specs.Settings.{contentsOf, fixedHold, settingsFrom, regionsFrom, airportsFrom, enrouteFrom, ascentFrom, hoursFrom}
+use Rattle.settings.specs.declared.Settings.{Settings}
+use Rattle.settings.specs.Valid.{resetHolds, reset, flagsValid, sectionsValid, valid}
 use Rattle.decide.specs.Question.{Question}
 use Rattle.decide.specs.Tests.{holds, firstFrom, hasAirfield}
 use Rattle.decide.specs.Reason.{inhibitingBox, noReportingBox, schemeReason, phaseReason, reasonFor, explained, decided}
@@ -135,5 +135,5 @@ cases =
 
 -- every case is decided as the table says
 pub all-cases : map (λ (c : Case). decided (c .held) (c .asked)) cases ≡ map (λ (c : Case). c .answer) cases
-unfolding cases reset decided explained reasonFor phaseReason schemeReason inhibitingBox noReportingBox holds firstFrom hasAirfield valid flagsValid sectionsValid settingsFrom contentsOf contentsAllowed layoutOf regionsFrom airportsFrom enrouteFrom ascentFrom hoursFrom airfieldsAllowed allZero namesAllowed boxesAllowed regionsZero regionsAllowed regionAllowed edgeAllowed lineOf sameBytes allowed allAllowed
+unfolding cases reset decided explained reasonFor phaseReason schemeReason inhibitingBox noReportingBox holds firstFrom hasAirfield valid flagsValid sectionsValid settingsFrom contentsOf fixedHold contentsAllowed layoutOf tableOf regionsFrom airportsFrom enrouteFrom ascentFrom hoursFrom airfieldsAllowed allZero namesAllowed boxesAllowed regionsZero regionsAllowed regionAllowed edgeAllowed lineOf sameBytes allowed allAllowed
 all-cases = refl

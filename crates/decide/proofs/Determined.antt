@@ -5,8 +5,8 @@ use mathlib.Core.List.{List}
 use Prim.Native.Nat.{ℕ, _≤_}
 use native.Mathlib.Omega.{arith}
 use Rattle.text.proofs.Cases.{by-test, by-eq}
-use Rattle.section.specs.declared.Settings.{Settings}
-use Rattle.config.specs.Config.{valid}
+use Rattle.settings.specs.declared.Settings.{Settings}
+use Rattle.settings.specs.Valid.{valid}
 use Rattle.decide.specs.Question.{Question}
 use Rattle.decide.specs.Words.{Amdar, InhibitHours, Regions, Airports, Enroute, flagOf, InRange, Own, ofAscent, ofDescent}
 use Rattle.decide.specs.Rules.{Window, Heard, Level, Admitted, TurnedAway, switchedOff, inhibited, notSelected, Profile, Rules, Answers}

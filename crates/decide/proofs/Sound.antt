@@ -18,16 +18,14 @@ use Rattle.field.proofs.RoundTrip.{AllowedBox, region-held}
 use Rattle.lists.specs.Lists.{regionsAllowed, boxesAllowed}
 use Rattle.lists.specs.declared.Boxes.{Boxes}
 use Rattle.lists.proofs.RoundTrip.{airfields-held, boxes-held}
-use Rattle.section.specs.Layout.{Item, AirfieldList, BoxList, Number, layoutOf}
+use Rattle.section.specs.Layout.{Item, AirfieldList, BoxList, Digits, number, layoutOf, tableOf, numbers}
 use Rattle.section.specs.Contents.{Content, Amount, Names, Areas, contentText, contentAllowed, contentsAllowed}
-use Rattle.section.specs.Settings.{regionsHold, airportsHold, enrouteHold, ascentHold, digitHold, hoursHold}
-use Rattle.section.specs.declared.Regions.{Regions}
-use Rattle.section.specs.declared.Airports.{Airports}
-use Rattle.section.specs.declared.Hours.{Hours}
-use Rattle.section.specs.declared.Settings.{Settings}
-use Rattle.command.specs.Text.{numbers}
-use Rattle.config.specs.Config.{flagsValid, sectionsValid, valid}
-use Rattle.config.proofs.Seven.{rest, sections-are, rest-are}
+use Rattle.settings.specs.Settings.{contentsOf, fixedHold, regionsHold, airportsHold, digitHold, hoursHold}
+use Rattle.settings.specs.declared.Regions.{Regions}
+use Rattle.settings.specs.declared.Airports.{Airports}
+use Rattle.settings.specs.declared.Hours.{Hours}
+use Rattle.settings.specs.declared.Settings.{Settings}
+use Rattle.settings.specs.Valid.{flagsValid, sectionsValid, valid}
 
 -- ---- Flags
 
@@ -46,7 +44,7 @@ unfolding contentsAllowed
 parts i is at c cs e = both-fine (contentAllowed i at c) (contentsAllowed is (at + length (contentText i c)) cs) e
 
 -- a number of w digits is no more than it may be
-amount-held : (w most at v : ℕ) → contentAllowed (Number w 0 most) at (Amount v) ≡ Fine → v ≤ most
+amount-held : (w most at v : ℕ) → contentAllowed (Digits (number w 0 most)) at (Amount v) ≡ Fine → v ≤ most
 amount-held w most at v e = leb-true v most (both-right (leb 0 v) (leb v most) (must-held (leb 0 v && leb v most) 5 at e))
 
 -- every box of a list, of the first as many as its count says
@@ -87,18 +85,18 @@ pub record SoundAirports (x : Airports) : Type 0 where
   pub routine : x .routine ≤ 1
 
 sound-airports : (x : Airports)
-    → contentsAllowed (AirfieldList ∷ AirfieldList ∷ AirfieldList ∷ AirfieldList ∷ Number 1 0 1 ∷ []) 0 (airportsHold x) ≡ Fine
+    → contentsAllowed (AirfieldList ∷ AirfieldList ∷ AirfieldList ∷ AirfieldList ∷ Digits (number 1 0 1) ∷ []) 0 (airportsHold x) ≡ Fine
     → SoundAirports x
 sound-airports x e =
     let rest : List Content = Amount (x .routine) ∷ [] in
-    let digit : List Item = Number 1 0 1 ∷ [] in
+    let digit : List Item = Digits (number 1 0 1) ∷ [] in
     let a = parts AirfieldList (AirfieldList ∷ AirfieldList ∷ AirfieldList ∷ digit) 0 (Names (x .selected .ascent))
     (Names (x .selected .descent) ∷ Names (x .inhibited .ascent) ∷ Names (x .inhibited .descent) ∷ rest) e in
     let b = parts AirfieldList (AirfieldList ∷ AirfieldList ∷ digit) _ (Names (x .selected .descent))
     (Names (x .inhibited .ascent) ∷ Names (x .inhibited .descent) ∷ rest) (a .1) in
     let c = parts AirfieldList (AirfieldList ∷ digit) _ (Names (x .inhibited .ascent)) (Names (x .inhibited .descent) ∷ rest) (b .1) in
     let d = parts AirfieldList digit _ (Names (x .inhibited .descent)) rest (c .1) in
-    let f = parts (Number 1 0 1) [] _ (Amount (x .routine)) [] (d .1) in
+    let f = parts (Digits (number 1 0 1)) [] _ (Amount (x .routine)) [] (d .1) in
     record {
       up = (airfields-held _ _ (a .0) .few, airfields-held _ _ (c .0) .few);
       down = (airfields-held _ _ (b .0) .few, airfields-held _ _ (d .0) .few);
@@ -106,15 +104,15 @@ sound-airports x e =
     }
 
 -- section 6, and 8 alike
-sound-digit : (v : ℕ) → contentsAllowed (Number 1 0 1 ∷ []) 0 (digitHold v) ≡ Fine → v ≤ 1
-sound-digit v e = amount-held 1 1 0 v (parts (Number 1 0 1) [] 0 (Amount v) [] e .0)
+sound-digit : (v : ℕ) → contentsAllowed (Digits (number 1 0 1) ∷ []) 0 (digitHold v) ≡ Fine → v ≤ 1
+sound-digit v e = amount-held 1 1 0 v (parts (Digits (number 1 0 1)) [] 0 (Amount v) [] e .0)
 
 -- section 9
-sound-hours : (x : Hours) → contentsAllowed (Number 2 0 23 ∷ Number 2 0 23 ∷ []) 0 (hoursHold x) ≡ Fine
+sound-hours : (x : Hours) → contentsAllowed (Digits (number 2 0 23) ∷ Digits (number 2 0 23) ∷ []) 0 (hoursHold x) ≡ Fine
     → (x .start ≤ 23) × (x .end ≤ 23)
 sound-hours x e =
-    let a = parts (Number 2 0 23) (Number 2 0 23 ∷ []) 0 (Amount (x .start)) (Amount (x .end) ∷ []) e in
-    let b = parts (Number 2 0 23) [] _ (Amount (x .end)) [] (a .1) in
+    let a = parts (Digits (number 2 0 23)) (Digits (number 2 0 23) ∷ []) 0 (Amount (x .start)) (Amount (x .end) ∷ []) e in
+    let b = parts (Digits (number 2 0 23)) [] _ (Amount (x .end)) [] (a .1) in
     (amount-held 2 23 0 (x .start) (a .0), amount-held 2 23 _ (x .end) (b .0))
 
 -- ---- The whole
@@ -127,27 +125,30 @@ pub record Sound (x : Settings) : Type 0 where
   pub routine8 : x .routine8 ≤ 1
   pub hours : (x .hours .start ≤ 23) × (x .hours .end ≤ 23)
 
+-- one section, and the others
+turn : (k : ℕ) (ks : List ℕ) (x : Settings) → sectionsValid (k ∷ ks) x ≡ true
+    → (contentsAllowed (layoutOf k) 0 (contentsOf x k) ≡ Fine) × (sectionsValid ks x ≡ true)
+unfolding sectionsValid
+turn k ks x e =
+    let one = contentsAllowed (layoutOf k) 0 (contentsOf x k) in
+    (fine-is one (both-left (isFine one) (sectionsValid ks x) e), both-right (isFine one) (sectionsValid ks x) e)
+
 pub sound : (x : Settings) → valid x ≡ true → Sound x
-unfolding valid layoutOf
+unfolding valid layoutOf tableOf contentsOf fixedHold
 sound x v =
-    let all = both-right (flagsValid (x .flags)) (sectionsValid numbers x) v in
-    let two = isFine (contentsAllowed (layoutOf 2) 0 (regionsHold (x .regions))) in
-    let three = isFine (contentsAllowed (layoutOf 3) 0 (airportsHold (x .airports))) in
-    let four = isFine (contentsAllowed (layoutOf 4) 0 (enrouteHold (x .enroute))) in
-    let five = isFine (contentsAllowed (layoutOf 5) 0 (ascentHold (x .ascent))) in
-    let six = isFine (contentsAllowed (layoutOf 6) 0 (digitHold (x .routine6))) in
-    let eight = isFine (contentsAllowed (layoutOf 6) 0 (digitHold (x .routine8))) in
-    let nine = isFine (contentsAllowed (layoutOf 9) 0 (hoursHold (x .hours))) in
-    let from2 = rw (sections-are x) at all in
-    let from3 = both-right two (three && sectionsValid rest x) from2 in
-    let from4 = rw (rest-are x) at (both-right three (sectionsValid rest x) from3) in
-    let from6 = both-right five _ (both-right four _ from4) in
-    let from8 = both-right six _ from6 in
+    let two = turn 2 _ x (both-right (flagsValid (x .flags)) (sectionsValid numbers x) v) in
+    let three = turn 3 _ x (two .1) in
+    let four = turn 4 _ x (three .1) in
+    let five = turn 5 _ x (four .1) in
+    let six = turn 6 _ x (five .1) in
+    let seven = turn 7 _ x (six .1) in
+    let eight = turn 8 _ x (seven .1) in
+    let nine = turn 9 _ x (eight .1) in
     record {
       flags = λ i. flag-small (x .flags) i (both-left (flagsValid (x .flags)) (sectionsValid numbers x) v);
-      regions = sound-regions (x .regions) (fine-is _ (both-left two _ from2));
-      airports = sound-airports (x .airports) (fine-is _ (both-left three _ from3));
-      routine6 = sound-digit (x .routine6) (fine-is _ (both-left six _ from6));
-      routine8 = sound-digit (x .routine8) (fine-is _ (both-left eight _ from8));
-      hours = sound-hours (x .hours) (fine-is _ (both-left nine _ (both-right eight _ from8)));
+      regions = sound-regions (x .regions) (two .0);
+      airports = sound-airports (x .airports) (three .0);
+      routine6 = sound-digit (x .routine6) (six .0);
+      routine8 = sound-digit (x .routine8) (eight .0);
+      hours = sound-hours (x .hours) (nine .0);
     }

@@ -6,8 +6,8 @@ use Prim.Native.Nat.{ℕ}
 use lib.Dec.{ltb, eqb}
 use Rattle.lists.specs.declared.Airfields.{Airfields}
 use Rattle.lists.specs.declared.Boxes.{Boxes}
-use Rattle.section.specs.declared.Settings.{Settings}
-use Rattle.config.specs.Config.{valid}
+use Rattle.settings.specs.declared.Settings.{Settings}
+use Rattle.settings.specs.Valid.{valid}
 use Rattle.decide.specs.Question.{Question}
 use Rattle.decide.specs.Words.{Amdar, InhibitHours, Regions, Airports, Ascent, Enroute, Descent, flagOf}
 use Rattle.decide.specs.Tests.{inRange, isAirfield, inWindow, minutes, firstHolding, has}

@@ -5,8 +5,8 @@ use mathlib.Core.Logic.{_⊎_}
 use mathlib.Core.Bool.{true, false}
 use mathlib.Core.List.{List}
 use Prim.Native.Nat.{ℕ, _<_}
-use Rattle.section.specs.declared.Settings.{Settings}
-use Rattle.config.specs.Config.{valid}
+use Rattle.settings.specs.declared.Settings.{Settings}
+use Rattle.settings.specs.Valid.{valid}
 use Rattle.decide.specs.Question.{Question}
 use Rattle.decide.specs.Words.{
   Amdar,

@@ -15,7 +15,7 @@ use Rattle.field.specs.declared.Edge.{Edge}
 use Rattle.field.specs.declared.Region.{Region}
 use Rattle.lists.specs.declared.Airfields.{Airfields}
 use Rattle.lists.specs.declared.Boxes.{Boxes}
-use Rattle.section.specs.declared.Settings.{Settings}
+use Rattle.settings.specs.declared.Settings.{Settings}
 use Rattle.decide.specs.Question.{Question}
 
 -- ---- "Seven flags: AMDAR, inhibit hours, regions, airports, ascent, enroute, descent"

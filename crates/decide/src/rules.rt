@@ -10,14 +10,14 @@ use crate::boxes::inhibiting_box;
 use crate::boxes::minutes_of;
 use crate::boxes::no_reporting_box;
 use crate::window::in_window;
-use config::settings::is_valid;
-use section::Settings;
+use settings::Settings;
+use settings::valid::is_valid;
 ghost use mathlib.Core.Path.{_≡_};
 ghost use mathlib.Core.Bool.{true};
 ghost use mathlib.Core.List.{[]};
 ghost use Prim.Native.Nat.{_<_};
 ghost use lib.Signed.{mag};
-ghost use Rattle.config.specs.Config.{valid};
+ghost use Rattle.settings.specs.Valid.{valid};
 ghost use Rattle.decide.specs.Tests.{inRange};
 ghost use Rattle.decide.specs.Reason.{byFlag, decisionOf, isSilent, orRoutine, routineBy, phaseReason, reasonFor, explained, decidedBy, decided};
 

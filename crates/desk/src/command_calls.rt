@@ -8,9 +8,7 @@ use command::Command;
 use command::check::check;
 use command::check::walk;
 use command::read::command_of;
-use command::read::names_lists;
 use command::read::no_command;
-use command::read::short_of;
 use command_write::Wrote;
 use command_write::write::write;
 use text::Seen;
@@ -30,29 +28,20 @@ pub extern "C" fn esk_command_check(text: &[u8]) -> Answer
     numbers(check(text), 0)
 }
 
-// A text that names no section of lists has a way of its own: what it holds is read first, and then all else of the answer is zero.
 #[no_mangle]
 pub extern "C" fn esk_command_read(text: &[u8]) -> CommandAnswer
     ensures { λ r. ⌜ r ≡ commandNumbers (readCommand (now (text .entry))) ⌝ }
 {
-    let mut places: [usize; 10] = [0; 10];
+    let mut places: [usize; 11] = [0; 11];
     match walk(text, &mut places) {
         Seen::Bad(code, place) => CommandAnswer {
             answer: answer_of(code, place),
             command: no_command(),
         },
-        Seen::Fine => {
-            if !names_lists(text) {
-                return CommandAnswer {
-                    answer: answer_of(0, 0),
-                    command: short_of(text, places),
-                };
-            }
-            CommandAnswer {
-                answer: answer_of(0, 0),
-                command: command_of(text, places),
-            }
-        }
+        Seen::Fine => CommandAnswer {
+            answer: answer_of(0, 0),
+            command: command_of(text, places),
+        },
     }
 }
 

@@ -2,12 +2,13 @@
 use crate::Answer;
 use crate::HostApplied;
 use crate::answers::answer_of;
-use config::settings::after_reset;
-use config::settings::apply;
-use config::settings::is_valid;
-use section::Settings;
+use config::applying::apply;
+use settings::Settings;
+use settings::reset::after_reset;
+use settings::valid::is_valid;
 ghost use mathlib.Core.Path.{_≡_};
-ghost use Rattle.config.specs.Config.{reset, valid, applied, kept};
+ghost use Rattle.config.specs.Config.{applied, kept};
+ghost use Rattle.settings.specs.Valid.{reset, valid};
 ghost use Rattle.desk.specs.Outcomes.{validNumbers, appliedNumbers, outcomeOf};
 
 #[no_mangle]

@@ -3,7 +3,7 @@ use crate::HostDecided;
 use decide::Decided;
 use decide::Decision;
 use decide::rules::decide;
-use section::Settings;
+use settings::Settings;
 ghost use mathlib.Core.Path.{_≡_};
 ghost use Rattle.decide.specs.Reason.{decided};
 ghost use Rattle.desk.specs.Decisions.{decisionNumber, hostDecided, decidedNumbers};

@@ -7,7 +7,7 @@ use native.Mathlib.Omega.{arith}
 use lib.Dec.{leb, eqb}
 use lib.ListN.{length, getD}
 use borrow.Author.Tests.{leb-true, eqb-true}
-use Rattle.text.specs.Names.{between, allAllowed}
+use Rattle.text.specs.Names.{allAllowed}
 use Rattle.text.specs.Parts.{part}
 use Rattle.text.proofs.Cases.{both-left, both-right}
 use Rattle.field.specs.declared.Circle.{Circle}
@@ -15,7 +15,7 @@ use Rattle.field.specs.declared.Edge.{Edge}
 use Rattle.field.specs.declared.Step.{Step}
 use Rattle.field.specs.declared.Step.the-variants.{Next, Stop}
 use Rattle.field.specs.Decimal.{allDigits, value}
-use Rattle.field.specs.Fields.{after, checkNumber, checkMark, checkDelimiter, checkAirfield}
+use Rattle.field.specs.Fields.{after, checkDigits, checkDelimiter, checkAirfield}
 use Rattle.field.specs.Boxes.{latitude, longitude, isLetter, belowZero, edgeAt, northFirst, westFirst, checkEdge, checkPair, checkBox}
 
 -- ---- Steps
@@ -52,20 +52,20 @@ pub record Number (w least most : ℕ) (s : List ℕ) (at p : ℕ) : Type 0 wher
   pub low : least ≤ value (part at w s)
   pub high : value (part at w s) ≤ most
 
-two : (room digits ok : Bool) (at end p : ℕ)
-    → cond room (cond digits (cond ok (Next end) (Stop 5 at)) (Stop 4 at)) (Stop 8 at) ≡ Next p
+two : (room digits ok : Bool) (code at end p : ℕ)
+    → cond room (cond digits (cond ok (Next end) (Stop code at)) (Stop 4 at)) (Stop 8 at) ≡ Next p
     → (room ≡ true) × (digits ≡ true) × (ok ≡ true) × (end ≡ p)
-two true true true at end p e = (refl, refl, refl, next-same e)
-two true true false at end p e = stop-next 5 at p e
-two true false ok at end p e = stop-next 4 at p e
-two false digits ok at end p e = stop-next 8 at p e
+two true true true code at end p e = (refl, refl, refl, next-same e)
+two true true false code at end p e = stop-next code at p e
+two true false ok code at end p e = stop-next 4 at p e
+two false digits ok code at end p e = stop-next 8 at p e
 
 -- an accepted number
-pub number : (w least most : ℕ) (s : List ℕ) (at p : ℕ) → checkNumber w least most s at ≡ Next p → Number w least most s at p
-unfolding checkNumber
-number w least most s at p e =
+pub number : (code w least most : ℕ) (s : List ℕ) (at p : ℕ) → checkDigits code w least most s at ≡ Next p → Number w least most s at p
+unfolding checkDigits
+number code w least most s at p e =
     let v = value (part at w s) in
-    let f = two (leb (at + w) (length s)) (allDigits (part at w s)) (leb least v && leb v most) at (at + w) p e in
+    let f = two (leb (at + w) (length s)) (allDigits (part at w s)) (leb least v && leb v most) code at (at + w) p e in
     record {
       next = f .3;
       room = leb-true (at + w) (length s) (f .0);
@@ -74,15 +74,7 @@ number w least most s at p e =
       high = leb-true v most (both-right (leb least v) (leb v most) (f .2));
     }
 
--- ---- Marks, delimiters, airfields
-
--- an accepted mark
-pub mark : (least most : ℕ) (s : List ℕ) (at p : ℕ) → checkMark least most s at ≡ Next p
-    → (at + 1 ≤ length s) × (between (48 + least) (48 + most) (getD s at 0) ≡ true) × (at + 1 ≡ p)
-unfolding checkMark
-mark least most s at p e =
-    let f = one (leb (at + 1) (length s)) (between (48 + least) (48 + most) (getD s at 0)) 4 at (at + 1) p e in
-    (leb-true (at + 1) (length s) (f .0), f .1, f .2)
+-- ---- Delimiters, airfields
 
 -- an accepted delimiter
 pub delimiter : (s : List ℕ) (at p : ℕ) → checkDelimiter s at ≡ Next p → (at + 1 ≤ length s) × (getD s at 0 ≡ 47) × (at + 1 ≡ p)

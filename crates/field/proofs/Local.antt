@@ -77,12 +77,12 @@ part-extend n s y at h =
 pub part-byte : (n : ℕ) (s : List ℕ) (at i : ℕ) → i < n → getD (part at n s) i 0 ≡ getD s (at + i) 0
 part-byte n s at i h = getD-take n (drop at s) i 0 h ∙ getD-drop at s i 0
 
--- ---- One field: n bytes and a test of them, which answers 0 or the code
+-- ---- One field: n bytes and a test of them, which answers 0, or one more than the code
 
--- where a field of which the test answered a code comes to
+-- where a field comes to, by what the test answered
 abbrev pub outcome : ℕ → ℕ → ℕ → Step
 outcome zero at next = Next next
-outcome (suc code) at next = Stop (suc code) at
+outcome (suc code) at next = Stop code at
 
 -- n bytes, and a test of them
 abbrev pub field : ℕ → (List ℕ → ℕ) → List ℕ → ℕ → Step
@@ -94,7 +94,7 @@ outcome-shift (suc code) m at n = refl
 
 outcome-next : (code at next p : ℕ) → outcome code at next ≡ Next p → p ≡ next
 outcome-next zero at next p e = cc
-outcome-next (suc code) at next p e = stop-next (suc code) at p e
+outcome-next (suc code) at next p e = stop-next code at p e
 
 field-shift : (n : ℕ) (test : List ℕ → ℕ) (x s : List ℕ) (at : ℕ)
     → field n test (x ++ s) (length x + at) ≡ shifted (length x) (field n test s at)

@@ -8,10 +8,10 @@ use native.Mathlib.Nat.{add-zero}
 use lib.Dec.{leb, eqb}
 use lib.ListN.{getD, take, drop}
 use lib.Seq.{take-take}
-use Rattle.text.specs.Names.{between, allAllowed}
+use Rattle.text.specs.Names.{allAllowed}
 use Rattle.text.specs.Parts.{part}
 use Rattle.field.specs.Decimal.{allDigits, value}
-use Rattle.field.specs.Fields.{room, checkNumber, checkMark, checkDelimiter, checkAirfield}
+use Rattle.field.specs.Fields.{room, checkDigits, checkDelimiter, checkAirfield}
 use Rattle.field.specs.Boxes.{latitude, longitude, isLetter, belowZero, edgeAt, checkEdge, checkPair, checkBox, northFirst, westFirst, regionAt}
 use Rattle.field.specs.declared.Step.{Step}
 use Rattle.field.specs.declared.Step.the-variants.{Next, Stop}
@@ -23,17 +23,14 @@ use Rattle.field.proofs.LocalThen.{bound-local, bound-first, bound-seco
 
 -- ---- Each field as its bytes and a test of them
 
-abbrev numberTest : ℕ → ℕ → List ℕ → ℕ
-numberTest least most b = cond (allDigits b) (cond (leb least (value b) && leb (value b) most) 0 5) 4
-
-abbrev markTest : ℕ → ℕ → List ℕ → ℕ
-markTest least most b = cond (between (48 + least) (48 + most) (getD b 0 0)) 0 4
+abbrev digitsTest : ℕ → ℕ → ℕ → List ℕ → ℕ
+digitsTest code least most b = cond (allDigits b) (cond (leb least (value b) && leb (value b) most) 0 (suc code)) (suc 4)
 
 abbrev delimiterTest : List ℕ → ℕ
-delimiterTest b = cond (eqb (getD b 0 0) 47) 0 3
+delimiterTest b = cond (eqb (getD b 0 0) 47) 0 (suc 3)
 
 abbrev airfieldTest : List ℕ → ℕ
-airfieldTest b = cond (allAllowed b) 0 4
+airfieldTest b = cond (allAllowed b) 0 (suc 4)
 
 abbrev edgeOf : Circle → List ℕ → Edge
 edgeOf c b = record { degrees = value (take (c .width) b); letter = getD b (c .width) 0 }
@@ -41,47 +38,43 @@ edgeOf c b = record { degrees = value (take (c .width) b); letter = getD b (c .w
 abbrev edgeTest : Circle → List ℕ → ℕ
 edgeTest c b =
     cond (allDigits (take (c .width) b) && isLetter c (getD b (c .width) 0))
-    (cond (belowZero c (value (take (c .width) b)) (getD b (c .width) 0)) 6 (cond (leb (value (take (c .width) b)) (c .most)) 0 5))
-    4
+    (cond (belowZero c (value (take (c .width) b)) (getD b (c .width) 0)) (suc 6) (cond (leb (value (take (c .width) b)) (c .most)) 0 (suc 5)))
+    (suc 4)
 
-one-test : (t : Bool) (code at next : ℕ) → outcome (cond t 0 (suc code)) at next ≡ cond t (Next next) (Stop (suc code) at)
+one-test : (t : Bool) (code at next : ℕ) → outcome (cond t 0 (suc code)) at next ≡ cond t (Next next) (Stop code at)
 one-test true code at next = refl
 one-test false code at next = refl
 
-two-tests : (t u : Bool) (at next : ℕ) → cond t (cond u (Next next) (Stop 5 at)) (Stop 4 at) ≡ outcome (cond t (cond u 0 5) 4) at next
-two-tests true true at next = refl
-two-tests true false at next = refl
-two-tests false u at next = refl
+two-tests : (t u : Bool) (code at next : ℕ)
+    → cond t (cond u (Next next) (Stop code at)) (Stop 4 at) ≡ outcome (cond t (cond u 0 (suc code)) (suc 4)) at next
+two-tests true true code at next = refl
+two-tests true false code at next = refl
+two-tests false u code at next = refl
 
 three-tests : (t u w : Bool) (at next : ℕ)
-    → cond t (cond u (Stop 6 at) (cond w (Next next) (Stop 5 at))) (Stop 4 at) ≡ outcome (cond t (cond u 6 (cond w 0 5)) 4) at next
+    → cond t (cond u (Stop 6 at) (cond w (Next next) (Stop 5 at))) (Stop 4 at) ≡ outcome (cond t (cond u (suc 6) (cond w 0 (suc 5))) (suc 4)) at next
 three-tests true true w at next = refl
 three-tests true false true at next = refl
 three-tests true false false at next = refl
 three-tests false u w at next = refl
 
-number-field : (w least most : ℕ) (s : List ℕ) (at : ℕ) → checkNumber w least most s at ≡ field w (numberTest least most) s at
-unfolding checkNumber
-number-field w least most s at =
+digits-field : (code w least most : ℕ) (s : List ℕ) (at : ℕ)
+    → checkDigits code w least most s at ≡ field w (digitsTest code least most) s at
+unfolding checkDigits
+digits-field code w least most s at =
     ap (room w s at)
-    (two-tests (allDigits (part at w s)) (leb least (value (part at w s)) && leb (value (part at w s)) most) at (at + w))
+    (two-tests (allDigits (part at w s)) (leb least (value (part at w s)) && leb (value (part at w s)) most) code at (at + w))
 
 first-byte : (s : List ℕ) (at : ℕ) → getD (part at 1 s) 0 0 ≡ getD s at 0
 first-byte s at = part-byte 1 s at 0 (omega arith) ∙ rw (add-zero at)
 
-mark-field : (least most : ℕ) (s : List ℕ) (at : ℕ) → checkMark least most s at ≡ field 1 (markTest least most) s at
-unfolding checkMark
-mark-field least most s at =
-    rw (first-byte s at)
-    (ap (room 1 s at) (sym (one-test (between (48 + least) (48 + most) (getD s at 0)) 3 at (at + 1))))
-
 delimiter-field : (s : List ℕ) (at : ℕ) → checkDelimiter s at ≡ field 1 delimiterTest s at
 unfolding checkDelimiter
-delimiter-field s at = rw (first-byte s at) (ap (room 1 s at) (sym (one-test (eqb (getD s at 0) 47) 2 at (at + 1))))
+delimiter-field s at = rw (first-byte s at) (ap (room 1 s at) (sym (one-test (eqb (getD s at 0) 47) 3 at (at + 1))))
 
 airfield-field : (s : List ℕ) (at : ℕ) → checkAirfield s at ≡ field 4 airfieldTest s at
 unfolding checkAirfield
-airfield-field s at = ap (room 4 s at) (sym (one-test (allAllowed (part at 4 s)) 3 at (at + 4)))
+airfield-field s at = ap (room 4 s at) (sym (one-test (allAllowed (part at 4 s)) 4 at (at + 4)))
 
 edge-field : (c : Circle) (s : List ℕ) (at : ℕ) → checkEdge c s at ≡ field (c .width + 1) (edgeTest c) s at
 unfolding checkEdge
@@ -92,44 +85,27 @@ edge-field c s at =
     (three-tests (allDigits (part at w s) && isLetter c (getD s (at + w) 0)) (belowZero c (value (part at w s)) (getD s (at + w) 0))
     (leb (value (part at w s)) (c .most)) at (at + (w + 1))))
 
--- ---- Numbers, marks, the delimiter, airfields
+-- ---- Digits, the delimiter, airfields
 
-module _ (w least most : ℕ) where
-  -- a number is local
-  pub number-local : Local (checkNumber w least most)
-  number-local =
-      local-same (checkNumber w least most) (field w (numberTest least most)) (number-field w least most) (field-local w (numberTest least most))
+module _ (code w least most : ℕ) where
+  abbrev check : List ℕ → ℕ → Step
+  check = checkDigits code w least most
 
-  -- what its digits are read as
-  pub number-reads : {A : Type 0} (r : List ℕ → A) → Reads (checkNumber w least most) (λ s at. r (part at w s))
-  number-reads r =
-      same-reads (checkNumber w least most) (field w (numberTest least most)) (number-field w least most) (λ s at. r (part at w s))
-      (field-reads w (numberTest least most) r)
+  abbrev bytes : List ℕ → ℕ → Step
+  bytes = field w (digitsTest code least most)
 
-  -- it has w bytes
-  pub number-sized : Sized (checkNumber w least most) (λ s at. w)
-  number-sized =
-      same-sized (checkNumber w least most) (field w (numberTest least most)) (number-field w least most) (λ s at. w)
-      (field-sized w (numberTest least most))
+  -- digits are local
+  pub digits-local : Local (checkDigits code w least most)
+  digits-local = local-same check bytes (digits-field code w least most) (field-local w (digitsTest code least most))
 
-module _ (least most : ℕ) where
-  -- a mark is local
-  pub mark-local : Local (checkMark least most)
-  mark-local =
-      local-same (checkMark least most) (field 1 (markTest least most)) (mark-field least most) (field-local 1 (markTest least most))
+  -- what they are read as
+  pub digits-reads : {A : Type 0} (r : List ℕ → A) → Reads (checkDigits code w least most) (λ s at. r (part at w s))
+  digits-reads r =
+      same-reads check bytes (digits-field code w least most) (λ s at. r (part at w s)) (field-reads w (digitsTest code least most) r)
 
-  -- what its byte is read as
-  pub mark-reads : {A : Type 0} (r : ℕ → A) → Reads (checkMark least most) (λ s at. r (getD s at 0))
-  mark-reads r =
-      same-reads (checkMark least most) (field 1 (markTest least most)) (mark-field least most) (λ s at. r (getD s at 0))
-      (reads-same (field 1 (markTest least most)) (λ s at. r (getD s at 0)) (λ s at. r (getD (part at 1 s) 0 0))
-      (λ s at. ap r (sym (first-byte s at))) (field-reads 1 (markTest least most) (λ b. r (getD b 0 0))))
-
-  -- it has one byte
-  pub mark-sized : Sized (checkMark least most) (λ s at. 1)
-  mark-sized =
-      same-sized (checkMark least most) (field 1 (markTest least most)) (mark-field least most) (λ s at. 1)
-      (field-sized 1 (markTest least most))
+  -- there are w of them
+  pub digits-sized : Sized (checkDigits code w least most) (λ s at. w)
+  digits-sized = same-sized check bytes (digits-field code w least most) (λ s at. w) (field-sized w (digitsTest code least most))
 
 -- the delimiter is local
 pub delimiter-local : Local checkDelimiter

@@ -11,7 +11,7 @@ use Rattle.text.specs.Parts.{part}
 use Rattle.text.proofs.Cases.{by-test}
 use Rattle.field.specs.declared.Step.the-variants.{Next, Stop}
 use Rattle.field.specs.Decimal.{isDigit, allDigits, valueFrom, value}
-use Rattle.field.specs.Fields.{checkNumber}
+use Rattle.field.specs.Fields.{checkDigits}
 use Rattle.field.specs.Steps.{numberOr}
 use Rattle.field.proofs.Decimal.{value-small}
 
@@ -41,39 +41,39 @@ number-none ds l h =
     (λ (d : allDigits ds ≡ true). absurd (omega (arith, rw d at h, value-small ds l d)))
     (λ (d : allDigits ds ≡ false). d)
 
--- ---- The check of a number, by what its digits spell
+-- ---- The check of digits, by what they spell
 
 and-false : (t : Bool) → (t && false) ≡ false
 and-false true = refl
 and-false false = refl
 
 -- the text ends inside the number
-pub number-cut : (w least most : ℕ) (s : List ℕ) (at : ℕ) → length s < at + w → checkNumber w least most s at ≡ Stop 8 at
-unfolding checkNumber
-number-cut w least most s at h = rw (lt-leb (at + w) (length s) h)
+pub digits-cut : (code w least most : ℕ) (s : List ℕ) (at : ℕ) → length s < at + w → checkDigits code w least most s at ≡ Stop 8 at
+unfolding checkDigits
+digits-cut code w least most s at h = rw (lt-leb (at + w) (length s) h)
 
-module _ (w least most : ℕ) (s : List ℕ) (at : ℕ) (fits : at + w ≤ length s) where
+module _ (code w least most : ℕ) (s : List ℕ) (at : ℕ) (fits : at + w ≤ length s) where
   -- a byte is no digit
-  pub number-other : allDigits (part at w s) ≡ false → checkNumber w least most s at ≡ Stop 4 at
-  unfolding checkNumber
-  number-other d = rw (le-leb (at + w) (length s) fits, d)
+  pub digits-other : allDigits (part at w s) ≡ false → checkDigits code w least most s at ≡ Stop 4 at
+  unfolding checkDigits
+  digits-other d = rw (le-leb (at + w) (length s) fits, d)
 
   -- too much
-  pub number-above : allDigits (part at w s) ≡ true → most < value (part at w s) → checkNumber w least most s at ≡ Stop 5 at
-  unfolding checkNumber
-  number-above d h =
+  pub digits-above : allDigits (part at w s) ≡ true → most < value (part at w s) → checkDigits code w least most s at ≡ Stop code at
+  unfolding checkDigits
+  digits-above d h =
       rw (le-leb (at + w) (length s) fits, d, lt-leb (value (part at w s)) most h, and-false (leb least (value (part at w s))))
 
   -- too little
-  pub number-below : allDigits (part at w s) ≡ true → value (part at w s) < least → checkNumber w least most s at ≡ Stop 5 at
-  unfolding checkNumber
-  number-below d h = rw (le-leb (at + w) (length s) fits, d, lt-leb least (value (part at w s)) h)
+  pub digits-below : allDigits (part at w s) ≡ true → value (part at w s) < least → checkDigits code w least most s at ≡ Stop code at
+  unfolding checkDigits
+  digits-below d h = rw (le-leb (at + w) (length s) fits, d, lt-leb least (value (part at w s)) h)
 
   -- a number that fits
-  pub number-fine : allDigits (part at w s) ≡ true → least ≤ value (part at w s) → value (part at w s) ≤ most
-      → checkNumber w least most s at ≡ Next (at + w)
-  unfolding checkNumber
-  number-fine d h k =
+  pub digits-fine : allDigits (part at w s) ≡ true → least ≤ value (part at w s) → value (part at w s) ≤ most
+      → checkDigits code w least most s at ≡ Next (at + w)
+  unfolding checkDigits
+  digits-fine d h k =
       rw (
         le-leb (at + w) (length s) fits,
         d,

@@ -19,16 +19,16 @@ use Rattle.field.specs.declared.Edge.{Edge}
 use Rattle.field.specs.declared.Region.{Region}
 use Rattle.field.specs.declared.Step.the-variants.{Next}
 use Rattle.field.specs.Decimal.{allDigits, value, decimal}
-use Rattle.field.specs.Fields.{checkNumber, checkMark, checkDelimiter}
+use Rattle.field.specs.Fields.{checkDigits, checkDelimiter}
 use Rattle.field.specs.Boxes.{latitude, longitude, isLetter, belowZero, northFirst, westFirst, edgeAt, edgeText, edgeAllowed, checkEdge, regionAt, regionText, regionAllowed, checkBox}
 use Rattle.field.proofs.Decimal.{part-long, decimal-length, decimal-digits, value-decimal, decimal-value}
-use Rattle.field.proofs.Number.{number-fine}
+use Rattle.field.proofs.Number.{digits-fine}
 use Rattle.field.proofs.Accepted.{number, edge, box, box-next}
 use Rattle.field.proofs.Spelling.{edge-length}
 
--- ---- Numbers, marks, delimiters
+-- ---- Digits, delimiters
 
-module _ (w least most v : ℕ) (s : List ℕ) (at : ℕ) (held : v < 10 ^ w) (stands : Stands (decimal w v) s at) where
+module _ (w v : ℕ) (s : List ℕ) (at : ℕ) (held : v < 10 ^ w) (stands : Stands (decimal w v) s at) where
   digits-there : part at w s ≡ decimal w v
   digits-there = stands-part (decimal w v) s at w (decimal-length w v) stands
 
@@ -37,9 +37,9 @@ module _ (w least most v : ℕ) (s : List ℕ) (at : ℕ) (held : v < 10 ^ w) (s
   number-value = ap value digits-there ∙ value-decimal w v held
 
   -- and is accepted, where it fits
-  pub number-stands : least ≤ v → v ≤ most → checkNumber w least most s at ≡ Next (at + w)
-  number-stands low high =
-      number-fine w least most s at (omega (arith, stands .room, decimal-length w v))
+  pub number-stands : (code least most : ℕ) → least ≤ v → v ≤ most → checkDigits code w least most s at ≡ Next (at + w)
+  number-stands code least most low high =
+      digits-fine code w least most s at (omega (arith, stands .room, decimal-length w v))
       (ap allDigits digits-there ∙ decimal-digits w v) (omega (arith, number-value)) (omega (arith, number-value))
 
 -- digits in a text are the one spelling of what they are worth
@@ -48,21 +48,9 @@ digits-read w s at room digits =
     ap (λ (k : ℕ). decimal k (value (part at w s))) (sym (part-long s at w room)) ∙ decimal-value (part at w s) digits
 
 -- an accepted number is written back as the same digits
-pub number-read : (w least most : ℕ) (s : List ℕ) (at p : ℕ) → checkNumber w least most s at ≡ Next p
+pub number-read : (code w least most : ℕ) (s : List ℕ) (at p : ℕ) → checkDigits code w least most s at ≡ Next p
     → decimal w (value (part at w s)) ≡ part at w s
-number-read w least most s at p e = let n = number w least most s at p e in digits-read w s at (n .room) (n .digits)
-
--- a mark that was written is accepted
-pub mark-stands : (least most v : ℕ) (s : List ℕ) (at : ℕ) → Stands ((48 + v) ∷ []) s at → least ≤ v → v ≤ most
-    → checkMark least most s at ≡ Next (at + 1)
-unfolding checkMark
-mark-stands least most v s at stands low high =
-    rw (
-      le-leb (at + 1) (length s) (stands .room),
-      stands-byte (48 + v) s at stands,
-      le-leb (48 + least) (48 + v) (omega arith),
-      le-leb (48 + v) (48 + most) (omega arith),
-    )
+number-read code w least most s at p e = let n = number code w least most s at p e in digits-read w s at (n .room) (n .digits)
 
 -- a delimiter that was written is accepted
 pub delimiter-stands : (s : List ℕ) (at : ℕ) → Stands (47 ∷ []) s at → checkDelimiter s at ≡ Next (at + 1)
@@ -104,7 +92,7 @@ module _ (c : Circle) (wide : c .most < 10 ^ c .width) (e : Edge) (a : Allowed c
   held = omega (arith, a .most)
 
   degrees-there : value (part at (c .width) s) ≡ e .degrees
-  degrees-there = number-value (c .width) 0 0 (e .degrees) s at held digits-stand
+  degrees-there = number-value (c .width) (e .degrees) s at held digits-stand
 
   letter-there : getD s (at + c .width) 0 ≡ e .letter
   unfolding edgeText
@@ -124,7 +112,7 @@ module _ (c : Circle) (wide : c .most < 10 ^ c .width) (e : Edge) (a : Allowed c
   edge-stands =
       rw (
         le-leb (at + (c .width + 1)) (length s) (omega (arith, stands .room, edge-length c e)),
-        digits-there (c .width) 0 0 (e .degrees) s at held digits-stand,
+        digits-there (c .width) (e .degrees) s at held digits-stand,
         value-decimal (c .width) (e .degrees) held,
         decimal-digits (c .width) (e .degrees),
         letter-there,

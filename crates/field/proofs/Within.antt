@@ -6,7 +6,7 @@ use Prim.Native.Nat.{ℕ, zero, suc, _+_, _≤_}
 use native.Mathlib.Omega.{arith}
 use lib.Dec.{leb, eqb}
 use lib.ListN.{length, getD}
-use Rattle.text.specs.Names.{between, allAllowed}
+use Rattle.text.specs.Names.{allAllowed}
 use Rattle.text.specs.Parts.{part}
 use Rattle.text.proofs.Cases.{by-le}
 use borrow.Author.Tests.{le-leb, lt-leb}
@@ -15,7 +15,7 @@ use Rattle.field.specs.declared.Edge.{Edge}
 use Rattle.field.specs.declared.Step.{Step}
 use Rattle.field.specs.declared.Step.the-variants.{Next, Stop}
 use Rattle.field.specs.Decimal.{allDigits, value}
-use Rattle.field.specs.Fields.{after, room, checkNumber, checkMark, checkDelimiter, checkAirfield, repeat}
+use Rattle.field.specs.Fields.{after, room, checkDigits, checkDelimiter, checkAirfield, repeat}
 use Rattle.field.specs.Boxes.{latitude, longitude, isLetter, belowZero, edgeAt, checkEdge, checkPair, checkBox, northFirst, westFirst}
 
 abbrev pub Within : List ℕ → ℕ → Step → Type 0
@@ -44,22 +44,15 @@ module _ (s : List ℕ) where
   after-within at (Next p) more h k = further at p (more p) (h .0) (k p refl (h .1))
   after-within at (Stop code place) more h k = h
 
-  pub number-within : (w least most at : ℕ) → at ≤ length s → Within s at (checkNumber w least most s at)
-  unfolding checkNumber
-  number-within w least most at h =
+  pub digits-within : (code w least most at : ℕ) → at ≤ length s → Within s at (checkDigits code w least most s at)
+  unfolding checkDigits
+  digits-within code w least most at h =
       let p = part at w s in
       let fits = leb least (value p) && leb (value p) most in
-      room-within w at (cond (allDigits p) (cond fits (Next (at + w)) (Stop 5 at)) (Stop 4 at)) h
+      room-within w at (cond (allDigits p) (cond fits (Next (at + w)) (Stop code at)) (Stop 4 at)) h
       (λ l.
-      either at (allDigits p) (cond fits (Next (at + w)) (Stop 5 at)) (Stop 4 at)
-      (either at fits (Next (at + w)) (Stop 5 at) (omega arith, l) h) h)
-
-  pub mark-within : (least most at : ℕ) → at ≤ length s → Within s at (checkMark least most s at)
-  unfolding checkMark
-  mark-within least most at h =
-      let t = between (48 + least) (48 + most) (getD s at 0) in
-      room-within 1 at (cond t (Next (at + 1)) (Stop 4 at)) h
-      (λ l. either at t (Next (at + 1)) (Stop 4 at) (omega arith, l) h)
+      either at (allDigits p) (cond fits (Next (at + w)) (Stop code at)) (Stop 4 at)
+      (either at fits (Next (at + w)) (Stop code at) (omega arith, l) h) h)
 
   pub delimiter-within : (at : ℕ) → at ≤ length s → Within s at (checkDelimiter s at)
   unfolding checkDelimiter

@@ -19,17 +19,21 @@ after (Stop code place) more = Stop code place
 abbrev pub room : ℕ → List ℕ → ℕ → Step → Step
 room n s at seen = cond (leb (at + n) (length s)) seen (Stop 8 at)
 
--- a number of w digits: a non-digit is 4, one that doesn't fit is 5
-unfoldable pub checkNumber : ℕ → ℕ → ℕ → List ℕ → ℕ → Step
-checkNumber w least most s at =
+-- w digits that spell a number from the least to the most: a non-digit is 4, a number that doesn't fit has a code of its own
+unfoldable pub checkDigits : ℕ → ℕ → ℕ → ℕ → List ℕ → ℕ → Step
+checkDigits code w least most s at =
     room w s at
     (cond (allDigits (part at w s))
-    (cond (leb least (value (part at w s)) && leb (value (part at w s)) most) (Next (at + w)) (Stop 5 at))
+    (cond (leb least (value (part at w s)) && leb (value (part at w s)) most) (Next (at + w)) (Stop code at))
     (Stop 4 at))
 
--- a byte that is one of few digits: any other byte is 4
-unfoldable pub checkMark : ℕ → ℕ → List ℕ → ℕ → Step
-checkMark least most s at = room 1 s at (cond (between (48 + least) (48 + most) (getD s at 0)) (Next (at + 1)) (Stop 4 at))
+-- a number: one that doesn't fit is 5
+abbrev pub checkNumber : ℕ → ℕ → ℕ → List ℕ → ℕ → Step
+checkNumber w least most s at = checkDigits 5 w least most s at
+
+-- a mark, one byte that is one of few digits: any other byte is 4
+abbrev pub checkMark : ℕ → ℕ → List ℕ → ℕ → Step
+checkMark least most s at = checkDigits 4 1 least most s at
 
 -- the delimiter `/`
 unfoldable pub checkDelimiter : List ℕ → ℕ → Step

@@ -5,13 +5,13 @@ use text::all_allowed;
 ghost use mathlib.Core.Path.{_≡_};
 ghost use Prim.Native.Nat.{_≤_};
 ghost use lib.ListN.{length};
-ghost use Rattle.field.specs.Fields.{checkNumber, checkMark, checkDelimiter, checkAirfield};
+ghost use Rattle.field.specs.Fields.{checkDigits, checkDelimiter, checkAirfield};
 
-// A number of w digits: a non-digit is 4, one that doesn't fit is 5.
-pub fn number(s: &[u8], at: usize, w: usize, least: usize, most: usize) -> Step
+// w digits: a non-digit is 4; a number that doesn't fit has a code of its own, 5, or 4 where few digits are allowed.
+pub fn digits(s: &[u8], at: usize, w: usize, least: usize, most: usize, code: u8) -> Step
     requires { ⌜ at ≤ length (now s) ⌝ }
     requires { ⌜ (w ≤ 3) × (most ≤ 999) ⌝ }
-    ensures { λ r. ⌜ r ≡ checkNumber w least most (now (s .entry)) at ⌝ }
+    ensures { λ r. ⌜ r ≡ checkDigits code w least most (now (s .entry)) at ⌝ }
 {
     let end = at + w;
     if s.len() < end {
@@ -22,31 +22,12 @@ pub fn number(s: &[u8], at: usize, w: usize, least: usize, most: usize) -> Step
         if 999 < n {
             return Step::Stop(4, at);
         }
-        return Step::Stop(5, at);
+        return Step::Stop(code, at);
     }
     if n < least {
-        return Step::Stop(5, at);
+        return Step::Stop(code, at);
     }
     Step::Next(end)
-}
-
-// A byte that is one of few digits, from `least` to `most`: any other byte is 4.
-pub fn mark(s: &[u8], at: usize, least: u8, most: u8) -> Step
-    requires { ⌜ at ≤ length (now s) ⌝ }
-    requires { ⌜ (least ≤ 9) × (most ≤ 9) ⌝ }
-    ensures { λ r. ⌜ r ≡ checkMark least most (now (s .entry)) at ⌝ }
-{
-    if s.len() <= at {
-        return Step::Stop(8, at);
-    }
-    let b = s[at];
-    if b < b'0' + least {
-        return Step::Stop(4, at);
-    }
-    if b'0' + most < b {
-        return Step::Stop(4, at);
-    }
-    Step::Next(at + 1)
 }
 
 // A `/` delimiter is a fixed byte: another is 3.

@@ -74,7 +74,7 @@ fn pair_allowed(falling: bool, c: Circle, first: Edge, second: Edge, at: usize, 
 
 // ---- The same without code and place: tests that are gathered, for a list of boxes at once
 
-fn short(b: u8) -> u16
+pub fn short(b: u8) -> u16
     ensures { λ r. ⌜ r ≡ b ⌝ }
 {
     b as u16

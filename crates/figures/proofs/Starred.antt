@@ -3,13 +3,14 @@ use mathlib.Core.Path.{refl}
 use lib.IntN.{pos}
 use Rattle.text.specs.Equal.{sameBytes}
 use Rattle.packed.specs.Packed.{worthOf, halfOf, number, allSolidi, trim, allDigits, spelt, readPacked}
-use Rattle.section.specs.Layout.{layoutOf, checkItems, itemsSize, itemsMost}
-use Rattle.field.specs.Fields.{checkNumber, checkDelimiter}
+use Rattle.section.specs.Layout.{layoutOf, tableOf, checkItems, itemsSize, itemsMost}
+use Rattle.field.specs.Fields.{checkDigits, checkDelimiter}
 use Rattle.command.specs.Text.{checkEach, checkAwr04, checkHead, checkFrom, sectionsMost, longest, checkCommand}
-use Rattle.join.specs.Join.{noChange, bytesFrom, choose, joinSections, joinText, join}
+use Rattle.command.specs.Sections.{placeFrom}
+use Rattle.join.specs.Join.{noChange, choose, joinSections, joinText, join}
 use Rattle.field.specs.Decimal.{allDigits as allDecimal, valueFrom}
 use Rattle.figures.specs.Starred.{table, AllHold}
 
 pub starred : AllHold table
-unfolding table worthOf halfOf number allSolidi trim allDigits spelt readPacked sameBytes layoutOf itemsSize itemsMost checkDelimiter checkEach checkAwr04 checkHead checkFrom sectionsMost longest checkCommand noChange bytesFrom choose joinSections joinText join valueFrom checkItems checkNumber allDecimal
+unfolding table worthOf halfOf number allSolidi trim allDigits spelt readPacked sameBytes layoutOf tableOf itemsSize itemsMost checkDelimiter checkEach checkAwr04 checkHead checkFrom sectionsMost longest checkCommand noChange placeFrom choose joinSections joinText join valueFrom checkItems checkDigits allDecimal
 starred = (refl, (refl, (refl, (refl, (refl, (refl, (refl, (refl, (refl, (refl, (refl, (refl, ((refl, refl), (refl, tt))))))))))))))

@@ -12,10 +12,10 @@ use Rattle.text.specs.Equal.{sameBytes}
 use Rattle.text.specs.declared.Seen.the-variants.{Fine}
 use Rattle.text.proofs.Cases.{both-left}
 use Rattle.field.specs.Fields.{checkDelimiter}
-use Rattle.section.specs.Layout.{layoutOf, itemsMost}
-use Rattle.section.specs.Settings.{contentsOf, settingsFrom}
-use Rattle.section.specs.declared.Settings.{Settings}
-use Rattle.command.specs.Text.{numbers, checkEach, checkAwr04, checkHead, checkFrom, sectionsMost, longest, checkCommand}
+use Rattle.section.specs.Layout.{layoutOf, tableOf, itemsMost, numbers}
+use Rattle.settings.specs.Settings.{contentsOf, settingsFrom}
+use Rattle.settings.specs.declared.Settings.{Settings}
+use Rattle.command.specs.Text.{checkEach, checkAwr04, checkHead, checkFrom, sectionsMost, longest, checkCommand}
 use Rattle.command.specs.Record.{flagsOf, downlinkOf}
 use Rattle.command.proofs.Each.{each-all, each-with}
 use Rattle.command.proofs.Head.{passes-length}
@@ -104,7 +104,7 @@ join-groups a b c x y z =
 
 -- it is accepted
 pub no-change-fine : checkCommand noChange ≡ Fine
-unfolding noChange checkCommand longest sectionsMost layoutOf itemsMost checkHead checkAwr04 sameBytes checkEach checkDelimiter checkFrom
+unfolding noChange checkCommand longest sectionsMost layoutOf tableOf itemsMost checkHead checkAwr04 sameBytes checkEach checkDelimiter checkFrom
 no-change-fine = refl
 
 no-change-accepted : Accepted noChange

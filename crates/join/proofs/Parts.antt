@@ -5,13 +5,15 @@ use mathlib.Core.List.{List, [], _∷_, _++_}
 use Prim.Native.Nat.{ℕ, _+_, _≤_, max}
 use native.Mathlib.Omega.{arith}
 use Rattle.text.proofs.Cases.{by-le}
-use Rattle.section.specs.Layout.{layoutOf, itemsSize}
-use Rattle.command.specs.Text.{isDownlink, numbers, isNamed}
+use Rattle.section.specs.Layout.{numbers}
+use Rattle.command.specs.Text.{isDownlink, isNamed}
 use Rattle.command.proofs.Each.{Each, each-with}
-use Rattle.command.proofs.Parts.{Parts, present, markOf, marks, bodies, textOf, bodyFrom, bodyOf, partsOf, Place, flagTests, Sound}
+use Rattle.command.proofs.Parts.{Parts, present, markOf, marks, bodies, textOf, bodyOf, partsOf, Place, flagTests, Sound}
 use Rattle.command.proofs.Accepted.{Accepted, rising, sound, marked, named-present}
 use Rattle.command.proofs.Written.{flags-back, downlink-back, bodies-back, text-accepted}
-use Rattle.join.specs.Join.{bytesFrom, choose, joinSection, joinSections, joinText}
+use Rattle.command.specs.Sections.{isOneOf}
+use Rattle.command.proofs.Standing.{bytes-body}
+use Rattle.join.specs.Join.{choose, joinSection, joinSections, joinText}
 use Rattle.join.proofs.Places.{choose-passes, later, later-named, later-place, marks-later}
 
 -- ---- Parts that spell the same
@@ -84,20 +86,14 @@ join-alike p q r s e f =
 
 -- ---- The joined text
 
--- the walk is the one of the command's parts
-pub bytes-body : (ks s : List ℕ) (at j : ℕ) → bytesFrom ks s at j ≡ bodyFrom ks s at j
-unfolding bytesFrom bodyFrom
-bytes-body [] s at j = refl
-bytes-body (k ∷ ks) s at j = rw (bytes-body ks s (at + itemsSize (layoutOf k) s at) j, bytes-body ks s at j)
-
-joined-bodies : (ks a b : List ℕ) → Each (λ k. isNamed b k ≡ present (bodyOf b k)) ks
+joined-bodies : (ks a b : List ℕ) → Each (λ k. isOneOf numbers k ≡ true) ks → Each (λ k. isNamed b k ≡ present (bodyOf b k)) ks
     → joinSections ks a b ≡ bodies (λ k. later (bodyOf a k) (bodyOf b k)) ks
 unfolding joinSections bodies
-joined-bodies [] a b n = refl
-joined-bodies (k ∷ ks) a b n =
+joined-bodies [] a b o n = refl
+joined-bodies (k ∷ ks) a b o n =
     let here : joinSection a b k ≡ later (bodyOf a k) (bodyOf b k) =
-    rw (n .0, bytes-body numbers a 22 k, bytes-body numbers b 22 k) (later-named (bodyOf a k) (bodyOf b k)) in
-    ap₂ _++_ here (joined-bodies ks a b (n .1))
+    rw (bytes-body a k (o .0), bytes-body b k (o .0), n .0) (later-named (bodyOf a k) (bodyOf b k)) in
+    ap₂ _++_ here (joined-bodies ks a b (o .1) (n .1))
 
 module _ (a b : List ℕ) (x : Accepted a) (y : Accepted b) where
   abbrev both : Parts
@@ -111,7 +107,7 @@ module _ (a b : List ℕ) (x : Accepted a) (y : Accepted b) where
         marked a x,
         marked b y,
         marks-later (bodyOf a) (bodyOf b) 2 numbers (omega arith) rising,
-        joined-bodies numbers a b (named-present b y),
+        joined-bodies numbers a b (refl, (refl, (refl, (refl, (refl, (refl, (refl, (refl, tt)))))))) (named-present b y),
       )
 
   both-sound : Sound both

@@ -5,10 +5,11 @@ use Prim.Native.Nat.{ℕ}
 use Rattle.text.specs.Equal.{sameBytes}
 use Rattle.text.specs.declared.Seen.the-variants.{Fine}
 use Rattle.field.specs.Decimal.{allDigits, valueFrom}
-use Rattle.field.specs.Fields.{checkNumber, checkDelimiter}
-use Rattle.section.specs.Layout.{layoutOf, checkItems, itemsSize, itemsMost}
+use Rattle.field.specs.Fields.{checkDigits, checkDelimiter}
+use Rattle.section.specs.Layout.{layoutOf, tableOf, checkItems, itemsSize, itemsMost}
 use Rattle.command.specs.Text.{checkEach, checkAwr04, checkHead, checkFrom, sectionsMost, longest, checkCommand}
-use Rattle.join.specs.Join.{bytesFrom, choose, joinSections, joinText}
+use Rattle.command.specs.Sections.{placeFrom}
+use Rattle.join.specs.Join.{choose, joinSections, joinText}
 
 -- `AWR041999999000400000/151/`
 unfoldable pub first : List ℕ
@@ -24,14 +25,14 @@ both = 65 ∷ 87 ∷ 82 ∷ 48 ∷ 52 ∷ 49 ∷ 49 ∷ 57 ∷ 57 ∷ 57 ∷ 57 
 
 -- the two are accepted
 pub first-fine : checkCommand first ≡ Fine
-unfolding first checkCommand longest sectionsMost layoutOf itemsMost checkHead checkAwr04 sameBytes checkEach checkDelimiter checkFrom checkItems checkNumber allDigits valueFrom
+unfolding first checkCommand longest sectionsMost layoutOf tableOf itemsMost checkHead checkAwr04 sameBytes checkEach checkDelimiter checkFrom checkItems checkDigits allDigits valueFrom
 first-fine = refl
 
 pub second-fine : checkCommand second ≡ Fine
-unfolding second checkCommand longest sectionsMost layoutOf itemsMost checkHead checkAwr04 sameBytes checkEach checkDelimiter checkFrom checkItems checkNumber allDigits valueFrom
+unfolding second checkCommand longest sectionsMost layoutOf tableOf itemsMost checkHead checkAwr04 sameBytes checkEach checkDelimiter checkFrom checkItems checkDigits allDigits valueFrom
 second-fine = refl
 
 -- and join into the third
 pub printed-join : joinText first second ≡ both
-unfolding first second both joinText choose joinSections bytesFrom layoutOf itemsSize
+unfolding first second both joinText choose joinSections placeFrom layoutOf tableOf itemsSize
 printed-join = refl

@@ -2,30 +2,18 @@
 -- larger downlink digit is kept."
 use mathlib.Core.Bool.{Bool, cond}
 use mathlib.Core.List.{List, [], _∷_, _++_}
-use Prim.Native.Nat.{ℕ, _+_, max}
+use Prim.Native.Nat.{ℕ, max}
 use lib.Dec.{leb, eqb}
 use lib.ListN.{length, getD, replicate}
 use Rattle.text.specs.Parts.{part}
 use Rattle.text.specs.Over.{over}
 use Rattle.text.specs.declared.Seen.{Seen}
 use Rattle.text.specs.declared.Seen.the-variants.{Fine, Bad}
-use Rattle.section.specs.Layout.{layoutOf, itemsSize}
-use Rattle.command.specs.Text.{awr04, numbers, isNamed, checkCommand}
+use Rattle.section.specs.Layout.{numbers}
+use Rattle.command.specs.Text.{awr04, isNamed, checkCommand}
+use Rattle.command.specs.Sections.{bytesOf}
 use Rattle.join.specs.declared.Told.{Told}
 use Rattle.join.specs.declared.Told.the-variants.{Text, Refused}
-
--- ---- The parts of an accepted text
-
--- the bytes of section j with its delimiter: found by walking over the named ones before it, none where it isn't named
-unfoldable pub bytesFrom : List ℕ → List ℕ → ℕ → ℕ → List ℕ
-bytesFrom [] s at j = []
-bytesFrom (k ∷ ks) s at j =
-    cond (isNamed s k)
-    (cond (eqb j k) (part at (itemsSize (layoutOf k) s at) s) (bytesFrom ks s (at + itemsSize (layoutOf k) s at) j))
-    (bytesFrom ks s at j)
-
-abbrev pub bytesOf : List ℕ → ℕ → List ℕ
-bytesOf s k = bytesFrom numbers s 22 k
 
 -- ---- The join
 

@@ -9,7 +9,7 @@ ghost use Rattle.text.specs.Parts.{part};
 ghost use Rattle.text.specs.Over.{over};
 ghost use Rattle.command.specs.Text.{awr04};
 ghost use Rattle.join.specs.Join.{choose};
-ghost use Rattle.join.specs.Steps.{joinFront, joinBack, joinHead};
+ghost use Rattle.join.specs.Inner.{joinFront, joinBack, joinHead};
 
 fn larger(m: u8, n: u8) -> u8
     ensures { λ r. ⌜ r ≡ max m n ⌝ }

@@ -6,15 +6,14 @@ mod sections;
 use crate::head::put_head;
 use crate::sections::put_sections;
 use crate::sections::sections_size;
-use command::check::check;
+use command::check::walk;
 use text::Seen;
 ghost use mathlib.Core.Path.{_≡_};
 ghost use Prim.Native.Nat.{_≤_};
 ghost use lib.ListN.{length};
 ghost use Rattle.text.specs.Over.{over};
-ghost use Rattle.text.specs.declared.Seen.the-variants.{Fine};
-ghost use Rattle.command.specs.Text.{checkCommand};
 ghost use Rattle.join.specs.Join.{joinText, join, joinedOver, told};
+ghost use Rattle.join.specs.Inner.{Walked};
 
 // The joined text's length, or the refusal's code and place and which text is at fault.
 pub enum Told {
@@ -23,65 +22,55 @@ pub enum Told {
 }
 
 // How long the joined text is.
-fn joined_size(a: &[u8], b: &[u8]) -> usize
-    requires { ⌜ (checkCommand (now a) ≡ Fine) × (checkCommand (now b) ≡ Fine) ⌝ }
+fn joined_size(a: &[u8], pa: [usize; 11], b: &[u8], pb: [usize; 11]) -> usize
+    requires { ⌜ Walked (now a) pa × Walked (now b) pb ⌝ }
     ensures { λ r. ⌜ r ≡ length (joinText (now (a .entry)) (now (b .entry))) ⌝ }
 {
-    22 + sections_size(a, b)
+    22 + sections_size(a, pa, b, pb)
 }
 
 // The joined text of two accepted ones, over the start of `d`.
-fn put_joined(a: &[u8], b: &[u8], d: &mut [u8])
-    requires { ⌜ (checkCommand (now a) ≡ Fine) × (checkCommand (now b) ≡ Fine) ⌝ }
+fn put_joined(a: &[u8], pa: [usize; 11], b: &[u8], pb: [usize; 11], d: &mut [u8])
+    requires { ⌜ Walked (now a) pa × Walked (now b) pb ⌝ }
     requires { ⌜ length (joinText (now a) (now b)) ≤ length (now d) ⌝ }
     ensures { λ _. ⌜ now (d .exit) ≡ over (now (d .entry)) 0 (joinText (now (a .entry)) (now (b .entry))) ⌝ }
 {
     put_head(a, b, &mut d[0..22]);
-    put_sections(a, b, &mut d[22..]);
+    put_sections(a, pa, b, pb, &mut d[22..]);
 }
 
 // Joins two accepted texts where there is room.
-fn join_accepted(a: &[u8], b: &[u8], out: &mut [u8]) -> Told
-    requires { ⌜ (checkCommand (now a) ≡ Fine) × (checkCommand (now b) ≡ Fine) ⌝ }
+fn join_accepted(a: &[u8], pa: [usize; 11], b: &[u8], pb: [usize; 11], out: &mut [u8]) -> Told
+    requires { ⌜ Walked (now a) pa × Walked (now b) pb ⌝ }
     ensures { λ r. ⌜ (r ≡ told (join (now (a .entry)) (now (b .entry)) (length (now (out .entry)))))
         × (now (out .exit) ≡ joinedOver (join (now (a .entry)) (now (b .entry)) (length (now (out .entry)))) (now (out .entry))) ⌝ }
 {
-    let n = joined_size(a, b);
+    let n = joined_size(a, pa, b, pb);
     if out.len() < n {
         return Told::Refused(2, 0, 0);
     }
-    put_joined(a, b, out);
+    put_joined(a, pa, b, pb, out);
     Told::Text(n)
 }
 
-// Where the second text is known to be accepted: the first text's refusals, then room.
-pub fn join_accepted_second(a: &[u8], b: &[u8], out: &mut [u8]) -> Told
-    requires { ⌜ checkCommand (now b) ≡ Fine ⌝ }
-    ensures { λ r. ⌜ (r ≡ told (join (now (a .entry)) (now (b .entry)) (length (now (out .entry)))))
-        × (now (out .exit) ≡ joinedOver (join (now (a .entry)) (now (b .entry)) (length (now (out .entry)))) (now (out .entry))) ⌝ }
-{
-    match check(a) {
-        Seen::Bad(code, place) => Told::Refused(code, place, 1),
-        Seen::Fine => join_accepted(a, b, out),
-    }
-}
-
-// The first text's refusals, the second's, then room.
+// The first text's refusals, the second's, then room. Each text is gone through once: its check notes where its sections stand.
 pub fn join_texts(a: &[u8], b: &[u8], out: &mut [u8]) -> Told
     ensures { λ r. ⌜ (r ≡ told (join (now (a .entry)) (now (b .entry)) (length (now (out .entry)))))
         × (now (out .exit) ≡ joinedOver (join (now (a .entry)) (now (b .entry)) (length (now (out .entry)))) (now (out .entry))) ⌝ }
 {
-    match check(a) {
+    let mut pa: [usize; 11] = [0; 11];
+    match walk(a, &mut pa) {
         Seen::Bad(code, place) => {
             return Told::Refused(code, place, 1);
         }
         Seen::Fine => {}
     }
-    match check(b) {
+    let mut pb: [usize; 11] = [0; 11];
+    match walk(b, &mut pb) {
         Seen::Bad(code, place) => {
             return Told::Refused(code, place, 2);
         }
         Seen::Fine => {}
     }
-    join_accepted(a, b, out)
+    join_accepted(a, pa, b, pb, out)
 }

@@ -24,7 +24,7 @@ pub counted : (limit : ℕ) (entry : List ℕ → ℕ → Step) (s : List ℕ) (
 unfolding checkList
 counted limit entry s at p e =
     let x = both (checkNumber 2 0 limit s at) (repeat (entry s) (countAt s at)) p e in
-    let n = number 2 0 limit s at (x .mid) (x .first) in
+    let n = number 5 2 0 limit s at (x .mid) (x .first) in
     let m : x .mid ≡ at + 2 = sym (n .next) in
     record { count = rw m at n; entries = rw m at (x .second) }
 

@@ -13,7 +13,7 @@ use Rattle.field.specs.declared.Step.the-variants.{Next}
 use Rattle.field.specs.declared.Region.{Region}
 use Rattle.field.proofs.Local.{Local, Reads, Sized, part-shift, part-extend, reads-fixed, reads-with}
 use Rattle.field.proofs.LocalThen.{bound-local, bound-first, bound-second, bound-sized, several, several-local, several-passes, several-sized}
-use Rattle.field.proofs.LocalFields.{number-local, number-reads, number-sized, airfield-local, airfield-sized, box-local, box-sized, box-reads}
+use Rattle.field.proofs.LocalFields.{digits-local, digits-reads, digits-sized, airfield-local, airfield-sized, box-local, box-sized, box-reads}
 use Rattle.lists.proofs.Accepted.{counted}
 use Rattle.lists.specs.Lists.{countAt, checkList, checkAirfields, airfieldsAt, checkBoxes, regionsAt, boxesAt}
 use Rattle.lists.specs.declared.Airfields.{Airfields}
@@ -29,26 +29,26 @@ module _ (limit : ℕ) (entry : List ℕ → ℕ → Step) where
   pub list-local : Local entry → Local (checkList limit entry)
   unfolding checkList
   list-local E =
-      bound-local count countAt (several entry) (number-local 2 0 limit) (number-reads 2 0 limit value) (several-local entry E)
+      bound-local count countAt (several entry) (digits-local 5 2 0 limit) (digits-reads 5 2 0 limit value) (several-local entry E)
 
   -- a list of entries of w bytes each is as long as its count says
   pub list-sized : (w : ℕ) → Sized entry (λ s at. w) → Sized (checkList limit entry) (λ s at. 2 + w * countAt s at)
   unfolding checkList
   list-sized w E =
-      bound-sized count countAt (several entry) (λ s at. 2) (λ n s at. w * n) (number-reads 2 0 limit value) (number-sized 2 0 limit)
+      bound-sized count countAt (several entry) (λ s at. 2) (λ n s at. w * n) (digits-reads 5 2 0 limit value) (digits-sized 5 2 0 limit)
       (several-sized entry w E)
 
   -- the count
   pub count-reads : Reads (checkList limit entry) countAt
   unfolding checkList
-  count-reads = bound-first count countAt (several entry) countAt (number-reads 2 0 limit value)
+  count-reads = bound-first count countAt (several entry) countAt (digits-reads 5 2 0 limit value)
 
   -- what is read of the entries
   pub entries-reads : {A : Type 0} (w : ℕ → List ℕ → ℕ → A) → ((n : ℕ) → Reads (several entry n) (w n))
       → Reads (checkList limit entry) (λ s at. w (countAt s at) s (at + 2))
   unfolding checkList
   entries-reads w W =
-      bound-second count countAt (several entry) (λ s at. 2) w (number-reads 2 0 limit value) (number-sized 2 0 limit) W
+      bound-second count countAt (several entry) (λ s at. 2) w (digits-reads 5 2 0 limit value) (digits-sized 5 2 0 limit) W
 
   -- no accepted count is over its limit
   pub count-most : (s : List ℕ) (at p : ℕ) → checkList limit entry s at ≡ Next p → countAt s at ≤ limit

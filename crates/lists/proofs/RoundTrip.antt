@@ -44,11 +44,11 @@ module _ (limit n : ℕ) (rest s : List ℕ) (at : ℕ) (few : n ≤ limit) (sma
   entries-stand = rw (decimal-length 2 n) at (stands-right (decimal 2 n) rest s at stands)
 
   count-back : countAt s at ≡ n
-  count-back = number-value 2 0 limit n s at (omega arith) count-stands
+  count-back = number-value 2 n s at (omega arith) count-stands
 
   list-stands : (entry : List ℕ → ℕ → Step) (p : ℕ) → repeat (entry s) n (at + 2) ≡ Next p → checkList limit entry s at ≡ Next p
   unfolding checkList
-  list-stands entry p e = rw (number-stands 2 0 limit n s at (omega arith) count-stands (omega arith) few, count-back) e
+  list-stands entry p e = rw (number-stands 2 n s at (omega arith) count-stands 5 0 limit (omega arith) few, count-back) e
 
 -- ---- Airfields
 

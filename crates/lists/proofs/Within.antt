@@ -7,7 +7,7 @@ use lib.ListN.{length}
 use Rattle.field.specs.declared.Step.{Step}
 use Rattle.field.specs.Fields.{checkNumber, checkAirfield, repeat}
 use Rattle.field.specs.Boxes.{checkBox}
-use Rattle.field.proofs.Within.{Within, after-within, number-within, airfield-within, box-within, repeat-within}
+use Rattle.field.proofs.Within.{Within, after-within, digits-within, airfield-within, box-within, repeat-within}
 use Rattle.lists.specs.declared.Airfields.{Airfields}
 use Rattle.lists.specs.declared.Boxes.{Boxes}
 use Rattle.lists.specs.Lists.{countAt, checkList, checkAirfields, checkBoxes, airfieldsText, boxesText}
@@ -19,7 +19,7 @@ module _ (s : List ℕ) where
       → (at : ℕ) → at ≤ length s → Within s at (checkList limit entry s at)
   unfolding checkList
   list-within limit entry each at h =
-      after-within s at (checkNumber 2 0 limit s at) (repeat (entry s) (countAt s at)) (number-within s 2 0 limit at h)
+      after-within s at (checkNumber 2 0 limit s at) (repeat (entry s) (countAt s at)) (digits-within s 5 2 0 limit at h)
       (λ p e k. repeat-within s (entry s) each (countAt s at) p k)
 
   pub airfields-within : (at : ℕ) → at ≤ length s → Within s at (checkAirfields s at)

@@ -2,7 +2,7 @@
 use field::Step;
 use field::boxes::a_box;
 use field::check::airfield;
-use field::check::number;
+use field::check::digits;
 use field::digits::value_at;
 use text::all_allowed;
 ghost use mathlib.Core.Path.{_≡_};
@@ -75,7 +75,7 @@ pub fn airfields(s: &[u8], at: usize) -> Step
     requires { ⌜ at ≤ length (now s) ⌝ }
     ensures { λ r. ⌜ r ≡ checkAirfields (now (s .entry)) at ⌝ }
 {
-    let count = number(s, at, 2, 0, 20);
+    let count = digits(s, at, 2, 0, 20, 5);
     match count {
         Step::Stop(code, place) => Step::Stop(code, place),
         Step::Next(first) => each_airfield(s, first, value_at(s, at, 2)),
@@ -87,7 +87,7 @@ pub fn boxes(s: &[u8], at: usize) -> Step
     requires { ⌜ at ≤ length (now s) ⌝ }
     ensures { λ r. ⌜ r ≡ checkBoxes (now (s .entry)) at ⌝ }
 {
-    let count = number(s, at, 2, 0, 16);
+    let count = digits(s, at, 2, 0, 16, 5);
     match count {
         Step::Stop(code, place) => Step::Stop(code, place),
         Step::Next(first) => each_box(s, first, value_at(s, at, 2)),

@@ -12,8 +12,9 @@ use Rattle.text.specs.Bytes.{bytes}
 use Rattle.text.specs.Over.{over}
 use Rattle.text.specs.declared.Seen.{Seen}
 use Rattle.text.specs.declared.Seen.the-variants.{Fine, Bad}
-use Rattle.section.specs.Layout.{layoutOf, itemsMost}
-use Rattle.section.specs.Settings.{settingsFrom, regionsFrom, airportsFrom, enrouteFrom, ascentFrom, hoursFrom}
+use Rattle.section.specs.Layout.{layoutOf, tableOf, itemsMost}
+use Rattle.settings.specs.Valid.{noSettings as emptySettings}
+use Rattle.settings.specs.Settings.{settingsFrom, regionsFrom, airportsFrom, enrouteFrom, ascentFrom, hoursFrom}
 use Rattle.command.specs.Text.{checkAwr04, checkHead, sectionsMost, longest, checkCommand}
 use Rattle.command.specs.Record.{commandOf, got, readCommand, commandText, writeSeen, leftBy, noCommand as emptyCommand}
 use Rattle.command.specs.Allowed.{allowedCommand}
@@ -60,7 +61,7 @@ unfolding commandNumbers readCommand
 read-is s e = rw e
 
 empty-is : emptyCommand ≡ noCommand
-unfolding emptyCommand settingsFrom regionsFrom airportsFrom enrouteFrom ascentFrom hoursFrom
+unfolding emptyCommand emptySettings settingsFrom regionsFrom airportsFrom enrouteFrom ascentFrom hoursFrom
 empty-is = refl
 
 refused : (s : List ℕ) → ¬ (check s .code ≡ 0) → (read s .command ≡ noCommand) × (check s .length ≡ 0)
@@ -143,7 +144,7 @@ all-read : AllReadBack examples
 all-read = examples-read
 
 empty-refused : check [] ≡ answerOf 8 0
-unfolding checkCommand checkHead checkAwr04 longest sectionsMost itemsMost layoutOf
+unfolding checkCommand checkHead checkAwr04 longest sectionsMost itemsMost layoutOf tableOf
 empty-refused = refl
 
 pub command-promises : CommandPromises
@@ -152,7 +153,7 @@ command-promises =
     record {
       one-answer = one-answer;
       refused = refused;
-      means = λ s e. let f = accepted-fine s e in rw (read-is s f) (means s f);
+      means = λ s e. let f = accepted-fine s e in rw (read-is s f) (means s);
       allowed = λ s e. let f = accepted-fine s e in rw (read-is s f) (allowed-read s f);
       read-write = read-write;
       write-read = write-read;

@@ -12,16 +12,16 @@ use Rattle.text.specs.declared.Seen.the-variants.{Fine, Bad}
 use Rattle.text.proofs.Bytes.{tests-agree}
 use Rattle.text.proofs.Cases.{by-test}
 use Rattle.text.proofs.Table.{agree}
-use Rattle.section.specs.Layout.{layoutOf}
+use Rattle.section.specs.Layout.{layoutOf, numbers}
 use Rattle.section.specs.Contents.{contentsAt}
-use Rattle.section.specs.Settings.{contentsOf, settingsFrom, regionsFrom, airportsFrom, enrouteFrom, ascentFrom, hoursFrom}
-use Rattle.section.specs.declared.Settings.{Settings}
-use Rattle.command.specs.Text.{numbers, isNamed, checkCommand}
-use Rattle.command.specs.Record.{heldIn}
-use Rattle.command.specs.Steps.{isOneOf, placeOf}
+use Rattle.settings.specs.Settings.{contentsOf, settingsFrom, regionsFrom, airportsFrom, enrouteFrom, ascentFrom, hoursFrom}
+use Rattle.settings.specs.declared.Settings.{Settings}
+use Rattle.command.specs.Text.{isNamed, checkCommand}
+use Rattle.command.specs.Sections.{heldIn, isOneOf, placeOf}
 use Rattle.command.specs.Allowed.{allowedSettings}
 use Rattle.command.proofs.Each.{Each}
-use Rattle.config.specs.Config.{reset, valid, onSeen, refused, applied, keptBy, kept}
+use Rattle.config.specs.Config.{onSeen, refused, applied, keptBy, kept}
+use Rattle.settings.specs.Valid.{reset, valid}
 use Rattle.config.proofs.Allowed.{valid-same}
 use Rattle.config.proofs.Kept.{applied-zero, applied-digit, kept-flag, kept-section}
 use Rattle.config.proofs.Valid.{applies-valid, reset-valid}
@@ -29,7 +29,6 @@ use Rattle.desk.specs.Numbers.{accepted, answerOf, checkNumbers}
 use Rattle.desk.specs.Outcomes.{validNumbers, appliedNumbers}
 use Rattle.promises.specs.Configuration.{check, apply, ConfigurationPromises}
 use Rattle.promises.proofs.Codes.{accepted-fine, fine-accepted}
-use Rattle.promises.proofs.Sections.{held-there}
 
 -- ---- Validity, by the code
 
@@ -62,10 +61,9 @@ numbered k a b =
     none-high j h =
         rw (ne-eqb j 2 (λ (e : j ≡ 2). omega arith), ne-eqb j 3 (λ (e : j ≡ 3). omega arith), ne-eqb j 4 (λ (e : j ≡ 4). omega arith), ne-eqb j 5 (λ (e : j ≡ 5). omega arith), ne-eqb j 6 (λ (e : j ≡ 6). omega arith), ne-eqb j 7 (λ (e : j ≡ 7). omega arith), ne-eqb j 8 (λ (e : j ≡ 8). omega arith), ne-eqb j 9 (λ (e : j ≡ 9). omega arith))
 
-section-is : (s : List ℕ) → checkCommand s ≡ Fine → (x : Settings) (k : ℕ) → isOneOf numbers k ≡ true
+section-is : (s : List ℕ) (x : Settings) (k : ℕ)
     → cond (isNamed s k) (heldIn s k) (contentsOf x k) ≡ cond (isNamed s k) (contentsAt (layoutOf k) s (placeOf s k)) (contentsOf x k)
-section-is s f x k o =
-    by-test (isNamed s k) (λ (n : isNamed s k ≡ true). rw n (held-there s f k o n)) (λ (n : isNamed s k ≡ false). rw n)
+section-is s x k = by-test (isNamed s k) (λ (n : isNamed s k ≡ true). rw n) (λ (n : isNamed s k ≡ false). rw n)
 
 -- ---- Refusals
 
@@ -126,7 +124,7 @@ configuration-promises =
       sections = λ x s e k a b.
           let o = numbered k a b in
           each-of (λ (j : ℕ). contentsOf (kept x s) j ≡ cond (isNamed s j) (heldIn s j) (contentsOf x j)) numbers (kept-section x s e) k o
-          ∙ section-is s (applied-zero x s .0 e .1) x k o;
+          ∙ section-is s x k;
       downlink = λ x s e. applied-digit x s e;
       stays-valid = stays-valid;
       refused = unchanged;

@@ -12,11 +12,12 @@ use borrow.Author.Tests.{leb-true, le-leb, lt-leb}
 use Rattle.text.specs.declared.Seen.{Seen}
 use Rattle.text.specs.declared.Seen.the-variants.{Fine, Bad}
 use Rattle.text.proofs.Over.{found-over, after-over}
-use Rattle.section.specs.declared.Settings.{Settings}
+use Rattle.settings.specs.declared.Settings.{Settings}
 use Rattle.command.specs.Text.{checkCommand}
 use Rattle.command.specs.Record.{downlinkOf}
 use Rattle.command.proofs.Codes.{check-coded}
-use Rattle.config.specs.Config.{valid, applyTo, applied, kept}
+use Rattle.config.specs.Config.{applyTo, applied, kept}
+use Rattle.settings.specs.Valid.{valid}
 use Rattle.config.proofs.Valid.{applies-valid}
 use Rattle.join.specs.Join.{Joined, Joins, Refuses, joinText, noChange, bySeen, join, joinedOver}
 use Rattle.join.proofs.Laws.{join-fine, join-short, join-downlink, join-acts, join-groups, no-change-fine, no-change-join, join-no-change}

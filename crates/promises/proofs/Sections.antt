@@ -6,18 +6,16 @@ use Prim.Native.Nat.{ℕ, zero, suc, _+_, _-_, _*_, _≤_, _<_}
 use native.Mathlib.Omega.{arith}
 use lib.ListN.{getD, replicate, List·getD-map}
 use Rattle.text.specs.Parts.{part}
-use Rattle.text.specs.declared.Seen.the-variants.{Fine}
 use Rattle.field.proofs.Local.{part-byte}
 use Rattle.field.specs.Boxes.{noRegion, regionAt, edgeAt}
 use Rattle.field.specs.declared.Region.{Region}
 use Rattle.lists.specs.Lists.{countAt, regionsAt, boxesAt, airfieldsAt}
-use Rattle.section.specs.Layout.{layoutOf}
+use Rattle.section.specs.Layout.{layoutOf, tableOf}
 use Rattle.section.specs.Contents.{Content, contentsAt}
-use Rattle.section.specs.Settings.{settingsFrom, regionsFrom, airportsFrom, enrouteFrom, ascentFrom, hoursFrom, amountIn}
-use Rattle.command.specs.Text.{numbers, isNamed, checkCommand}
-use Rattle.command.specs.Record.{heldIn, digitsOf, commandOf}
-use Rattle.command.specs.Steps.{isOneOf, placeOf, Stands}
-use Rattle.command.proofs.Placed.{stands-held}
+use Rattle.settings.specs.Settings.{settingsFrom, regionsFrom, airportsFrom, enrouteFrom, ascentFrom, hoursFrom, amountIn}
+use Rattle.command.specs.Text.{isNamed}
+use Rattle.command.specs.Record.{digitsOf, commandOf}
+use Rattle.command.specs.Sections.{heldIn, placeOf}
 use Rattle.promises.specs.Sections.{numberAt, pastBoxes, pastAirfields, BoxStands, BoxesStand, AirfieldsStand, Regions, Airports, Ascent, Means}
 
 -- ---- The entries of a list, each at its place
@@ -66,19 +64,19 @@ airfields-stand s at =
     let n = 4 * countAt s at in
     record { count = refl; names = λ i h. zeros-behind (part (at + 2) n s) (80 - n) i ∙ part-byte n s (at + 2) i h }
 
-module _ (s : List ℕ) (e : checkCommand s ≡ Fine) where
+module _ (s : List ℕ) where
   -- a named section holds what stands at its place
-  pub held-there : (k : ℕ) → isOneOf numbers k ≡ true → isNamed s k ≡ true → heldIn s k ≡ contentsAt (layoutOf k) s (placeOf s k)
-  held-there k o n = sym (stands-held (record { fine = e; number = o; place = refl }) n)
+  pub held-there : (k : ℕ) → isNamed s k ≡ true → heldIn s k ≡ contentsAt (layoutOf k) s (placeOf s k)
+  held-there k n = rw n
 
   regions-stand : isNamed s 2 ≡ true → Regions s (placeOf s 2) (commandOf s)
-  unfolding commandOf settingsFrom regionsFrom layoutOf contentsAt
-  regions-stand n = let h = held-there 2 refl n in record { reporting = rw h (boxes-stand s (placeOf s 2)); inhibiting = rw h (boxes-stand s (pastBoxes s (placeOf s 2))) }
+  unfolding commandOf settingsFrom regionsFrom layoutOf tableOf contentsAt
+  regions-stand n = let h = held-there 2 n in record { reporting = rw h (boxes-stand s (placeOf s 2)); inhibiting = rw h (boxes-stand s (pastBoxes s (placeOf s 2))) }
 
   airports-stand : isNamed s 3 ≡ true → Airports s (placeOf s 3) (commandOf s)
-  unfolding commandOf settingsFrom airportsFrom layoutOf contentsAt
+  unfolding commandOf settingsFrom airportsFrom layoutOf tableOf contentsAt
   airports-stand n =
-      let h = held-there 3 refl n in
+      let h = held-there 3 n in
       let p = placeOf s 3 in
       record {
         ascent-selected = rw h (airfields-stand s p);
@@ -89,9 +87,9 @@ module _ (s : List ℕ) (e : checkCommand s ≡ Fine) where
       }
 
   ascent-stands : isNamed s 5 ≡ true → Ascent s (placeOf s 5) (commandOf s)
-  unfolding commandOf settingsFrom ascentFrom layoutOf contentsAt
+  unfolding commandOf settingsFrom ascentFrom layoutOf tableOf contentsAt
   ascent-stands n =
-      let h = held-there 5 refl n in
+      let h = held-there 5 n in
       let p = placeOf s 5 in
       let third : p + 1 + 2 ≡ p + 3 = omega arith in
       let fourth : p + 1 + 2 + 3 ≡ p + 6 = omega arith in
@@ -106,12 +104,12 @@ module _ (s : List ℕ) (e : checkCommand s ≡ Fine) where
         interval2 = rw h (ap (λ (i : ℕ). numberAt s i 2) fourth);
         total = rw h (ap (λ (i : ℕ). numberAt s i 3) fifth);
         top = rw h (ap (λ (i : ℕ). numberAt s i 3) sixth);
-        list = rw h (ap (λ (i : ℕ). getD s i 0 - 48) seventh);
-        timer = rw h (ap (λ (i : ℕ). getD s i 0 - 48) eighth);
+        list = rw h (ap (λ (i : ℕ). numberAt s i 1) seventh);
+        timer = rw h (ap (λ (i : ℕ). numberAt s i 1) eighth);
       }
 
   pub means : Means s (commandOf s)
-  unfolding commandOf settingsFrom enrouteFrom hoursFrom layoutOf contentsAt
+  unfolding commandOf settingsFrom enrouteFrom hoursFrom layoutOf tableOf contentsAt
   means =
       record {
         flags = λ i h. List·getD-map (λ (b : ℕ). b - 48) (part 5 7 s) i 0 ∙ ap (λ (b : ℕ). b - 48) (part-byte 7 s 5 i h);
@@ -122,9 +120,9 @@ module _ (s : List ℕ) (e : checkCommand s ≡ Fine) where
             ∙ ap (λ (v : ℕ). v - 48) (part-byte 8 s 13 (k - 2) (omega arith) ∙ ap (λ (j : ℕ). getD s j 0) i);
         regions = regions-stand;
         airports = airports-stand;
-        enroute = λ n. let h = held-there 4 refl n in (rw h, rw h);
+        enroute = λ n. let h = held-there 4 n in (rw h, rw h);
         ascent = ascent-stands;
-        six = λ n. rw (held-there 6 refl n);
-        eight = λ n. rw (held-there 8 refl n);
-        hours = λ n. let h = held-there 9 refl n in (rw h, rw h);
+        six = λ n. rw (held-there 6 n);
+        eight = λ n. rw (held-there 8 n);
+        hours = λ n. let h = held-there 9 n in (rw h, rw h);
       }

@@ -9,10 +9,11 @@ use Rattle.text.specs.Checks.{isFine}
 use Rattle.text.specs.declared.Seen.{Seen}
 use Rattle.text.specs.declared.Seen.the-variants.{Fine, Bad}
 use Rattle.text.proofs.Cases.{by-test}
-use Rattle.section.specs.declared.Settings.{Settings}
+use Rattle.settings.specs.declared.Settings.{Settings}
 use Rattle.command.specs.Text.{checkCommand}
 use Rattle.command.proofs.Accepted.{longest-is}
-use Rattle.config.specs.Config.{valid, applyTo, keptBy, kept}
+use Rattle.config.specs.Config.{applyTo, keptBy, kept}
+use Rattle.settings.specs.Valid.{valid}
 use Rattle.config.proofs.Valid.{applies-valid}
 use Rattle.decide.proofs.Tests.{says-no, by-said}
 use Rattle.board.specs.Board.{isNone}

@@ -8,12 +8,13 @@ use lib.Dec.{eqb}
 use lib.ListN.{length, getD}
 use Rattle.section.specs.Layout.{layoutOf}
 use Rattle.section.specs.Contents.{contentsAt}
-use Rattle.section.specs.Settings.{contentsOf}
-use Rattle.section.specs.declared.Settings.{Settings}
+use Rattle.settings.specs.Settings.{contentsOf}
+use Rattle.settings.specs.declared.Settings.{Settings}
 use Rattle.command.specs.Text.{isNamed, checkCommand}
-use Rattle.command.specs.Steps.{placeOf}
+use Rattle.command.specs.Sections.{placeOf}
 use Rattle.command.specs.Allowed.{allowedSettings}
-use Rattle.config.specs.Config.{reset, valid, applied, kept}
+use Rattle.config.specs.Config.{applied, kept}
+use Rattle.settings.specs.Valid.{reset, valid}
 use Rattle.desk.specs.Numbers.{accepted, answerOf, checkNumbers}
 use Rattle.desk.specs.Outcomes.{validNumbers, appliedNumbers}
 use Rattle.desk.specs.declared.Answer.{Answer}

@@ -2,7 +2,7 @@
 -- (decide/specs/Rules), over the words of decide/specs/Words.
 use mathlib.Core.Path.{_≡_}
 use Prim.Native.Nat.{ℕ}
-use Rattle.section.specs.declared.Settings.{Settings}
+use Rattle.settings.specs.declared.Settings.{Settings}
 use Rattle.decide.specs.Question.{Question}
 use Rattle.decide.specs.Reason.{decided}
 use Rattle.decide.specs.Rules.{Answers}

@@ -5,9 +5,10 @@ use mathlib.Core.Bool.{true}
 use mathlib.Core.List.{List}
 use Prim.Native.Nat.{ℕ, _≤_, _<_, max}
 use lib.ListN.{length, take, drop}
-use Rattle.section.specs.declared.Settings.{Settings}
+use Rattle.settings.specs.declared.Settings.{Settings}
 use Rattle.command.specs.Text.{checkCommand}
-use Rattle.config.specs.Config.{valid, applied, kept}
+use Rattle.config.specs.Config.{applied, kept}
+use Rattle.settings.specs.Valid.{valid}
 use Rattle.join.specs.Join.{joinText, noChange, join, joinedOver}
 use Rattle.desk.specs.Numbers.{accepted, answerOf, checkNumbers}
 use Rattle.desk.specs.Joins.{joinNumbers}

@@ -12,7 +12,7 @@ use Rattle.field.specs.declared.Region.{Region}
 use Rattle.lists.specs.declared.Airfields.{Airfields}
 use Rattle.lists.specs.declared.Boxes.{Boxes}
 use Rattle.command.specs.Text.{isNamed}
-use Rattle.command.specs.Steps.{placeOf}
+use Rattle.command.specs.Sections.{placeOf}
 use Rattle.command.specs.declared.Command.{Command}
 
 -- the number that n digits from a place on spell
@@ -65,14 +65,14 @@ pub record Airports (s : List ℕ) (p : ℕ) (c : Command) : Type 0 where
 
 -- section 5: mode, series 1 interval, duration, series 2 interval, total, top, list, timer
 pub record Ascent (s : List ℕ) (p : ℕ) (c : Command) : Type 0 where
-  pub mode : c .settings .ascent .mode ≡ getD s p 0 - 48
+  pub mode : c .settings .ascent .mode ≡ numberAt s p 1
   pub interval1 : c .settings .ascent .interval1 ≡ numberAt s (p + 1) 2
   pub duration : c .settings .ascent .duration ≡ numberAt s (p + 3) 3
   pub interval2 : c .settings .ascent .interval2 ≡ numberAt s (p + 6) 2
   pub total : c .settings .ascent .total ≡ numberAt s (p + 8) 3
   pub top : c .settings .ascent .top ≡ numberAt s (p + 11) 3
-  pub list : c .settings .ascent .list ≡ getD s (p + 14) 0 - 48
-  pub timer : c .settings .ascent .timer ≡ getD s (p + 15) 0 - 48
+  pub list : c .settings .ascent .list ≡ numberAt s (p + 14) 1
+  pub timer : c .settings .ascent .timer ≡ numberAt s (p + 15) 1
 
 -- seven flags, a downlink digit, eight indicators, and the sections that are named, each where it stands
 pub record Means (s : List ℕ) (c : Command) : Type 0 where

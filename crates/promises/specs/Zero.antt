@@ -4,8 +4,8 @@ use lib.ListN.{replicate}
 use Rattle.field.specs.Boxes.{noRegion}
 use Rattle.lists.specs.declared.Airfields.{Airfields}
 use Rattle.lists.specs.declared.Boxes.{Boxes}
-use Rattle.section.specs.declared.ByPhase.{ByPhase}
-use Rattle.section.specs.declared.Settings.{Settings}
+use Rattle.settings.specs.declared.ByPhase.{ByPhase}
+use Rattle.settings.specs.declared.Settings.{Settings}
 use Rattle.command.specs.declared.Command.{Command}
 
 abbrev pub noBoxes : Boxes

@@ -8,7 +8,7 @@ use Rattle.field.specs.declared.Step.the-variants.{Next, Stop}
 use Rattle.field.specs.Fields.{after, repeat}
 use Rattle.field.proofs.Local.{ends-inside}
 use Rattle.field.proofs.Within.{Within, repeat-within}
-use Rattle.section.specs.Layout.{Item, checkItem, checkItems}
+use Rattle.section.specs.Layout.{Item, several, checkItem, checkItems}
 use Rattle.section.proofs.Local.{item-local}
 
 -- the items `is` from `at` on have been passed up to the items js, which begin at p
@@ -39,27 +39,22 @@ module _ {is : List Item} {s : List ℕ} {at : ℕ} where
 
 -- ---- Lists of one kind, one after the other
 
--- n of them before the other items
-abbrev pub lists : Item → ℕ → List Item → List Item
-lists i zero js = js
-lists i (suc n) js = i ∷ lists i n js
-
 grouped : (x : Step) (f g h : ℕ → Step) → ((p : ℕ) → f p ≡ after (g p) h) → after x f ≡ after (after x g) h
 grouped (Next p) f g h e = e p
 grouped (Stop code place) f g h e = refl
 
 -- they are checked first
 pub lists-first : (i : Item) (n : ℕ) (js : List Item) (s : List ℕ) (at : ℕ)
-    → checkItems (lists i n js) s at ≡ after (repeat (checkItem i s) n at) (checkItems js s)
+    → checkItems (several i n js) s at ≡ after (repeat (checkItem i s) n at) (checkItems js s)
 unfolding checkItems repeat
 lists-first i zero js s at = refl
 lists-first i (suc n) js s at =
-    grouped (checkItem i s at) (checkItems (lists i n js) s) (repeat (checkItem i s) n) (checkItems js s) (lists-first i n js s)
+    grouped (checkItem i s at) (checkItems (several i n js) s) (repeat (checkItem i s) n) (checkItems js s) (lists-first i n js s)
 
 module _ (i : Item) (n : ℕ) (js : List Item) (s : List ℕ) (at : ℕ) where
   -- all of them accepted
   pub lists-on : {p : ℕ} → ((q : ℕ) → q ≤ length s → Within s q (checkItem i s q)) → at ≤ length s
-      → repeat (checkItem i s) n at ≡ Next p → Come (lists i n js) s at js p
+      → repeat (checkItem i s) n at ≡ Next p → Come (several i n js) s at js p
   lists-on within h e =
       record {
         same = lists-first i n js s at ∙ rw e;
@@ -67,5 +62,5 @@ module _ (i : Item) (n : ℕ) (js : List Item) (s : List ℕ) (at : ℕ) where
       }
 
   -- one of them refused
-  pub lists-stop : {code place : ℕ} → repeat (checkItem i s) n at ≡ Stop code place → Stop code place ≡ checkItems (lists i n js) s at
+  pub lists-stop : {code place : ℕ} → repeat (checkItem i s) n at ≡ Stop code place → Stop code place ≡ checkItems (several i n js) s at
   lists-stop e = sym (lists-first i n js s at ∙ rw e)

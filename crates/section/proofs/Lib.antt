@@ -3,10 +3,10 @@ pub mod Local
 pub mod Own
 pub mod Allowed
 pub mod Come
+pub mod Rows
 pub mod Walk
 pub mod Held
-mod Fine
 pub mod Written
 pub mod Short
 pub mod RoundTrip
-pub mod Kept
+pub mod ByRow

@@ -9,39 +9,35 @@ use Rattle.field.specs.Boxes.{checkBox}
 use Rattle.field.specs.declared.Step.the-variants.{Next}
 use Rattle.field.proofs.Local.{Local, Reads, Sized, after-cases, reads-fixed, reads-with}
 use Rattle.field.proofs.LocalThen.{bound-local, bound-first, bound-second, bound-sized}
-use Rattle.field.proofs.LocalFields.{number-local, number-reads, number-sized, mark-local, mark-reads, mark-sized, delimiter-local, delimiter-sized}
+use Rattle.field.proofs.LocalFields.{digits-local, digits-reads, digits-sized, delimiter-local, delimiter-sized}
 use Rattle.lists.specs.Lists.{checkAirfields, airfieldsAt, checkBoxes, boxesAt}
 use Rattle.lists.proofs.Local.{airfields-local, airfields-sized, airfields-reads, boxes-local, boxes-sized, boxes-reads, count-most}
-use Rattle.section.specs.Layout.{Item, Number, Mark, AirfieldList, BoxList, checkItem, checkItems, itemSize, itemsSize, itemMost, itemsMost}
+use Rattle.section.specs.Layout.{Item, Digits, AirfieldList, BoxList, checkItem, checkItems, itemSize, itemsSize, itemMost, itemsMost}
 use Rattle.section.specs.Contents.{Amount, Names, Areas, contentAt, contentsAt}
 
 -- ---- One item
 
 -- every item is local
 pub item-local : (i : Item) → Local (checkItem i)
-item-local (Number w least most) = number-local w least most
-item-local (Mark least most) = mark-local least most
+item-local (Digits r) = digits-local (r .code) (r .width) (r .least) (r .most)
 item-local AirfieldList = airfields-local
 item-local BoxList = boxes-local
 
 -- it is as long as itemSize says
 pub item-sized : (i : Item) → Sized (checkItem i) (itemSize i)
-item-sized (Number w least most) = number-sized w least most
-item-sized (Mark least most) = mark-sized least most
+item-sized (Digits r) = digits-sized (r .code) (r .width) (r .least) (r .most)
 item-sized AirfieldList = airfields-sized
 item-sized BoxList = boxes-sized
 
 -- and no longer than it can be
 pub item-most : (i : Item) (s : List ℕ) (at p : ℕ) → checkItem i s at ≡ Next p → itemSize i s at ≤ itemMost i
-item-most (Number w least most) s at p e = omega arith
-item-most (Mark least most) s at p e = omega arith
+item-most (Digits r) s at p e = omega arith
 item-most AirfieldList s at p e = omega (arith, count-most 20 checkAirfield s at p e)
 item-most BoxList s at p e = omega (arith, count-most 16 checkBox s at p e)
 
 -- what it holds depends on its own bytes only
 pub item-reads : (i : Item) → Reads (checkItem i) (contentAt i)
-item-reads (Number w least most) = number-reads w least most (λ b. Amount (value b))
-item-reads (Mark least most) = mark-reads least most (λ b. Amount (b - 48))
+item-reads (Digits r) = digits-reads (r .code) (r .width) (r .least) (r .most) (λ b. Amount (value b))
 item-reads AirfieldList = reads-with checkAirfields airfieldsAt (λ s at. 0) (λ l z. Names l) airfields-reads (reads-fixed {A = ℕ} checkAirfields 0)
 item-reads BoxList = reads-with checkBoxes boxesAt (λ s at. 0) (λ l z. Areas l) boxes-reads (reads-fixed {A = ℕ} checkBoxes 0)
 

@@ -14,16 +14,16 @@ use Rattle.text.specs.declared.Seen.the-variants.{Fine}
 use Rattle.text.proofs.Cases.{both-left, both-right}
 use Rattle.text.proofs.Checks.{must-held, both-fine}
 use Rattle.text.proofs.Parts.{part-bytes}
-use Rattle.text.proofs.Stands.{Stands, stands-left, stands-right, stands-whole, stands-byte, part-add}
+use Rattle.text.proofs.Stands.{Stands, stands-left, stands-right, stands-whole, part-add}
 use Rattle.field.specs.declared.Step.the-variants.{Next}
-use Rattle.field.proofs.Accepted.{mark, delimiter}
+use Rattle.field.proofs.Accepted.{delimiter}
 use Rattle.field.proofs.Decimal.{decimal-length}
 use Rattle.field.proofs.Local.{after-cases}
-use Rattle.field.proofs.RoundTrip.{number-read, number-value, number-stands, mark-stands, delimiter-stands}
+use Rattle.field.proofs.RoundTrip.{number-read, number-value, number-stands, delimiter-stands}
 use Rattle.lists.proofs.RoundTrip.{airfields-read, airfields-held, airfields-stands, airfields-back, boxes-read, boxes-held, boxes-stands, boxes-back}
 use Rattle.lists.specs.Lists.{airfieldsText, boxesText}
 use Rattle.lists.proofs.Spelling.{airfields-length, boxes-length}
-use Rattle.section.specs.Layout.{Item, Number, Mark, AirfieldList, BoxList, checkItem, checkItems, itemSize, itemsSize}
+use Rattle.section.specs.Layout.{Item, Digits, AirfieldList, BoxList, checkItem, checkItems, itemSize, itemsSize}
 use Rattle.section.specs.Contents.{Content, Amount, Names, Areas, contentAt, contentsAt, contentText, contentsText, contentAllowed, contentsAllowed}
 use Rattle.section.proofs.Local.{item-sized}
 use Rattle.section.proofs.Own.{Own, own-length}
@@ -35,13 +35,7 @@ one-byte s at h = part-bytes 1 at s h ∙ rw (add-zero at)
 
 -- an accepted item is written back as the same bytes
 pub item-read : (i : Item) (s : List ℕ) (at p : ℕ) → checkItem i s at ≡ Next p → contentText i (contentAt i s at) ≡ part at (itemSize i s at) s
-item-read (Number w least most) s at p e = number-read w least most s at p e
-item-read (Mark least most) s at p e =
-    let m = mark least most s at p e in
-    let b = getD s at 0 in
-    let low : 48 + least ≤ b = leb-true (48 + least) b (both-left (leb (48 + least) b) (leb b (48 + most)) (m .1)) in
-    let same : 48 + (b - 48) ≡ b = omega arith in
-    rw (one-byte s at (m .0), same)
+item-read (Digits r) s at p e = number-read (r .code) (r .width) (r .least) (r .most) s at p e
 item-read AirfieldList s at p e = airfields-read s at p e
 item-read BoxList s at p e = boxes-read s at p e
 
@@ -65,12 +59,9 @@ own-written is b own = items-read is b 0 (length b) own ∙ rw (own-length is b 
 
 -- what an item may hold: its kind of content, with the arrays as long as their types say
 abbrev pub Fits : Item → Content → Type 0
-Fits (Number w least most) (Amount v) = most < 10 ^ w
-Fits (Number w least most) (Names l) = ⊥
-Fits (Number w least most) (Areas l) = ⊥
-Fits (Mark least most) (Amount v) = Unit
-Fits (Mark least most) (Names l) = ⊥
-Fits (Mark least most) (Areas l) = ⊥
+Fits (Digits r) (Amount v) = r .most < 10 ^ r .width
+Fits (Digits r) (Names l) = ⊥
+Fits (Digits r) (Areas l) = ⊥
 Fits AirfieldList (Amount v) = ⊥
 Fits AirfieldList (Names l) = length (l .names) ≡ 80
 Fits AirfieldList (Areas l) = ⊥
@@ -88,22 +79,18 @@ Shaped (i ∷ is) (c ∷ cs) = Fits i c × Shaped is cs
 -- an item that was written is accepted and reads back
 pub item-stands : (i : Item) (c : Content) (s : List ℕ) (at q : ℕ) → Fits i c → contentAllowed i q c ≡ Fine → Stands (contentText i c) s at
     → (checkItem i s at ≡ Next (at + length (contentText i c))) × (contentAt i s at ≡ c)
-item-stands (Number w least most) (Amount v) s at q fits e stands =
-    let t = must-held (leb least v && leb v most) 5 q e in
+item-stands (Digits r) (Amount v) s at q fits e stands =
+    let w = r .width in
+    let least = r .least in
+    let most = r .most in
+    let code = r .code in
+    let t = must-held (leb least v && leb v most) code q e in
     let low : least ≤ v = leb-true least v (both-left (leb least v) (leb v most) t) in
     let high : v ≤ most = leb-true v most (both-right (leb least v) (leb v most) t) in
     let held : v < 10 ^ w = omega arith in
-    (rw (decimal-length w v) (number-stands w least most v s at held stands low high), ap Amount (number-value w least most v s at held stands))
-item-stands (Number w least most) (Names l) s at q fits e stands = absurd fits
-item-stands (Number w least most) (Areas l) s at q fits e stands = absurd fits
-item-stands (Mark least most) (Amount v) s at q fits e stands =
-    let t = must-held (leb least v && leb v most) 4 q e in
-    let low : least ≤ v = leb-true least v (both-left (leb least v) (leb v most) t) in
-    let high : v ≤ most = leb-true v most (both-right (leb least v) (leb v most) t) in
-    let same : 48 + v - 48 ≡ v = omega arith in
-    (mark-stands least most v s at stands low high, rw (stands-byte (48 + v) s at stands) (ap Amount same))
-item-stands (Mark least most) (Names l) s at q fits e stands = absurd fits
-item-stands (Mark least most) (Areas l) s at q fits e stands = absurd fits
+    (rw (decimal-length w v) (number-stands w v s at held stands code least most low high), ap Amount (number-value w v s at held stands))
+item-stands (Digits r) (Names l) s at q fits e stands = absurd fits
+item-stands (Digits r) (Areas l) s at q fits e stands = absurd fits
 item-stands AirfieldList (Amount v) s at q fits e stands = absurd fits
 item-stands AirfieldList (Names l) s at q fits e stands =
     let a = airfields-held q l e in

@@ -4,24 +4,18 @@ use mathlib.Core.Bool.{true}
 use mathlib.Core.List.{List, [], _∷_}
 use Prim.Native.Nat.{ℕ, suc, _+_, _-_, _*_, _≤_, _<_}
 use native.Mathlib.Omega.{arith}
-use lib.ListN.{length, getD}
-use borrow.Author.Tests.{leb-true}
-use lib.Dec.{leb}
+use lib.ListN.{length}
 use Rattle.text.specs.Parts.{part}
-use Rattle.text.proofs.Cases.{both-left}
 use Rattle.field.specs.Decimal.{allDigits, value}
-use Rattle.field.specs.Fields.{checkNumber, checkMark, checkAirfield}
-use Rattle.field.specs.Boxes.{checkBox}
+use Rattle.field.specs.Fields.{checkDigits}
 use Rattle.field.specs.declared.Step.{Step}
 use Rattle.field.specs.declared.Step.the-variants.{Next}
-use Rattle.field.proofs.Accepted.{Both, both, number, mark}
-use Rattle.lists.specs.Lists.{countAt, checkList, checkAirfields, checkBoxes}
+use Rattle.field.proofs.Accepted.{Both, both, number}
+use Rattle.lists.specs.Lists.{countAt, checkList}
 use Rattle.lists.proofs.Accepted.{counted}
-use Rattle.section.specs.Layout.{Item, Number, AirfieldList, BoxList, layoutOf, Accepted, checkItem, checkItems, itemSize, itemsSize}
-use Rattle.section.specs.Places.{listsAt}
+use Rattle.section.specs.Layout.{Item, checkItem, checkItems, itemSize, itemsSize}
 use Rattle.section.proofs.Local.{item-sized}
 use Rattle.section.proofs.Own.{cut-inside}
-use Rattle.section.proofs.Come.{lists}
 
 -- of the items `is` from `at` on the items js are left, which begin at p
 pub record Left (is : List Item) (s : List ℕ) (at : ℕ) (js : List Item) (p : ℕ) : Type 0 where
@@ -60,21 +54,12 @@ module _ {is : List Item} {s : List ℕ} {at : ℕ} {i : Item} {js : List Item} 
 -- ---- What the readers of the fields ask
 
 -- a number of w digits
-module _ (w least most : ℕ) (s : List ℕ) (at : ℕ) (e : checkNumber w least most s at ≡ Next (at + w)) where
+module _ (code w least most : ℕ) (s : List ℕ) (at : ℕ) (e : checkDigits code w least most s at ≡ Next (at + w)) where
   pub number-read : (limit : ℕ) → w ≤ 3 → most < limit
       → (at + w ≤ length s) × ((w ≤ 3) × ((allDigits (part at w s) ≡ true) × (value (part at w s) < limit)))
   number-read limit few fits =
-      let n = number w least most s at (at + w) e in
+      let n = number code w least most s at (at + w) e in
       (n .room, (few, (n .digits, omega (arith, n .high))))
-
--- a mark
-pub mark-read : (least most : ℕ) (s : List ℕ) (at : ℕ) → checkMark least most s at ≡ Next (at + 1)
-    → (at + 1 ≤ length s) × (48 ≤ getD s at 0)
-mark-read least most s at e =
-    let m = mark least most s at (at + 1) e in
-    let b = getD s at 0 in
-    let low : 48 + least ≤ b = leb-true (48 + least) b (both-left (leb (48 + least) b) (leb b (48 + most)) (m .1)) in
-    (m .0, omega arith)
 
 -- the count of a list
 module _ (limit : ℕ) (entry : List ℕ → ℕ → Step) (w : ℕ) (s : List ℕ) (at : ℕ)
@@ -91,35 +76,3 @@ module _ (limit : ℕ) (entry : List ℕ → ℕ → Step) (w : ℕ) (s : List �
       let n = counted limit entry s at (at + (2 + w * countAt s at)) e .count in
       let same : at + (2 + w * countAt s at) ≡ at + 2 + w * countAt s at = omega arith in
       (omega (arith, n .room), e ∙ ap Next same)
-
--- ---- The four lists of section 3
-
-abbrev digit : List Item
-digit = Number 1 0 1 ∷ []
-
--- each of them, and the digit behind them, where it stands
-module _ (s : List ℕ) (at : ℕ) (e : Accepted 3 s at) where
-  pub left-first : Left (lists AirfieldList 4 digit) s at (lists AirfieldList 4 digit) at
-  unfolding layoutOf
-  left-first = left-all e
-
-  pub left-second : Left (lists AirfieldList 4 digit) s at (lists AirfieldList 3 digit) (listsAt s at .second)
-  left-second = left-on left-first
-
-  pub left-third : Left (lists AirfieldList 4 digit) s at (lists AirfieldList 2 digit) (listsAt s at .third)
-  left-third = left-on left-second
-
-  pub left-fourth : Left (lists AirfieldList 4 digit) s at (lists AirfieldList 1 digit) (listsAt s at .fourth)
-  left-fourth = left-on left-third
-
-  pub left-last : Left (lists AirfieldList 4 digit) s at digit (listsAt s at .last)
-  left-last = left-on left-fourth
-
-  -- the section ends two bytes behind the last
-  pub lists-size : at + itemsSize (layoutOf 3) s at ≡ listsAt s at .last + 2
-  unfolding layoutOf itemsSize
-  lists-size = omega arith
-
-  -- in the text
-  pub lists-inside : listsAt s at .last + 2 ≤ length s
-  lists-inside = rw (← lists-size) (cut-inside (layoutOf 3) s at (at + itemsSize (layoutOf 3) s at) e)

@@ -1,15 +1,14 @@
 -- A number written behind a text, into a part that it fills.
 use mathlib.Core.Path.{_≡_, _∙_}
-use mathlib.Core.List.{List, [], _∷_, _++_, append-assoc}
-use Prim.Native.Nat.{ℕ, _+_, _-_, _≤_, _<_}
+use mathlib.Core.List.{List, _++_}
+use Prim.Native.Nat.{ℕ, _+_, _-_, _≤_}
 use native.Mathlib.Omega.{arith}
 use lib.ListN.{length, take, drop}
 use borrow.Rule.Slice.PartMut.{putMid}
 use Rattle.text.specs.Over.{over}
 use Rattle.text.proofs.Over.{length-then, then-whole}
 use Rattle.text.proofs.Parts.{part-length}
-use native.Mathlib.Nat.{mod-eq-of-lt}
-use Rattle.field.specs.Decimal.{decimal, digitsBefore}
+use Rattle.field.specs.Decimal.{decimal}
 use Rattle.field.proofs.Decimal.{decimal-length}
 
 -- n in w digits from p, where t ends, up to e
@@ -20,12 +19,3 @@ number-written d D zs t n w p e is starts ends room wrote =
     let part : length (take (e - p) (drop p D)) ≡ e - p = part-length D p e (omega arith) in
     let k : length (take (e - p) (drop p D)) ≡ w = omega arith in
     then-whole d D zs t (decimal w n) 0 p e is (omega arith) (omega (arith, decimal-length w n)) room (wrote ∙ rw k)
-
--- a mark is a number of one digit
-pub mark-text : (v : ℕ) → v < 10 → decimal 1 v ≡ (48 + v) ∷ []
-unfolding digitsBefore
-mark-text v h = rw (mod-eq-of-lt h)
-
--- four texts, and one behind them
-pub four-then : (k l m n u : List ℕ) → (k ++ (l ++ (m ++ n))) ++ u ≡ k ++ (l ++ (m ++ (n ++ u)))
-four-then k l m n u = simp append-assoc

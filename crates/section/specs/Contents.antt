@@ -1,9 +1,9 @@
 -- What a section holds: read out of its text, checked as a record, written as its text.
 use mathlib.Core.Bool.{Bool, true, false, cond, _&&_}
 use mathlib.Core.List.{List, [], _∷_, _++_}
-use Prim.Native.Nat.{ℕ, _+_, _-_}
+use Prim.Native.Nat.{ℕ, _+_}
 use lib.Dec.{leb, eqb}
-use lib.ListN.{length, getD}
+use lib.ListN.{length}
 use Rattle.text.specs.Parts.{part}
 use Rattle.text.specs.Checks.{must, _andThen_}
 use Rattle.text.specs.declared.Seen.{Seen}
@@ -12,7 +12,7 @@ use Rattle.field.specs.Decimal.{value, decimal}
 use Rattle.lists.specs.Lists.{airfieldsAt, airfieldsAllowed, airfieldsText, noAirfields, boxesAt, boxesAllowed, boxesText, noBoxes}
 use Rattle.lists.specs.declared.Airfields.{Airfields}
 use Rattle.lists.specs.declared.Boxes.{Boxes}
-use Rattle.section.specs.Layout.{Item, Number, Mark, AirfieldList, BoxList, itemSize}
+use Rattle.section.specs.Layout.{Item, Digits, AirfieldList, BoxList, itemSize}
 
 -- what an item holds
 pub data Content : Type 0 where
@@ -23,8 +23,7 @@ pub data Content : Type 0 where
 -- ---- Out of a text, from a place on
 
 abbrev pub contentAt : Item → List ℕ → ℕ → Content
-contentAt (Number w least most) s at = Amount (value (part at w s))
-contentAt (Mark least most) s at = Amount (getD s at 0 - 48)
+contentAt (Digits r) s at = Amount (value (part at (r .width) s))
 contentAt AirfieldList s at = Names (airfieldsAt s at)
 contentAt BoxList s at = Areas (boxesAt s at)
 
@@ -50,8 +49,7 @@ areasOf (Names l) = noBoxes
 areasOf (Areas l) = l
 
 abbrev pub contentText : Item → Content → List ℕ
-contentText (Number w least most) c = decimal w (amountOf c)
-contentText (Mark least most) c = (48 + amountOf c) ∷ []
+contentText (Digits r) c = decimal (r .width) (amountOf c)
 contentText AirfieldList c = airfieldsText (namesOf c)
 contentText BoxList c = boxesText (areasOf c)
 
@@ -63,8 +61,7 @@ contentsText (i ∷ is) (c ∷ cs) = contentText i c ++ contentsText is cs
 -- ---- A record's own check, with the places where the fields would stand
 
 abbrev pub contentAllowed : Item → ℕ → Content → Seen
-contentAllowed (Number w least most) at c = must (leb least (amountOf c) && leb (amountOf c) most) 5 at
-contentAllowed (Mark least most) at c = must (leb least (amountOf c) && leb (amountOf c) most) 4 at
+contentAllowed (Digits r) at c = must (leb (r .least) (amountOf c) && leb (amountOf c) (r .most)) (r .code) at
 contentAllowed AirfieldList at c = airfieldsAllowed at (namesOf c)
 contentAllowed BoxList at c = boxesAllowed at (areasOf c)
 

@@ -1,20 +1,42 @@
 -- Document 01, "The command": each section number has its own length and its own limits.
 use mathlib.Core.Path.{_≡_}
 use mathlib.Core.Bool.{Bool, true, false, cond}
-use mathlib.Core.List.{List, [], _∷_}
-use Prim.Native.Nat.{ℕ, _+_, _*_}
+use mathlib.Core.List.{List, [], _∷_, _++_, map}
+use Prim.Native.Nat.{ℕ, zero, suc, _+_, _-_, _*_}
 use lib.Dec.{eqb}
-use Rattle.field.specs.Fields.{after, checkNumber, checkMark, checkDelimiter}
+use lib.ListN.{length, take, replicate}
+use Rattle.field.specs.Fields.{after, checkDigits, checkDelimiter}
 use Rattle.field.specs.declared.Step.{Step}
 use Rattle.field.specs.declared.Step.the-variants.{Next}
 use Rattle.lists.specs.Lists.{checkAirfields, checkBoxes, countAt}
+use Rattle.section.specs.declared.Row.{Row}
+use Rattle.section.specs.declared.Layout.{Layout}
 
 -- what a section is made of
 pub data Item : Type 0 where
-  Number : ℕ → ℕ → ℕ → Item  -- digits, least, most
-  Mark : ℕ → ℕ → Item  -- one byte, a digit from the first to the second
+  Digits : Row → Item
   AirfieldList : Item  -- count 00-20 and that many airfields
   BoxList : Item  -- count 00-16 and that many boxes
+
+-- a number of w digits: one that doesn't fit is 5
+abbrev pub number : ℕ → ℕ → ℕ → Row
+number w least most = record { code = 5; width = w; least = least; most = most }
+
+-- a mark, one byte, a digit from the first to the second: another is 4
+abbrev pub mark : ℕ → ℕ → Row
+mark least most = record { code = 4; width = 1; least = least; most = most }
+
+-- eight rows, the last ones unused
+abbrev pub padded : List Row → List Row
+padded rs = rs ++ replicate (8 - length rs) (number 0 0 0)
+
+-- so many lists of boxes, so many of airfields, then digits
+abbrev pub layout : ℕ → ℕ → List Row → Layout
+layout boxes airfields rs = record { boxes = boxes; airfields = airfields; count = length rs; rows = padded rs }
+
+-- the section numbers, in rising order
+abbrev pub numbers : List ℕ
+numbers = 2 ∷ 3 ∷ 4 ∷ 5 ∷ 6 ∷ 7 ∷ 8 ∷ 9 ∷ []
 
 -- the entry at a number, or what there is for any other
 abbrev pub look : {A : Type 0} → ℕ → List (ℕ × A) → A → A
@@ -22,29 +44,48 @@ look k [] other = other
 look k ((j, a) ∷ rows) other = cond (eqb k j) a (look k rows other)
 
 -- the sections, each ended by `/`
-unfoldable pub layoutOf : ℕ → List Item
-layoutOf k =
+unfoldable pub tableOf : ℕ → Layout
+tableOf k =
     look k
-    ((2, BoxList ∷ BoxList ∷ [])
-    ∷ (3, AirfieldList ∷ AirfieldList ∷ AirfieldList ∷ AirfieldList ∷ Number 1 0 1 ∷ [])
-    ∷ (4, Number 2 1 60 ∷ Number 1 0 1 ∷ [])
+    ((2, layout 2 0 [])
+    ∷ (3, layout 0 4 (number 1 0 1 ∷ []))
+    ∷ (4, layout 0 0 (number 2 1 60 ∷ number 1 0 1 ∷ []))
     ∷ (
       5,
-      Mark 0 1
-          ∷ Number 2 3 20
-          ∷ Number 3 30 600
-          ∷ Number 2 3 60
-          ∷ Number 3 51 111
-          ∷ Number 3 150 350
-          ∷ Mark 1 2
-          ∷ Mark 0 1
-          ∷ [],
+      layout 0 0
+          (mark 0 1
+          ∷ number 2 3 20
+          ∷ number 3 30 600
+          ∷ number 2 3 60
+          ∷ number 3 51 111
+          ∷ number 3 150 350
+          ∷ mark 1 2
+          ∷ mark 0 1
+          ∷ []),
     )
-    ∷ (6, Number 1 0 1 ∷ [])
-    ∷ (8, Number 1 0 1 ∷ [])
-    ∷ (9, Number 2 0 23 ∷ Number 2 0 23 ∷ [])
+    ∷ (6, layout 0 0 (number 1 0 1 ∷ []))
+    ∷ (8, layout 0 0 (number 1 0 1 ∷ []))
+    ∷ (9, layout 0 0 (number 2 0 23 ∷ number 2 0 23 ∷ []))
     ∷ [])
-    []
+    (layout 0 0 [])
+
+-- n items of one kind before others
+abbrev pub several : Item → ℕ → List Item → List Item
+several i zero js = js
+several i (suc n) js = i ∷ several i n js
+
+abbrev pub digitsOf : Layout → List Item
+digitsOf l = map Digits (take (l .count) (l .rows))
+
+abbrev pub listsAndDigits : Layout → List Item
+listsAndDigits l = several AirfieldList (l .airfields) (digitsOf l)
+
+abbrev pub itemsOf : Layout → List Item
+itemsOf l = several BoxList (l .boxes) (listsAndDigits l)
+
+-- a section's items, in their order
+unfoldable pub layoutOf : ℕ → List Item
+layoutOf k = itemsOf (tableOf k)
 
 -- E7 is only 0: no layout, no section
 abbrev pub isEmpty : List Item → Bool
@@ -54,8 +95,7 @@ isEmpty (i ∷ is) = false
 -- ---- A section's text, from a place on
 
 abbrev pub checkItem : Item → List ℕ → ℕ → Step
-checkItem (Number w least most) s at = checkNumber w least most s at
-checkItem (Mark least most) s at = checkMark least most s at
+checkItem (Digits r) s at = checkDigits (r .code) (r .width) (r .least) (r .most) s at
 checkItem AirfieldList s at = checkAirfields s at
 checkItem BoxList s at = checkBoxes s at
 
@@ -69,8 +109,7 @@ checkSection k s at = checkItems (layoutOf k) s at
 -- ---- How long a section is, from its counts alone
 
 abbrev pub itemSize : Item → List ℕ → ℕ → ℕ
-itemSize (Number w least most) s at = w
-itemSize (Mark least most) s at = 1
+itemSize (Digits r) s at = r .width
 itemSize AirfieldList s at = 2 + 4 * countAt s at
 itemSize BoxList s at = 2 + 14 * countAt s at
 
@@ -81,8 +120,7 @@ itemsSize (i ∷ is) s at = itemSize i s at + itemsSize is s (at + itemSize i s 
 
 -- the longest that each can be
 abbrev pub itemMost : Item → ℕ
-itemMost (Number w least most) = w
-itemMost (Mark least most) = 1
+itemMost (Digits r) = r .width
 itemMost AirfieldList = 2 + 4 * 20
 itemMost BoxList = 2 + 14 * 16
 

@@ -1,5 +1,3 @@
 pub mod Contents
+pub mod Inner
 pub mod Layout
-pub mod Places
-pub mod Settings
-pub mod Turn

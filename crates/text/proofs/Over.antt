@@ -131,3 +131,22 @@ pub then-byte : (d D t : List ℕ) (b at p : ℕ) → D ≡ over d at t → p �
 then-byte d D t b at p is starts fits =
     let n : length D ≡ length d = length-then d D t at is (omega arith) in
     over-sets D p (b ∷ []) (omega arith) ∙ rw (is, starts) (over-over d at t (b ∷ []) (omega arith))
+
+-- one text and then another, the second into the part that starts where the first ends: D is d with t over its start
+module _ (d D t : List ℕ) (p : ℕ) (is : D ≡ over d 0 t) (starts : p ≡ length t) where
+  -- the part begins in the buffer
+  pub rest-start : (n : ℕ) → p + n ≤ length d → p ≤ length D
+  rest-start n fits = omega (arith, length-then d D t 0 is (omega arith))
+
+  -- there is room for the second
+  pub rest-room : (n : ℕ) → p + n ≤ length d → n ≤ length (take (length D - p) (drop p D))
+  rest-room n fits =
+      let l : length D ≡ length d = length-then d D t 0 is (omega arith) in
+      rw (part-length D p (length D) (omega arith)) (omega arith)
+
+  -- and the buffer then has both
+  pub rest-written : (zs u : List ℕ) → p + length u ≤ length d → zs ≡ over (take (length D - p) (drop p D)) 0 u
+      → putMid p (length D - p) D zs ≡ over d 0 (t ++ u)
+  rest-written zs u fits wrote =
+      let l : length D ≡ length d = length-then d D t 0 is (omega arith) in
+      then-part d D zs t u 0 p (length D) is (omega arith) (omega arith) (omega arith) wrote

@@ -18,7 +18,7 @@ returns c = let s = c .before .before .before .before .before in
     let x = now (s .args .a) in
     let y = now (s .args .b) in
     let n = c .before .joined-size .ensures in
-    rw (s .pre .0, s .pre .1, lt-leb (length (joinText x y)) (length (now (s .args .out))) (rw n at (c .if1 .taken))) (refl, refl)
+    rw (s .pre .0 .fine, s .pre .1 .fine, lt-leb (length (joinText x y)) (length (now (s .args .out))) (rw n at (c .if1 .taken))) (refl, refl)
 
 put-joined-requires : tie.Need-put-joined-requires
 put-joined-requires c κs = search needs
@@ -32,7 +32,7 @@ returns-2 c = let s = c .before .before .before .before .before .before .before 
     let x = now (s .args .a) in
     let y = now (s .args .b) in
     let n = c .before .before .before .before .before .joined-size .ensures in
-    rw (s .pre .0, s .pre .1, le-leb (length (joinText x y)) (length (now (s .args .out))) (rw n at (c .before .before .before .before .if1 .left)))
+    rw (s .pre .0 .fine, s .pre .1 .fine, le-leb (length (joinText x y)) (length (now (s .args .out))) (rw n at (c .before .before .before .before .if1 .left)))
     (ap Text n, c .before .before .put-joined .ensures)
 
 pub join-accepted-spec : {M : Type 1} → statement M

@@ -11,10 +11,10 @@ sections-size-requires : tie.Need-sections-size-requires
 sections-size-requires c κs = search needs
 
 add-result : tie.Need-add-result
-add-result c = let s = c .before .before .before in omega (arith, c .sections-size .ensures, sides-short (now (s .args .a)) (now (s .args .b)) (s .pre .0) (s .pre .1))
+add-result c = let s = c .before .before .before in omega (arith, c .sections-size .ensures, sides-short (now (s .args .a)) (now (s .args .b)) (s .pre .0 .fine) (s .pre .1 .fine))
 
 returns : tie.Need-returns
-returns c = let s = c .before .before .before in rw (c .sections-size .ensures) (sym (sides-length (now (s .args .a)) (now (s .args .b)) (s .pre .0) (s .pre .1)))
+returns c = let s = c .before .before .before in rw (c .sections-size .ensures) (sym (sides-length (now (s .args .a)) (now (s .args .b)) (s .pre .0 .fine) (s .pre .1 .fine)))
 
 pub joined-size-spec : {M : Type 1} → statement M
 joined-size-spec = tie.close (tie.spec sections-size-requires add-result returns)

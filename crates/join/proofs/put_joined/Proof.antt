@@ -12,15 +12,16 @@ use Rattle.text.specs.Over.{over}
 use Rattle.text.proofs.Over.{over-none, then-part, length-then}
 use lib.Seq.{length-take-le}
 use Rattle.command.proofs.Accepted.{accepted}
-use Rattle.join.specs.Steps.{joinHead, joinFrom}
+use Rattle.join.specs.Inner.{joinHead}
+use Rattle.join.specs.Join.{joinSections}
 use Rattle.join.proofs.Side.{join-sides, head-length, sides-length}
 use Rattle.text.proofs.Parts.{part-length}
-use Rattle.command.specs.Text.{numbers}
+use Rattle.section.specs.Layout.{numbers}
 
 -- there is room for the 22 bytes
 room : (s : tie.Start) → 22 ≤ length (now (s .args .d))
 room s =
-    omega (arith, s .pre .1, sides-length (now (s .args .a)) (now (s .args .b)) (s .pre .0 .0) (s .pre .0 .1))
+    omega (arith, s .pre .1, sides-length (now (s .args .a)) (now (s .args .b)) (s .pre .0 .0 .fine) (s .pre .0 .1 .fine))
 
 -- and they are written
 wrote : (c : tie.After-put-head)
@@ -32,7 +33,7 @@ wrote c =
     let d = now (s .args .d) in
     let x = now (s .args .a) in
     let y = now (s .args .b) in
-    let n = head-length x y (accepted x (s .pre .0 .0) .head .inside) (accepted y (s .pre .0 .1) .head .inside) in
+    let n = head-length x y (accepted x (s .pre .0 .0 .fine) .head .inside) (accepted y (s .pre .0 .1 .fine) .head .inside) in
     then-part d d (c .put-head .last .1 .1 .0) [] (joinHead x y) 0 0 22 (over-none d 0) refl (omega (arith, n)) (room s) (c .put-head .ensures)
 
 long : (c : tie.After-put-head)
@@ -44,7 +45,7 @@ long c =
     let d = now (s .args .d) in
     let x = now (s .args .a) in
     let y = now (s .args .b) in
-    let n = head-length x y (accepted x (s .pre .0 .0) .head .inside) (accepted y (s .pre .0 .1) .head .inside) in
+    let n = head-length x y (accepted x (s .pre .0 .0 .fine) .head .inside) (accepted y (s .pre .0 .1 .fine) .head .inside) in
     length-then d _ (joinHead x y) 0 (wrote c) (omega (arith, n, room s))
 
 sub-put-head : tie.Need-sub-put-head
@@ -58,8 +59,8 @@ part-put-head-end c = omega (arith, room (c .before .before .before))
 
 put-head-requires : tie.Need-put-head-requires
 put-head-requires c κs = let s = c .before .before .before .before in
-    let A = accepted (now (s .args .a)) (s .pre .0 .0) in
-    let B = accepted (now (s .args .b)) (s .pre .0 .1) in
+    let A = accepted (now (s .args .a)) (s .pre .0 .0 .fine) in
+    let B = accepted (now (s .args .b)) (s .pre .0 .1 .fine) in
     ((A .head .inside, B .head .inside, rw (length-take-le 22 (now (s .args .d)) (room s)) (omega arith)), A .head .begins)
 
 sub-put-sections : tie.Need-sub-put-sections
@@ -75,7 +76,7 @@ put-sections-requires : tie.Need-put-sections-requires
 put-sections-requires c κs = let h = c .before .before .before in
     let s = c .before .before .before .before .before .before .before .before in
     let d = putMid 0 22 (now (s .args .d)) (h .put-head .last .1 .1 .0) in
-    let n = sides-length (now (s .args .a)) (now (s .args .b)) (s .pre .0 .0) (s .pre .0 .1) in
+    let n = sides-length (now (s .args .a)) (now (s .args .b)) (s .pre .0 .0 .fine) (s .pre .0 .1 .fine) in
     (s .pre .0, rw (part-length d 22 (length d) (omega arith)) (omega (arith, n, s .pre .1, long h)))
 
 same-length : tie.Need-same-length
@@ -89,9 +90,9 @@ returns c = let q = c .before .before in
     let y = now (s .args .b) in
     let d = now (s .args .d) in
     let D = putMid 0 22 d (h .put-head .last .1 .1 .0) in
-    let n = sides-length x y (s .pre .0 .0) (s .pre .0 .1) in
-    let m = head-length x y (accepted x (s .pre .0 .0) .head .inside) (accepted y (s .pre .0 .1) .head .inside) in
-    then-part d D (q .put-sections .last .1 .1 .0) (joinHead x y) (joinFrom numbers x 22 y 22) 0 22 (length D) (wrote h) (omega (arith, m)) (omega (arith, n, s .pre .1, long h)) (omega (arith, long h)) (q .put-sections .ensures)
+    let n = sides-length x y (s .pre .0 .0 .fine) (s .pre .0 .1 .fine) in
+    let m = head-length x y (accepted x (s .pre .0 .0 .fine) .head .inside) (accepted y (s .pre .0 .1 .fine) .head .inside) in
+    then-part d D (q .put-sections .last .1 .1 .1 .1 .0) (joinHead x y) (joinSections numbers x y) 0 22 (length D) (wrote h) (omega (arith, m)) (omega (arith, n, s .pre .1, long h)) (omega (arith, long h)) (q .put-sections .ensures)
     ∙ ap (over d 0) (sym (join-sides x y))
 
 pub put-joined-spec : {M : Type 1} → statement M

@@ -5,15 +5,13 @@ use native.Mathlib.Omega.{arith}
 use mathlib.Core.Path.{_≡_, refl, sym, _∙_}
 use mathlib.Core.Bool.{true, false}
 use borrow.Author.Tests.{lt-leb, le-leb, lt-ltb, le-ltb, not-true, not-false}
-use Prim.Native.Nat.{_-_}
-use lib.ListN.{length, drop}
+use Prim.Native.Nat.{_-_, _*_}
+use lib.ListN.{length, drop, length-drop}
 use denote.Ref.{now}
-use Prim.Native.Nat.{_*_}
 use Rattle.board.specs.Inner.{fitsAt, takeMove}
 use Rattle.board.proofs.Moves.{fits}
 use Rattle.text.specs.Parts.{part}
 use lib.Seq.{length-take-le}
-use lib.ListN.{length-drop}
 
 refused-requires : tie.Need-refused-requires
 refused-requires c κs = search needs

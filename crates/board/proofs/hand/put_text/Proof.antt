@@ -3,14 +3,12 @@ use Rattle.board.proofs.hand.put_text.Statement.{statement}
 use Rattle.board.proofs.hand.put_text.Tie as tie
 use native.Mathlib.Omega.{arith}
 use mathlib.Core.Path.{_≡_, ap}
-use Prim.Native.Nat.{ℕ, _+_, _-_}
-use lib.ListN.{take, drop}
+use Prim.Native.Nat.{ℕ, _+_, _-_, _*_}
+use lib.ListN.{take, drop, length-drop}
 use denote.Ref.{now}
-use Prim.Native.Nat.{_*_}
 use Rattle.join.proofs.Side.{copied}
 use Rattle.text.specs.Parts.{part}
 use lib.Seq.{length-take-le}
-use lib.ListN.{length-drop}
 
 mul-at : tie.Need-mul-at
 mul-at c = search needs

@@ -1,7 +1,6 @@
 use Rattle.board.proofs.look.nobody.Statement.{statement}
 use Rattle.board.proofs.look.nobody.Tie as tie
 use Rattle.board.specs.Inner.{wantedBy}
-use Rattle.board.specs.Inner.{wantedBy}
 use borrow.Author.Needs.{needs}
 
 returns : tie.Need-returns

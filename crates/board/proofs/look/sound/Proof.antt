@@ -5,11 +5,10 @@ use Rattle.board.proofs.look.sound.Tie as tie
 use native.Mathlib.Omega.{arith}
 use mathlib.Core.Path.{_≡_, sym, _∙_, ap}
 use borrow.Author.Tests.{eq-eqb, lt-leb, le-leb, lt-ltb, le-ltb, not-true, not-false}
-use Prim.Native.Nat.{ℕ, _+_, _-_}
+use Prim.Native.Nat.{ℕ, _+_, _-_, _*_}
 use lib.ListN.{length, take, drop}
 use denote.Ref.{now}
 use Rattle.board.specs.Inner.{soundAt}
-use Prim.Native.Nat.{_*_}
 use Rattle.command.specs.Text.{checkCommand}
 
 six-long : (c : tie.Then4) → length (c .before .before .before .before .before .before .before .before .before .args .s .designator) ≡ 6

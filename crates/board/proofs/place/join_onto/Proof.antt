@@ -5,16 +5,14 @@ use native.Mathlib.Omega.{arith}
 use mathlib.Core.Path.{_≡_, refl, sym, _∙_, ap}
 use mathlib.Core.Bool.{true}
 use borrow.Author.Tests.{not-true, not-false}
-use Prim.Native.Nat.{ℕ, _+_, _-_}
-use lib.ListN.{length, take, drop}
+use Prim.Native.Nat.{ℕ, _+_, _-_, _*_}
+use lib.ListN.{length, take, drop, replicate}
 use denote.Ref.{now}
-use Prim.Native.Nat.{_*_}
 use Rattle.board.specs.Inner.{fitsAt, ownMove, waitsAt}
 use Rattle.board.proofs.Moves.{fits, told-refused, Onto, onto}
 use Rattle.command.proofs.Accepted.{longest-is}
 use lib.Seq.{length-take-le}
 use Rattle.join.specs.Join.{join, told}
-use lib.ListN.{replicate}
 
 len-is : (c : tie.Else1) → let a = c .before .before .before .before .before .args in 835 * a .v .own + c .before .before .middle .result - 835 * a .v .own ≡ a .v .length
 len-is c = omega (arith, c .before .before .middle .ensures)
@@ -22,8 +20,8 @@ len-is c = omega (arith, c .before .before .middle .ensures)
 -- the text that the join told of
 text-of : (c : tie.After-known-told)
     → let a = c .before .before .before .before .before .before .before .before .before .before .before .before .before .args in
-    Onto (join (take (835 * a .v .own + c .before .before .before .before .before .before .before .before .before .before .middle .result - 835 * a .v .own) (drop (835 * a .v .own) (now (a .area)))) (now (a .t)) 835) (c .before .m .given .0 .0) (c .before .before .before .before .join-accepted-second .last .1 .1 .0)
-text-of c = onto _ _ (replicate 835 0) _ _ (c .before .m .given .0 .0) refl refl (sym (c .before .before .before .before .join-accepted-second .ensures .0) ∙ c .before .m .given .1) (c .before .before .before .before .join-accepted-second .ensures .1)
+    Onto (join (take (835 * a .v .own + c .before .before .before .before .before .before .before .before .before .before .middle .result - 835 * a .v .own) (drop (835 * a .v .own) (now (a .area)))) (now (a .t)) 835) (c .before .m .given .0 .0) (c .before .before .before .before .join-texts .last .1 .1 .0)
+text-of c = onto _ _ (replicate 835 0) _ _ (c .before .m .given .0 .0) refl refl (sym (c .before .before .before .before .join-texts .ensures .0) ∙ c .before .m .given .1) (c .before .before .before .before .join-texts .ensures .1)
 
 middle-requires : tie.Need-middle-requires
 middle-requires c κs = search needs
@@ -51,23 +49,23 @@ add-end c = let a = c .before .before .before .before .before .args in
     let f = fits (a .v .own) (a .v .length) (length (now (a .area))) g in
     omega (arith, f .0, f .1, c .before .before .middle .ensures)
 
-sub-join-accepted-second : tie.Need-sub-join-accepted-second
-sub-join-accepted-second c = search needs
+sub-join-texts : tie.Need-sub-join-texts
+sub-join-texts c = search needs
 
-part-join-accepted-second-start : tie.Need-part-join-accepted-second-start
-part-join-accepted-second-start c = search needs
+part-join-texts-start : tie.Need-part-join-texts-start
+part-join-texts-start c = search needs
 
-part-join-accepted-second-end : tie.Need-part-join-accepted-second-end
-part-join-accepted-second-end c = let a = c .before .before .before .before .before .before .args in
+part-join-texts-end : tie.Need-part-join-texts-end
+part-join-texts-end c = let a = c .before .before .before .before .before .before .args in
     let g : fitsAt (a .v .own) (a .v .length) (length (now (a .area))) ≡ true = rw (c .before .before .before .middle .ensures) at (sym (c .before .before .fits-at .ensures) ∙ not-false _ (c .before .if1 .left)) in
     let f = fits (a .v .own) (a .v .length) (length (now (a .area))) g in
     omega (arith, f .1, f .2, c .before .before .before .middle .ensures)
 
-slice-aggregate-join-accepted-second : tie.Need-slice-aggregate-join-accepted-second
-slice-aggregate-join-accepted-second c = search needs
+slice-aggregate-join-texts : tie.Need-slice-aggregate-join-texts
+slice-aggregate-join-texts c = search needs
 
-join-accepted-second-requires : tie.Need-join-accepted-second-requires
-join-accepted-second-requires c κs = search needs
+join-texts-requires : tie.Need-join-texts-requires
+join-texts-requires c κs = search needs
 
 enum-told : tie.Need-enum-told
 enum-told c = search needs
@@ -83,7 +81,7 @@ array-share-prefix-joined c = text-of c .room
 
 slice-aggregate-put-at : tie.Need-slice-aggregate-put-at
 slice-aggregate-put-at c = let j = text-of (c .before) in
-    let l = c .before .before .before .before .before .join-accepted-second .last .1 .1 .0 in
+    let l = c .before .before .before .before .before .join-texts .last .1 .1 .0 in
     sym (length-take-le (c .before .before .m .given .0 .0) l (j .room))
 
 put-at-requires : tie.Need-put-at-requires
@@ -91,7 +89,7 @@ put-at-requires c κs = let a = c .before .before .before .before .before .befor
     let g : fitsAt (a .v .own) (a .v .length) (length (now (a .area))) ≡ true = rw (c .before .before .before .before .before .before .before .before .before .before .before .before .middle .ensures) at (sym (c .before .before .before .before .before .before .before .before .before .before .before .fits-at .ensures) ∙ not-false _ (c .before .before .before .before .before .before .before .before .before .before .if1 .left)) in
     let f = fits (a .v .own) (a .v .length) (length (now (a .area))) g in
     let j = text-of (c .before .before) in
-    (f .0, rw (length-take-le (c .before .before .before .m .given .0 .0) (c .before .before .before .before .before .before .join-accepted-second .last .1 .1 .0) (j .room)) (j .short), f .2)
+    (f .0, rw (length-take-le (c .before .before .before .m .given .0 .0) (c .before .before .before .before .before .before .join-texts .last .1 .1 .0) (j .room)) (j .short), f .2)
 
 stored-requires : tie.Need-stored-requires
 stored-requires c κs = text-of (c .before .before .before .before .before) .short
@@ -105,7 +103,7 @@ returns-2 c = let a = c .before .before .before .before .before .before .before 
     let g : fitsAt (a .v .own) (a .v .length) (length (now (a .area))) ≡ true = rw (c .before .before .before .before .before .before .before .before .before .before .middle .ensures) at (sym (c .before .before .before .before .before .before .before .before .before .fits-at .ensures) ∙ not-false _ (c .before .before .before .before .before .before .before .before .if1 .left)) in
     let f = fits (a .v .own) (a .v .length) (length (now (a .area))) g in
     let n = ap (λ (k : ℕ). told (join (take k (drop (835 * a .v .own) (now (a .area)))) (now (a .t)) 835)) (len-is (c .before .before .before .before .before .before .before .before)) in
-    rw (g, told-refused (join (waitsAt (a .v) (now (a .area))) (now (a .t)) 835) _ _ _ (a .v .own) (a .w .designator) (sym (c .before .before .before .before .join-accepted-second .ensures .0 ∙ n) ∙ c .before .enum-told .given .1))
+    rw (g, told-refused (join (waitsAt (a .v) (now (a .area))) (now (a .t)) 835) _ _ _ (a .v .own) (a .w .designator) (sym (c .before .before .before .before .join-texts .ensures .0 ∙ n) ∙ c .before .enum-told .given .1))
     (c .refused2 .ensures, refl)
 
 same-length-2 : tie.Need-same-length-2
@@ -130,11 +128,11 @@ join-onto-spec =
     returns
     mul-at
     add-end
-    sub-join-accepted-second
-    part-join-accepted-second-start
-    part-join-accepted-second-end
-    slice-aggregate-join-accepted-second
-    join-accepted-second-requires
+    sub-join-texts
+    part-join-texts-start
+    part-join-texts-end
+    slice-aggregate-join-texts
+    join-texts-requires
     enum-told
     refused-requires-2
     enum-known-m

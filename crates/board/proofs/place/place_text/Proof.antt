@@ -42,7 +42,7 @@ enum-told : tie.Need-enum-told
 enum-told c = search needs
 
 join-onto-requires : tie.Need-join-onto-requires
-join-onto-requires c κs = sym (c .before .before .before .before .before .check .ensures) ∙ c .before .before .before .enum-told .given .1
+join-onto-requires c κs = search needs
 
 same-length : tie.Need-same-length
 same-length c = search needs

@@ -3,9 +3,8 @@ use Rattle.board.proofs.place.put_at.Statement.{statement}
 use Rattle.board.proofs.place.put_at.Tie as tie
 use native.Mathlib.Omega.{arith}
 use mathlib.Core.List.{[]}
-use Prim.Native.Nat.{_+_, _-_}
+use Prim.Native.Nat.{_+_, _-_, _*_}
 use denote.Ref.{now}
-use Prim.Native.Nat.{_*_}
 use Rattle.text.proofs.Over.{then-copy, over-none}
 
 mul-at : tie.Need-mul-at

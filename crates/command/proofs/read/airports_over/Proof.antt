@@ -3,7 +3,7 @@ use Rattle.command.proofs.read.airports_over.Statement.{statement}
 use Rattle.command.proofs.read.airports_over.Tie as tie
 use mathlib.Core.Path.{refl, sym, ap, _∙_}
 use lib.Dec.{lit≤}
-use Rattle.section.specs.Settings.{airportsFrom}
+use Rattle.settings.specs.Settings.{airportsFrom}
 use Rattle.command.proofs.Placed.{stands-inside, stands-accepted, stands-held}
 
 is-named-requires : tie.Need-is-named-requires
@@ -20,7 +20,7 @@ airports-at-requires c κs =
 returns : tie.Need-returns
 returns c =
     let named = sym (c .before .before .before .is-named .ensures) ∙ c .before .before .if1 .taken in
-    c .airports-at .ensures ∙ rw (named, c .before .lists-at .ensures) (ap airportsFrom (stands-held (c .before .before .before .before .before .pre) named))
+    c .airports-at .ensures ∙ rw (named, c .before .lists-at .ensures) (ap airportsFrom (stands-held (c .before .before .before .before .before .pre)))
 
 returns-2 : tie.Need-returns-2
 unfolding airportsFrom

@@ -1,8 +1,8 @@
 -- `command::read::command_of` meets its contract.
-use Rattle.command.specs.Record.{commandOf}
 use borrow.Author.Needs.{needs}
 use Rattle.command.proofs.read.command_of.Statement.{statement}
 use Rattle.command.proofs.read.command_of.Tie as tie
+use Rattle.command.specs.Record.{commandOf}
 
 settings-of-requires : tie.Need-settings-of-requires
 settings-of-requires c κs = search needs

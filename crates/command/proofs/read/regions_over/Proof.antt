@@ -3,7 +3,7 @@ use Rattle.command.proofs.read.regions_over.Statement.{statement}
 use Rattle.command.proofs.read.regions_over.Tie as tie
 use mathlib.Core.Path.{sym, ap, _∙_}
 use lib.Dec.{lit≤}
-use Rattle.section.specs.Settings.{regionsFrom}
+use Rattle.settings.specs.Settings.{regionsFrom}
 use Rattle.command.proofs.Placed.{stands-inside, stands-accepted, stands-held}
 
 is-named-requires : tie.Need-is-named-requires
@@ -15,7 +15,7 @@ regions-at-requires c κs = stands-accepted (c .before .before .before .pre) (sy
 returns : tie.Need-returns
 returns c =
     let named = sym (c .before .before .is-named .ensures) ∙ c .before .if1 .taken in
-    c .regions-at .ensures ∙ rw named (ap regionsFrom (stands-held (c .before .before .before .before .pre) named))
+    c .regions-at .ensures ∙ rw named (ap regionsFrom (stands-held (c .before .before .before .before .pre)))
 
 returns-2 : tie.Need-returns-2
 unfolding regionsFrom

@@ -6,7 +6,7 @@ use mathlib.Core.Path.{_≡_, refl, sym, _∙_}
 use Prim.Native.Nat.{_+_, _-_, _≤_, _<_}
 use lib.ListN.{length, drop}
 use borrow.Author.Tests.{not-true, not-false}
-use Rattle.command.specs.Text.{numbers}
+use Rattle.section.specs.Layout.{numbers}
 use Rattle.command.specs.Record.{namedAllowed}
 use Rattle.command_write.proofs.Writing.{named-on, named-stop, named-end}
 

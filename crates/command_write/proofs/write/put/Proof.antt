@@ -8,17 +8,19 @@ use Prim.Native.Nat.{ℕ, _+_, _≤_}
 use lib.ListN.{length, length-append}
 use denote.Ref.{now}
 use Rattle.text.specs.Over.{over}
+use Rattle.text.proofs.Over.{rest-start, rest-room, rest-written}
+use Rattle.section.specs.Layout.{numbers}
 use Rattle.command.specs.Record.{sectionsText}
-use Rattle.command_write.specs.Writing.{front, back, headText}
+use Rattle.command_write.specs.Inner.{headText}
 use Rattle.command.specs.declared.Command.{Command}
-use Rattle.command_write.proofs.Writing.{rest-start, rest-room, rest-written, head-length, Ready, ready}
+use Rattle.command_write.proofs.Writing.{head-length, text-halves, Ready, ready}
 
 -- the first 22 bytes and the sections
 abbrev one : Command → List ℕ
 one x = headText x
 
 abbrev two : Command → List ℕ
-two x = sectionsText front x ++ sectionsText back x
+two x = sectionsText numbers x
 
 -- the arrays have their entries
 seven : (s : tie.Start) → length (s .args .c .settings .flags) ≡ 7
@@ -34,7 +36,7 @@ starts : (s : tie.Start) → 22 ≡ length (one (s .args .c))
 starts s = sym (head-length (s .args .c) (seven s) (eight s))
 
 room : (s : tie.Start) → 22 + length (two (s .args .c)) ≤ length (now (s .args .d))
-room s = omega (arith, s .pre .1, starts s, ap length (able s .text), length-append (one (s .args .c)) (two (s .args .c)))
+room s = omega (arith, s .pre .1, starts s, ap length (text-halves (s .args .c)), length-append (one (s .args .c)) (two (s .args .c)))
 
 put-head-requires : tie.Need-put-head-requires
 put-head-requires c κs =
@@ -62,7 +64,7 @@ put-sections-requires : tie.Need-put-sections-requires
 put-sections-requires c κs =
     let f = c .before .before .before .put-head in
     let s = c .before .before .before .before .before .before in
-    (able s .first, able s .second, rest-room (now (s .args .d)) (f .last .1 .0) (one (s .args .c)) 22 (f .ensures) (starts s) (length (two (s .args .c))) (room s))
+    (able s .lists, rest-room (now (s .args .d)) (f .last .1 .0) (one (s .args .c)) 22 (f .ensures) (starts s) (length (two (s .args .c))) (room s))
 
 add-result : tie.Need-add-result
 add-result c =
@@ -80,9 +82,9 @@ returns c =
     let g = c .before .before .put-sections in
     let s = c .before .before .before .before .before .before .before .before .before in
     let x = s .args .c in (
-      omega (arith, starts s, g .ensures .0, ap length (able s .text), length-append (one x) (two x)),
+      omega (arith, starts s, g .ensures .0, ap length (text-halves (s .args .c)), length-append (one x) (two x)),
       rest-written (now (s .args .d)) (f .last .1 .0) (one x) 22 (f .ensures) (starts s) (g .last .1 .0) (two x) (room s) (g .ensures .1)
-          ∙ ap (over (now (s .args .d)) 0) (sym (able s .text)),
+          ∙ ap (over (now (s .args .d)) 0) (sym (text-halves (s .args .c))),
     )
 
 pub put-spec : {M : Type 1} → statement M

@@ -11,7 +11,7 @@ use Prim.Native.Nat.{ℕ, _+_}
 use Rattle.text.proofs.Over.{over-none, then-part}
 use Rattle.command.specs.Text.{awr04}
 use Rattle.command.specs.Record.{digitBytes}
-use Rattle.command_write.specs.Writing.{headText}
+use Rattle.command_write.specs.Inner.{headText}
 
 -- the arrays have their entries
 seven : (c : tie.Start) → length (c .args .c .settings .flags) ≡ 7

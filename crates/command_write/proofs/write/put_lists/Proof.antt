@@ -1,3 +1,4 @@
+-- `command_write::write::put_lists` meets its contract.
 use borrow.Author.Needs.{needs}
 use Rattle.command_write.proofs.write.put_lists.Statement.{statement}
 use Rattle.command_write.proofs.write.put_lists.Tie as tie
@@ -9,11 +10,12 @@ use lib.Dec.{eqb}
 use lib.ListN.{length, getD, length-append}
 use denote.Ref.{now}
 use Rattle.text.specs.Over.{over}
-use Rattle.section.specs.Settings.{contentsOf, regionsHold, airportsHold}
+use Rattle.text.proofs.Over.{rest-start, rest-room, rest-written}
+use Rattle.settings.specs.Settings.{contentsOf, regionsHold, airportsHold}
 use Rattle.command.specs.Record.{sectionsText}
-use Rattle.command_write.specs.Writing.{textIf}
+use Rattle.settings.specs.Inner.{textIf}
 use Rattle.command.specs.declared.Command.{Command}
-use Rattle.command_write.proofs.Writing.{rest-start, rest-room, rest-written, text-two}
+use Rattle.command_write.proofs.Writing.{text-two}
 
 -- the first text and the second
 abbrev one : Command → List ℕ
@@ -24,7 +26,7 @@ two x = textIf (eqb (getD (x .named) 1 0) 3) 3 (airportsHold (x .settings .airpo
 
 whole : (x : Command) → sectionsText (2 ∷ 3 ∷ []) x ≡ one x ++ two x
 unfolding contentsOf
-whole x = text-two 2 3 x
+whole x = text-two x
 
 room : (s : tie.Start) → length (one (s .args .c)) + length (two (s .args .c)) ≤ length (now (s .args .d))
 room s = omega (arith, s .pre .1, ap length (whole (s .args .c)), length-append (one (s .args .c)) (two (s .args .c)))

@@ -13,10 +13,10 @@ fine : (c : tie.After-enum-told) → let s = c .before .before .before .before i
 fine c =
     let s = c .before .before .before .before in
     goes-fine (writeSeen (s .args .c) (length (now (s .args .out)))) (length (commandText (s .args .c))) _
-    (sym (c .before .before .room-turn .ensures) ∙ c .enum-told .given .1) .0
+    (sym (c .before .before .pass-room .ensures) ∙ c .enum-told .given .1) .0
 
-room-turn-requires : tie.Need-room-turn-requires
-room-turn-requires c κs = search needs
+pass-room-requires : tie.Need-pass-room-requires
+pass-room-requires c κs = search needs
 
 enum-known-code : tie.Need-enum-known-code
 enum-known-code c = search needs
@@ -32,7 +32,7 @@ put-requires c κs =
 returns : tie.Need-returns
 returns c =
     let s = c .before .before .before .before .before in
-    let e = goes-bad (writeSeen (s .args .c) (length (now (s .args .out)))) (length (commandText (s .args .c))) _ _ (sym (c .before .before .before .room-turn .ensures) ∙ c .before .code .given .1) in
+    let e = goes-bad (writeSeen (s .args .c) (length (now (s .args .out)))) (length (commandText (s .args .c))) _ _ (sym (c .before .before .before .pass-room .ensures) ∙ c .before .code .given .1) in
     (rw e, rw e)
 
 same-length : tie.Need-same-length
@@ -47,7 +47,7 @@ pub write-spec : {M : Type 1} → statement M
 write-spec =
     tie.close
     (tie.spec
-    room-turn-requires
+    pass-room-requires
     enum-known-code
     enum-told
     put-requires

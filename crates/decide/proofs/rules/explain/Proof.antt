@@ -11,7 +11,7 @@ use mir.Facts.{toZ-ofZ}
 use borrow.Author.Tests.{not-true, not-false, eqb-true}
 use Rattle.text.specs.Names.{allAllowed}
 use Rattle.text.proofs.Cases.{both-left}
-use Rattle.config.specs.Config.{valid}
+use Rattle.settings.specs.Valid.{valid}
 use Rattle.decide.specs.Tests.{inRange, isAirfield}
 use Rattle.decide.specs.Reason.{explained}
 use Rattle.decide.specs.declared.Explained.the-variants.{Because}

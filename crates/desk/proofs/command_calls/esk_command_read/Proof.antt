@@ -2,10 +2,9 @@
 use borrow.Author.Needs.{needs}
 use mathlib.Core.Path.{_≡_, sym, _∙_}
 use denote.Ref.{now}
-use borrow.Author.Tests.{not-true}
 use Rattle.text.specs.declared.Seen.the-variants.{Fine}
 use Rattle.command.specs.Text.{checkCommand}
-use Rattle.command.specs.Steps.{Noted}
+use Rattle.command.specs.Inner.{Noted}
 use Rattle.command.specs.Record.{readCommand}
 use Rattle.desk.specs.Commands.{commandNumbers}
 use Rattle.desk.proofs.command_calls.esk_command_read.Statement.{statement}
@@ -37,38 +36,24 @@ accepted c =
     let walked = c .before .before .before .walk .ensures in
     (sym (walked .0) ∙ c .enum-told .given .1, walked .1 (c .enum-told .given .1))
 
-names-lists-requires : tie.Need-names-lists-requires
-names-lists-requires c κs = accepted c .0
-
 answer-of-requires-2 : tie.Need-answer-of-requires-2
 answer-of-requires-2 c κs = search needs
 
-short-of-requires : tie.Need-short-of-requires
-short-of-requires c κs =
-    (accepted (c .before .before .before), sym (c .before .before .names-lists .ensures) ∙ not-true _ (c .before .if1 .taken))
+command-of-requires : tie.Need-command-of-requires
+command-of-requires c κs = accepted (c .before)
 
 returns : tie.Need-returns
 unfolding commandNumbers readCommand
-returns c = rw (c .short-of .ensures, c .before .answer-of2 .ensures, accepted (c .before .before .before .before) .0)
-
-answer-of-requires-3 : tie.Need-answer-of-requires-3
-answer-of-requires-3 c κs = search needs
-
-command-of-requires : tie.Need-command-of-requires
-command-of-requires c κs = accepted (c .before .before .before)
-
-returns-2 : tie.Need-returns-2
-unfolding commandNumbers readCommand
-returns-2 c =
+returns c =
     rw (
       c .no-command .ensures,
       c .before .answer-of .ensures,
       sym (c .before .before .before .before .before .before .walk .ensures .0) ∙ c .before .before .before .code .given .1,
     )
 
-returns-3 : tie.Need-returns-3
+returns-2 : tie.Need-returns-2
 unfolding commandNumbers readCommand
-returns-3 c = rw (c .command-of .ensures, c .before .answer-of3 .ensures, accepted (c .before .before .before .before) .0)
+returns-2 c = rw (c .command-of .ensures, c .before .answer-of2 .ensures, accepted (c .before .before) .0)
 
 pub esk-command-read-spec : {M : Type 1} → statement M
 esk-command-read-spec =
@@ -80,11 +65,7 @@ esk-command-read-spec =
     answer-of-requires
     no-command-requires
     enum-told
-    names-lists-requires
     answer-of-requires-2
-    short-of-requires
-    returns
-    answer-of-requires-3
     command-of-requires
-    returns-2
-    returns-3)
+    returns
+    returns-2)

@@ -42,9 +42,9 @@ use denote.Triple.Spec.{Meets, tripleOf}
 use denote.Triple.Table.{entered, cited}
 use denote.Triple.Walked.{says, Stays, stay-ref, stay-none-slice, walkOf, AllGo, goes-none-slice, goes-ref, Walks, ends-at, walked, walk-meets}
 use denote.Exit.{yes}
-use Rattle.section.specs.declared.Settings.{Settings}
-use Rattle.section.proofs.Settings as T
-use Rattle.section.proofs.Settings.Laws as T′
+use Rattle.settings.specs.declared.Settings.{Settings}
+use Rattle.settings.proofs.Settings as T
+use Rattle.settings.proofs.Settings.Laws as T′
 use Rattle.config.specs.Config.{applied, kept}
 use Rattle.config.proofs.Kept.{kept-new, kept-old}
 use Rattle.desk.specs.Outcomes.{outcomeOf}

@@ -33,10 +33,10 @@ use denote.Triple.Spec.{Meets, tripleOf}
 use denote.Triple.Table.{entered, cited}
 use denote.Triple.Walked.{says, Stays, stay-none-ref, walkOf, AllGo, goes-none-ref, Walks, ends-at, walked, walk-meets}
 use denote.Exit.{yes}
-use Rattle.section.specs.declared.Settings.{Settings}
-use Rattle.section.proofs.Settings as T
-use Rattle.section.proofs.Settings.Laws as T′
-use Rattle.config.specs.Config.{valid}
+use Rattle.settings.specs.declared.Settings.{Settings}
+use Rattle.settings.proofs.Settings as T
+use Rattle.settings.proofs.Settings.Laws as T′
+use Rattle.settings.specs.Valid.{valid}
 use Rattle.desk.specs.Outcomes.{validNumbers}
 use Rattle.desk.specs.declared.Answer.{Answer}
 use Rattle.desk.proofs.Answer as N

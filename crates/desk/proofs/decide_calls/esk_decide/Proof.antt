@@ -40,9 +40,9 @@ use denote.Triple.Spec.{Meets, tripleOf}
 use denote.Triple.Table.{entered, cited}
 use denote.Triple.Walked.{says, Stays, stay-none, stay-none-ref, stay-none-slice, walkOf, AllGo, goes-none, goes-none-ref, goes-none-slice, Walks, ends-at, walked, walk-meets}
 use denote.Exit.{yes}
-use Rattle.section.specs.declared.Settings.{Settings}
-use Rattle.section.proofs.Settings as T
-use Rattle.section.proofs.Settings.Laws as T′
+use Rattle.settings.specs.declared.Settings.{Settings}
+use Rattle.settings.proofs.Settings as T
+use Rattle.settings.proofs.Settings.Laws as T′
 use Rattle.decide.specs.Reason.{decided}
 use Rattle.desk.specs.Decisions.{decidedNumbers}
 use Rattle.desk.specs.declared.HostDecided.{HostDecided}

@@ -12,7 +12,7 @@ use Rattle.text.specs.Over.{over}
 use Rattle.text.specs.Parts.{part}
 use Rattle.text.proofs.Over.{over-none, then-whole, then-byte, length-then}
 use Rattle.join.specs.Join.{choose}
-use Rattle.join.specs.Steps.{joinBack}
+use Rattle.join.specs.Inner.{joinBack}
 use Rattle.join.proofs.Side.{indicators-length}
 
 -- the downlink digit and the indicators

@@ -2,9 +2,7 @@ use Rattle.join.proofs.head.put_chosen.Statement.{statement}
 use Rattle.join.proofs.head.put_chosen.Tie as tie
 use native.Mathlib.Omega.{arith}
 use mathlib.Core.Path.{_≡_, refl, sym, _∙_}
-use mathlib.Core.List.{_++_}
 use Prim.Native.Nat.{_+_, _-_, _≤_, _<_}
-use lib.ListN.{length, take, drop}
 use Rattle.join.specs.Join.{choose}
 use mathlib.Core.List.{_++_, append-nil, append-assoc}
 use lib.ListN.{length, take, drop, length-set}

@@ -12,7 +12,7 @@ use Rattle.text.specs.Over.{over}
 use Rattle.text.specs.Parts.{part}
 use Rattle.text.proofs.Over.{over-none, then-copy, then-whole}
 use Rattle.join.specs.Join.{choose}
-use Rattle.join.specs.Steps.{joinFront}
+use Rattle.join.specs.Inner.{joinFront}
 use Rattle.join.proofs.Side.{part-is, flags-length}
 
 sub-copy : tie.Need-sub-copy

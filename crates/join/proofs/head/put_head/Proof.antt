@@ -8,7 +8,7 @@ use Prim.Native.Nat.{_-_}
 use denote.Ref.{now}
 use borrow.Rule.Slice.PartMut.{putMid}
 use Rattle.text.proofs.Over.{over-none, then-part}
-use Rattle.join.specs.Steps.{joinFront, joinBack}
+use Rattle.join.specs.Inner.{joinFront, joinBack}
 use Rattle.join.proofs.Side.{front-length, back-length}
 
 sub-put-front : tie.Need-sub-put-front

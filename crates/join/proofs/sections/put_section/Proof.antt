@@ -1,103 +1,137 @@
+-- `join::sections::put_section` meets its contract.
 use borrow.Author.Needs.{needs}
 use Rattle.join.proofs.sections.put_section.Statement.{statement}
 use Rattle.join.proofs.sections.put_section.Tie as tie
 use native.Mathlib.Omega.{arith}
-use mathlib.Core.Path.{_≡_, sym, _∙_, ap}
-use Prim.Native.Nat.{ℕ, _+_, _-_}
-use lib.ListN.{take, drop}
+use mathlib.Core.Path.{_≡_, refl, sym, ap, _∙_}
+use mathlib.Core.List.{List, [], _++_, append-assoc, append-nil}
+use Prim.Native.Nat.{ℕ, _+_, _-_, _≤_, _<_}
+use lib.ListN.{length, getD, take, drop, length-append}
 use denote.Ref.{now}
-use Rattle.join.specs.Steps.{sizeAt, turnBytes}
-use Rattle.join.proofs.Side.{turn-second, turn-first, turn-length, copied}
+use Rattle.text.specs.Parts.{part}
+use Rattle.section.specs.Layout.{numbers}
+use Rattle.join.specs.Join.{joinSection, joinSections}
+use Rattle.join.proofs.Side.{Between, between, copied}
+
+first : (s : tie.Start) → let a = s .args in Between (now (a .a)) (a .t3) (a .k)
+first s = between (now (s .args .a)) (s .args .t3) (s .args .k) (s .pre .0 .2) (s .pre .0 .0) (s .pre .0 .1)
+
+second : (s : tie.Start) → let a = s .args in Between (now (a .b)) (a .t5) (a .k)
+second s = between (now (s .args .b)) (s .args .t5) (s .args .k) (s .pre .0 .3) (s .pre .0 .0) (s .pre .0 .1)
 
 is-named-requires : tie.Need-is-named-requires
-is-named-requires c κs = search needs
+is-named-requires c κs = let s = c .before .before .before in (s .pre .0 .1, second s .head)
 
-size-at-requires : tie.Need-size-at-requires
-size-at-requires c κs = search needs
+mul-at : tie.Need-mul-at
+mul-at c = search needs
+
+array-read-at : tie.Need-array-read-at
+array-read-at c = search needs
 
 add-end : tie.Need-add-end
 add-end c = search needs
 
+mul-end : tie.Need-mul-end
+mul-end c = search needs
+
+array-read-end : tie.Need-array-read-end
+array-read-end c = search needs
+
 sub-copy : tie.Need-sub-copy
-sub-copy c = search needs
+sub-copy c = second (c .before .before .before .before .before .before) .ordered
 
 part-copy-start : tie.Need-part-copy-start
-part-copy-start c = search needs
+part-copy-start c = second (c .before .before .before .before .before .before) .ordered
 
 part-copy-end : tie.Need-part-copy-end
-part-copy-end c = search needs
+part-copy-end c = second (c .before .before .before .before .before .before) .inside
 
 copy-requires : tie.Need-copy-requires
 copy-requires c κs = search needs
+
+sub-result : tie.Need-sub-result
+sub-result c = second (c .before .before .before .before .before .before .before .before .before .before) .ordered
 
 same-length : tie.Need-same-length
 same-length c = search needs
 
 returns : tie.Need-returns
-returns c = let g = c .before .before .before .before .before in
-    let s = g .before .before .before .before .before .before in
+returns c =
+    let s = c .before .before .before .before .before .before .before .before .before .before in
     let a = s .args in
-    let n = sym (g .before .before .is-named .ensures) ∙ g .before .if1 .taken in
-    let t = turnBytes (a .k) (now (a .a)) (a .p) (now (a .b)) (a .q) in
-    let m : a .q + g .size-at .result - a .q ≡ sizeAt (now (a .b)) (a .k) (a .q) = omega (arith, g .size-at .ensures) in
-    let same : take (a .q + g .size-at .result - a .q) (drop (a .q) (now (a .b))) ≡ t =
-    ap (λ (j : ℕ). take j (drop (a .q) (now (a .b)))) m ∙ turn-second (a .k) (now (a .a)) (a .p) (now (a .b)) (a .q) n in (
-      g .size-at .ensures ∙ sym (turn-length (a .k) (now (a .a)) (a .p) (now (a .b)) (a .q) (s .pre .1 .1 .0 .0) (s .pre .1 .1 .0 .1) ∙ rw n),
-      copied (now (a .d)) (c .before .before .copy .last .0) t _ (c .before .before .copy .ensures) same (s .pre .1 .1 .1),
-    )
+    let n = sym (c .before .before .before .before .before .before .is-named .ensures) ∙ c .before .before .before .before .before .if1 .taken in
+    let x = second s in
+    let same : part (getD (a .t5) (a .k) 0) (getD (a .t5) (a .k + 1) 0 - getD (a .t5) (a .k) 0) (now (a .b)) ≡ joinSection (now (a .a)) (now (a .b)) (a .k) = x .bytes ∙ rw n in
+    (x .size ∙ rw n, copied (now (a .d)) (c .before .before .copy .last .0) (joinSection (now (a .a)) (now (a .b)) (a .k)) _ (c .before .before .copy .ensures) same (s .pre .1))
 
-size-at-requires-2 : tie.Need-size-at-requires-2
-size-at-requires-2 c κs = search needs
+mul-at-2 : tie.Need-mul-at-2
+mul-at-2 c = search needs
+
+array-read-at-2 : tie.Need-array-read-at-2
+array-read-at-2 c = search needs
 
 add-end-2 : tie.Need-add-end-2
 add-end-2 c = search needs
 
+mul-end-2 : tie.Need-mul-end-2
+mul-end-2 c = search needs
+
+array-read-end-2 : tie.Need-array-read-end-2
+array-read-end-2 c = search needs
+
 sub-copy-2 : tie.Need-sub-copy-2
-sub-copy-2 c = search needs
+sub-copy-2 c = first (c .before .before .before .before .before .before) .ordered
 
 part-copy-start-2 : tie.Need-part-copy-start-2
-part-copy-start-2 c = search needs
+part-copy-start-2 c = first (c .before .before .before .before .before .before) .ordered
 
 part-copy-end-2 : tie.Need-part-copy-end-2
-part-copy-end-2 c = search needs
+part-copy-end-2 c = first (c .before .before .before .before .before .before) .inside
 
 copy-requires-2 : tie.Need-copy-requires-2
 copy-requires-2 c κs = search needs
+
+sub-result-2 : tie.Need-sub-result-2
+sub-result-2 c = first (c .before .before .before .before .before .before .before .before .before .before) .ordered
 
 same-length-2 : tie.Need-same-length-2
 same-length-2 c = search needs
 
 returns-2 : tie.Need-returns-2
-returns-2 c = let g = c .before .before .before .before .before in
-    let s = g .before .before .before .before .before .before in
+returns-2 c =
+    let s = c .before .before .before .before .before .before .before .before .before .before in
     let a = s .args in
-    let n = sym (g .before .before .is-named .ensures) ∙ g .before .if1 .left in
-    let t = turnBytes (a .k) (now (a .a)) (a .p) (now (a .b)) (a .q) in
-    let m : a .p + g .size-at2 .result - a .p ≡ sizeAt (now (a .a)) (a .k) (a .p) = omega (arith, g .size-at2 .ensures) in
-    let same : take (a .p + g .size-at2 .result - a .p) (drop (a .p) (now (a .a))) ≡ t =
-    ap (λ (j : ℕ). take j (drop (a .p) (now (a .a)))) m ∙ turn-first (a .k) (now (a .a)) (a .p) (now (a .b)) (a .q) n in (
-      g .size-at2 .ensures ∙ sym (turn-length (a .k) (now (a .a)) (a .p) (now (a .b)) (a .q) (s .pre .1 .1 .0 .0) (s .pre .1 .1 .0 .1) ∙ rw n),
-      copied (now (a .d)) (c .before .before .copy2 .last .0) t _ (c .before .before .copy2 .ensures) same (s .pre .1 .1 .1),
-    )
+    let n = sym (c .before .before .before .before .before .before .is-named .ensures) ∙ c .before .before .before .before .before .if1 .left in
+    let x = first s in
+    let same : part (getD (a .t3) (a .k) 0) (getD (a .t3) (a .k + 1) 0 - getD (a .t3) (a .k) 0) (now (a .a)) ≡ joinSection (now (a .a)) (now (a .b)) (a .k) = x .bytes ∙ rw n in
+    (x .size ∙ rw n, copied (now (a .d)) (c .before .before .copy2 .last .0) (joinSection (now (a .a)) (now (a .b)) (a .k)) _ (c .before .before .copy2 .ensures) same (s .pre .1))
 
 pub put-section-spec : {M : Type 1} → statement M
 put-section-spec =
     tie.close
     (tie.spec
     is-named-requires
-    size-at-requires
+    mul-at
+    array-read-at
     add-end
+    mul-end
+    array-read-end
     sub-copy
     part-copy-start
     part-copy-end
     copy-requires
+    sub-result
     same-length
     returns
-    size-at-requires-2
+    mul-at-2
+    array-read-at-2
     add-end-2
+    mul-end-2
+    array-read-end-2
     sub-copy-2
     part-copy-start-2
     part-copy-end-2
     copy-requires-2
+    sub-result-2
     same-length-2
     returns-2)

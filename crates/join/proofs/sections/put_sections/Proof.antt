@@ -1,120 +1,138 @@
+-- `join::sections::put_sections` meets its contract. The loop's invariant: d is what it was with the sections so far over its start.
+use borrow.Author.Needs.{needs}
 use Rattle.join.proofs.sections.put_sections.Statement.{statement}
 use Rattle.join.proofs.sections.put_sections.Tie as tie
 use native.Mathlib.Omega.{arith}
-use mathlib.Core.Path.{_≡_, refl, sym, _∙_, ap}
-use mathlib.Core.List.{_++_}
-use Prim.Native.Nat.{_+_, _-_, _≤_}
+use mathlib.Core.Path.{_≡_, refl, sym, ap, _∙_}
+use mathlib.Core.List.{List, [], _++_, append-assoc, append-nil}
+use Prim.Native.Nat.{ℕ, _+_, _-_, _≤_, _<_}
 use lib.ListN.{length, take, drop, length-append}
 use denote.Ref.{now}
+use borrow.Rule.Slice.PartMut.{putMid}
 use Rattle.text.specs.Over.{over}
-use Rattle.text.proofs.Over.{over-none, then-part, length-then}
-use Rattle.join.specs.Steps.{turnBytes}
-use Rattle.join.proofs.Side.{Sides, sides-begin, turns-begin, first-turn, second-turn, sides-turn, left, left-room, left-next, left-taken, join-end, sides-short}
-use lib.Seq.{length-take-le, take-all}
-use Rattle.text.proofs.Parts.{part-length}
-use lib.ListN.{length-drop}
+use Rattle.text.proofs.Over.{over-none, length-over, rest-room, rest-written}
+use Rattle.section.specs.Layout.{numbers}
+use Rattle.join.specs.Join.{joinSection, joinSections}
+use Rattle.join.proofs.Side.{sections-next, sections-end, sides-short}
+
+-- the sections before k are written, the others are left
+record Written (a b d₀ d : List ℕ) (at k : ℕ) : Type 0 where
+  text : List ℕ
+  long : at ≡ length text
+  is : d ≡ over d₀ 0 text
+  rest : joinSections numbers a b ≡ text ++ joinSections (drop (k - 2) numbers) a b
 
 abbrev Inv-loop : tie.InvT-loop
-Inv-loop a b d₀ k₀ p₀ q₀ at₀ d k p q at = Sides a b k p q × (length d ≡ length d₀) × (at ≤ length (left a b 2 22 22)) × (drop at (left a b 2 22 22) ≡ left a b k p q) × (d ≡ over d₀ 0 (take at (left a b 2 22 22)))
+Inv-loop a pa b pb d₀ k₀ at₀ d k at = (2 ≤ k) × (k ≤ 10) × (length d ≡ length d₀) × Written a b d₀ d at k
 
 abbrev μ-loop : tie.MeasureT-loop
-μ-loop a b d₀ k₀ p₀ q₀ at₀ d k p q at = 10 - k
+μ-loop a pa b pb d₀ k₀ at₀ d k at = 10 - k
 
-fits : (c : tie.In-loop Inv-loop μ-loop) → c .before .loop .at ≤ length (c .before .loop .d)
-fits c = let l = c .before .loop in omega (arith, l .inv .1, l .inv .2, c .before .before .before .before .before .pre .1)
+-- the next section's bytes, and what is left behind them
+abbrev one : (c : tie.In-loop Inv-loop μ-loop) → List ℕ
+one c = let a = c .before .before .before .before .before .args in joinSection (now (a .a)) (now (a .b)) (c .before .loop .k)
+
+next : (c : tie.In-loop Inv-loop μ-loop)
+    → let a = c .before .before .before .before .before .args in
+    joinSections numbers (now (a .a)) (now (a .b))
+    ≡ (c .before .loop .inv .3 .text ++ one c) ++ joinSections (drop (c .before .loop .k + 1 - 2) numbers) (now (a .a)) (now (a .b))
+next c =
+    let l = c .before .loop in
+    let a = c .before .before .before .before .before .args in
+    let w = l .inv .3 in
+    w .rest
+    ∙ ap (λ (t : List ℕ). w .text ++ t) (sections-next (now (a .a)) (now (a .b)) (l .k) (l .inv .0) (c .loop-test .taken))
+    ∙ sym (append-assoc (w .text) (one c) (joinSections (drop (l .k + 1 - 2) numbers) (now (a .a)) (now (a .b))))
+
+-- it ends in the sections' bytes, and there is room for it
+ends : (c : tie.In-loop Inv-loop μ-loop)
+    → let a = c .before .before .before .before .before .args in
+    c .before .loop .at + length (one c) ≤ length (joinSections numbers (now (a .a)) (now (a .b)))
+ends c =
+    let l = c .before .loop in
+    let a = c .before .before .before .before .before .args in
+    let w = l .inv .3 in
+    let rest = joinSections (drop (l .k + 1 - 2) numbers) (now (a .a)) (now (a .b)) in
+    omega (arith, ap length (next c), length-append (w .text ++ one c) rest, length-append (w .text) (one c), w .long)
+
+fits : (c : tie.In-loop Inv-loop μ-loop) → c .before .loop .at + length (one c) ≤ length (now (c .before .before .before .before .before .args .d))
+fits c = omega (arith, ends c, c .before .before .before .before .before .pre .1)
 
 loop-holds : tie.Need-loop-holds Inv-loop μ-loop
-loop-holds c = let s = c .before .before .before in
-    (sides-begin (s .args .a .now) (s .args .b .now) (s .pre .0 .0) (s .pre .0 .1), refl, omega arith, refl, over-none (s .args .d .now) 0)
+loop-holds c = (omega arith, omega arith, refl, record { text = []; long = refl; is = over-none _ 0; rest = refl })
 
 sub-put-section : tie.Need-sub-put-section Inv-loop μ-loop
-sub-put-section c = fits c
+sub-put-section c = omega (arith, fits c, c .before .loop .inv .2)
 
 part-put-section-start : tie.Need-part-put-section-start Inv-loop μ-loop
-part-put-section-start c = fits c
+part-put-section-start c = omega (arith, fits c, c .before .loop .inv .2)
 
 part-put-section-end : tie.Need-part-put-section-end Inv-loop μ-loop
-part-put-section-end c = omega arith
+part-put-section-end c = search needs
 
 put-section-requires : tie.Need-put-section-requires Inv-loop μ-loop
-put-section-requires c κs = let l = c .before .before .loop in
-    let s = c .before .before .before .before .before .before in
-    let hi = c .before .loop-test .taken in
-    let f = first-turn _ _ _ _ _ (l .inv .0) hi in
-    let g = second-turn _ _ _ _ _ (l .inv .0) hi in
-    let room = left-room _ _ _ _ _ _ _ (l .inv .0) hi (l .inv .2) (l .inv .3) in
-    let whole = part-length (l .d) (l .at) (length (l .d)) (omega arith) in (
-      (omega arith, turns-begin (now (s .args .a)) (s .pre .0 .0) .0, turns-begin (now (s .args .b)) (s .pre .0 .1) .0),
-      (
-        (f .stood, g .stood),
-        ((f .inside, g .inside), omega (arith, room, whole, l .inv .1, s .pre .1)),
-      ),
+put-section-requires c κs =
+    let turn = c .before in
+    let l = turn .before .loop in
+    let s = turn .before .before .before .before .before in
+    let w = l .inv .3 in (
+      (l .inv .0, omega (arith, turn .loop-test .taken), s .pre .0 .0, s .pre .0 .1),
+      rest-room (now (s .args .d)) (l .d) (w .text) (l .at) (w .is) (w .long) (length (one turn)) (fits turn),
     )
 
+-- the buffer with one section more
+written : (c : tie.After-put-section Inv-loop μ-loop)
+    → let turn = c .before .before in
+    let l = turn .before .loop in
+    let a = turn .before .before .before .before .before .args in
+    putMid (l .at) (length (l .d) - l .at) (l .d) (c .put-section .last .1 .1 .1 .1 .1 .0) ≡ over (now (a .d)) 0 (l .inv .3 .text ++ one turn)
+written c =
+    let turn = c .before .before in
+    let l = turn .before .loop in
+    let a = turn .before .before .before .before .before .args in
+    let w = l .inv .3 in
+    rest-written (now (a .d)) (l .d) (w .text) (l .at) (w .is) (w .long) (c .put-section .last .1 .1 .1 .1 .1 .0) (one turn) (fits turn) (c .put-section .ensures .1)
+
 add-at : tie.Need-add-at Inv-loop μ-loop
-add-at c = let l = c .before .before .before .before .before .loop in
-    let s = c .before .before .before .before .before .before .before .before .before in
-    let room = left-room _ _ _ _ _ _ _ (l .inv .0) (c .before .before .before .before .loop-test .taken) (l .inv .2) (l .inv .3) in
-    omega (arith, room, c .before .before .put-section .ensures .0, sides-short (s .args .a .now) (s .args .b .now) (s .pre .0 .0) (s .pre .0 .1))
-
-size-at-requires : tie.Need-size-at-requires Inv-loop μ-loop
-size-at-requires c κs = let l = c .before .before .before .before .before .loop in
-    let s = c .before .before .before .before .before .before .before .before .before in
-    ((omega arith, turns-begin (now (s .args .a)) (s .pre .0 .0) .0), first-turn _ _ _ _ _ (l .inv .0) (c .before .before .before .before .loop-test .taken) .stood)
-
-add-p : tie.Need-add-p Inv-loop μ-loop
-add-p c = let l = c .before .before .before .before .before .before .loop in
-    omega (arith, c .size-at .ensures, first-turn _ _ _ _ _ (l .inv .0) (c .before .before .before .before .before .loop-test .taken) .inside)
-
-size-at-requires-2 : tie.Need-size-at-requires-2 Inv-loop μ-loop
-size-at-requires-2 c κs = let l = c .before .before .before .before .before .before .loop in
-    let s = c .before .before .before .before .before .before .before .before .before .before in
-    ((omega arith, turns-begin (now (s .args .b)) (s .pre .0 .1) .0), second-turn _ _ _ _ _ (l .inv .0) (c .before .before .before .before .before .loop-test .taken) .stood)
-
-add-q : tie.Need-add-q Inv-loop μ-loop
-add-q c = let l = c .before .before .before .before .before .before .before .loop in
-    omega (arith, c .size-at2 .ensures, second-turn _ _ _ _ _ (l .inv .0) (c .before .before .before .before .before .before .loop-test .taken) .inside)
+add-at c =
+    let k = c .before .before in
+    let turn = k .before .before in
+    let s = turn .before .before .before .before .before in
+    omega (arith, ends turn, sides-short (now (s .args .a)) (now (s .args .b)) (s .pre .0 .0 .fine) (s .pre .0 .1 .fine), k .put-section .ensures .0)
 
 add-k : tie.Need-add-k Inv-loop μ-loop
-add-k c = omega arith
+add-k c = let turn = c .before .before .before .before in omega (arith, turn .before .loop .inv .1)
 
 loop-less : tie.Need-loop-less Inv-loop μ-loop
-loop-less c = omega arith
+loop-less c = let turn = c .before .before .before .before in omega (arith, turn .loop-test .taken)
 
 loop-again : tie.Need-loop-again Inv-loop μ-loop
-loop-again c = let l = c .before .before .before .before .before .before .before .loop in
-    let s = c .before .before .before .before .before .before .before .before .before .before .before in
-    let x = s .args .a .now in
-    let y = s .args .b .now in
-    let d = s .args .d .now in
-    let g = c .before .before .before .before in
-    let hi = c .before .before .before .before .before .before .loop-test .taken in
-    let w = left x y 2 22 22 in
-    let t = turnBytes (l .k) x (l .p) y (l .q) in
-    let room = left-room w x y (l .k) (l .p) (l .q) (l .at) (l .inv .0) hi (l .inv .2) (l .inv .3) in
-    let next = left-next w x y (l .k) (l .p) (l .q) (l .at) (l .inv .0) hi (l .inv .2) (l .inv .3) in
-    let taken = left-taken w x y (l .k) (l .p) (l .q) (l .at) (l .inv .0) hi (l .inv .2) (l .inv .3) in
-    let done : length (take (l .at) w) ≡ l .at = length-take-le (l .at) w (l .inv .2) in
-    let wrote = then-part d (l .d) (g .put-section .last .1 .1 .1 .1 .1 .0) (take (l .at) w) t 0 (l .at) (length (l .d)) (l .inv .4) (omega arith) (omega (arith, s .pre .1, l .inv .1)) (omega (arith, l .inv .1)) (g .put-section .ensures .1) in
-    rw (g .put-section .ensures .0, c .before .size-at .ensures, c .size-at2 .ensures) (
-      sides-turn x y (l .k) (l .p) (l .q) (l .inv .0) hi,
-      length-then d _ (take (l .at) w ++ t) 0 wrote (omega (arith, length-append (take (l .at) w) t, s .pre .1)),
-      room,
-      next,
-      wrote ∙ ap (over d 0) (sym taken),
+loop-again c =
+    let k = c .before .before in
+    let turn = k .before .before in
+    let l = turn .before .loop in
+    let a = turn .before .before .before .before .before .args in
+    let w = l .inv .3 in
+    let t = w .text ++ one turn in
+    let e = written k in
+    let n = length-append (w .text) (one turn) in (
+      omega (arith, l .inv .0),
+      omega (arith, turn .loop-test .taken),
+      ap length e ∙ length-over (now (a .d)) 0 t (omega (arith, n, fits turn, w .long)),
+      record { text = t; long = omega (arith, n, w .long, k .put-section .ensures .0); is = e; rest = next turn },
     )
 
 same-length : tie.Need-same-length Inv-loop μ-loop
-same-length c = c .before .loop .inv .1
+same-length c = c .before .loop .inv .2
 
 returns : tie.Need-returns Inv-loop μ-loop
-returns c = let l = c .before .loop in
-    let s = c .before .before .before .before .before in
-    let x = s .args .a .now in
-    let y = s .args .b .now in
-    let w = left x y 2 22 22 in
-    let end = l .inv .3 ∙ join-end (l .k) x (l .p) y (l .q) (c .loop-test .left) in
-    l .inv .4 ∙ ap (over (s .args .d .now) 0) (take-all (l .at) w (omega (arith, length-drop (l .at) w, ap length end)))
+returns c =
+    let l = c .before .loop in
+    let a = c .before .before .before .before .before .args in
+    let w = l .inv .3 in
+    w .is
+    ∙ ap (over (now (a .d)) 0)
+    (sym (w .rest ∙ ap (λ (t : List ℕ). w .text ++ t) (sections-end (now (a .a)) (now (a .b)) (l .k) (c .loop-test .left)) ∙ append-nil (w .text)))
 
 pub put-sections-spec : {M : Type 1} → statement M
 put-sections-spec =
@@ -128,10 +146,6 @@ put-sections-spec =
     part-put-section-end
     put-section-requires
     add-at
-    size-at-requires
-    add-p
-    size-at-requires-2
-    add-q
     add-k
     loop-less
     loop-again

@@ -1,82 +1,64 @@
+-- `join::sections::sections_size` meets its contract. The loop's invariant: what was counted, and the sections that are left, are the whole.
 use Rattle.join.proofs.sections.sections_size.Statement.{statement}
 use Rattle.join.proofs.sections.sections_size.Tie as tie
 use native.Mathlib.Omega.{arith}
-use mathlib.Core.Path.{_≡_, sym, _∙_}
-use Prim.Native.Nat.{_+_, _-_}
-use lib.ListN.{length}
+use mathlib.Core.Path.{_≡_, refl, sym, ap, _∙_}
+use mathlib.Core.List.{List, [], _++_, append-assoc, append-nil}
+use Prim.Native.Nat.{ℕ, _+_, _-_, _≤_, _<_}
+use lib.ListN.{length, getD, take, drop, length-append}
 use denote.Ref.{now}
-use Rattle.join.proofs.Side.{Sides, sides-begin, turns-begin, first-turn, second-turn, sides-turn, left, left-length, join-end, sides-short}
-use native.Mathlib.Nat.{zero-add, add-zero}
+use Rattle.text.specs.Parts.{part}
+use Rattle.section.specs.Layout.{numbers}
+use Rattle.join.specs.Join.{joinSection, joinSections}
+use Rattle.join.proofs.Side.{sections-length, sections-end, sides-short}
 
 abbrev Inv-loop : tie.InvT-loop
-Inv-loop a b k₀ p₀ q₀ total₀ k p q total = Sides a b k p q × (total + length (left a b k p q) ≡ length (left a b 2 22 22))
+Inv-loop a pa b pb k₀ total₀ k total = (2 ≤ k) × (k ≤ 10) × (total + length (joinSections (drop (k - 2) numbers) a b) ≡ length (joinSections numbers a b))
 
 abbrev μ-loop : tie.MeasureT-loop
-μ-loop a b k₀ p₀ q₀ total₀ k p q total = 10 - k
-
--- a turn leaves the texts at the next section
-turned : (c : tie.After-either Inv-loop μ-loop)
-    → let i = c .before .before .before .before .before in
-    let s = i .before .before .before in
-    let a = s .args .a .now in
-    let b = s .args .b .now in
-    let l = i .loop in
-    Sides a b (l .k + 1) (l .p + c .before .before .before .size-at .result) (l .q + c .before .before .size-at2 .result)
-    × (l .total + c .either .result + length (left a b (l .k + 1) (l .p + c .before .before .before .size-at .result) (l .q + c .before .before .size-at2 .result)) ≡ length (left a b 2 22 22))
-turned c =
-    let i = c .before .before .before .before .before in
-    let s = i .before .before .before in
-    let a = s .args .a .now in
-    let b = s .args .b .now in
-    let l = i .loop in
-    let hi = c .before .before .before .before .loop-test .taken in
-    let one = left-length a b (l .k) (l .p) (l .q) (l .inv .0) hi in
-    rw (c .before .before .before .size-at .ensures, c .before .before .size-at2 .ensures, c .either .ensures, c .before .before .before .size-at .ensures, c .before .before .size-at2 .ensures, c .before .is-named .ensures)
-    (sides-turn a b (l .k) (l .p) (l .q) (l .inv .0) hi, omega (arith, l .inv .1, one))
+μ-loop a pa b pb k₀ total₀ k total = 10 - k
 
 loop-holds : tie.Need-loop-holds Inv-loop μ-loop
-loop-holds c = let s = c .before .before in (sides-begin (s .args .a .now) (s .args .b .now) (s .pre .0) (s .pre .1), zero-add _)
+loop-holds c = (omega arith, omega arith, omega arith)
 
-size-at-requires : tie.Need-size-at-requires Inv-loop μ-loop
-size-at-requires c κs = let i = c .before .loop .inv .0 in
+section-size-requires : tie.Need-section-size-requires Inv-loop μ-loop
+section-size-requires c κs =
     let s = c .before .before .before .before in
-    ((omega arith, turns-begin (now (s .args .a)) (s .pre .0) .0), first-turn _ _ _ _ _ i (c .loop-test .taken) .stood)
+    (c .before .loop .inv .0, omega (arith, c .loop-test .taken), s .pre .0, s .pre .1)
 
-size-at-requires-2 : tie.Need-size-at-requires-2 Inv-loop μ-loop
-size-at-requires-2 c κs = let i = c .before .before .loop .inv .0 in
-    let s = c .before .before .before .before .before in
-    ((omega arith, turns-begin (now (s .args .b)) (s .pre .1) .0), second-turn _ _ _ _ _ i (c .before .loop-test .taken) .stood)
-
-is-named-requires : tie.Need-is-named-requires Inv-loop μ-loop
-is-named-requires c κs = let s = c .before .before .before .before .before .before in
-    (omega arith, turns-begin (now (s .args .b)) (s .pre .1) .0)
-
-either-requires : tie.Need-either-requires Inv-loop μ-loop
-either-requires c κs = tt
+-- one section more
+step : (c : tie.After-section-size Inv-loop μ-loop)
+    → let l = c .before .before .loop in
+    let a = c .before .before .before .before .before .args in
+    length (joinSections (drop (l .k - 2) numbers) (now (a .a)) (now (a .b)))
+    ≡ length (joinSection (now (a .a)) (now (a .b)) (l .k)) + length (joinSections (drop (l .k + 1 - 2) numbers) (now (a .a)) (now (a .b)))
+step c =
+    let l = c .before .before .loop in
+    let a = c .before .before .before .before .before .args in
+    sections-length (now (a .a)) (now (a .b)) (l .k) (l .inv .0) (c .before .loop-test .taken)
 
 add-total : tie.Need-add-total Inv-loop μ-loop
-add-total c = let s = c .before .before .before .before .before .before .before .before in
-    omega (arith, turned c .1, sides-short (s .args .a .now) (s .args .b .now) (s .pre .0) (s .pre .1))
-
-add-p : tie.Need-add-p Inv-loop μ-loop
-add-p c = omega (arith, turned c .0 .first-inside)
-
-add-q : tie.Need-add-q Inv-loop μ-loop
-add-q c = omega (arith, turned c .0 .second-inside)
+add-total c =
+    let l = c .before .before .loop in
+    let s = c .before .before .before .before .before in
+    omega (arith, c .section-size .ensures, l .inv .2, step c, sides-short (now (s .args .a)) (now (s .args .b)) (s .pre .0 .fine) (s .pre .1 .fine))
 
 add-k : tie.Need-add-k Inv-loop μ-loop
-add-k c = omega arith
+add-k c = omega (arith, c .before .before .loop .inv .1)
 
 loop-less : tie.Need-loop-less Inv-loop μ-loop
-loop-less c = omega arith
+loop-less c = omega (arith, c .before .loop-test .taken)
 
 loop-again : tie.Need-loop-again Inv-loop μ-loop
-loop-again c = turned c
+loop-again c =
+    let l = c .before .before .loop in
+    (omega (arith, l .inv .0), omega (arith, c .before .loop-test .taken), omega (arith, c .section-size .ensures, l .inv .2, step c))
 
 returns : tie.Need-returns Inv-loop μ-loop
-returns c = let l = c .before .loop in
-    let s = c .before .before .before .before in
-    sym (add-zero _) ∙ rw (join-end (l .k) (s .args .a .now) (l .p) (s .args .b .now) (l .q) (c .loop-test .left)) at (l .inv .1)
+returns c =
+    let l = c .before .loop in
+    let a = c .before .before .before .before .args in
+    omega (arith, l .inv .2, ap length (sections-end (now (a .a)) (now (a .b)) (l .k) (c .loop-test .left)))
 
 pub sections-size-spec : {M : Type 1} → statement M
 sections-size-spec =
@@ -85,13 +67,8 @@ sections-size-spec =
     Inv-loop
     μ-loop
     loop-holds
-    size-at-requires
-    size-at-requires-2
-    is-named-requires
-    either-requires
+    section-size-requires
     add-total
-    add-p
-    add-q
     add-k
     loop-less
     loop-again

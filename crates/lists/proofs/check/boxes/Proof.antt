@@ -15,15 +15,15 @@ use Rattle.lists.specs.Lists.{checkList}
 seen : (c : tie.After-known-told2)
     → let a = c .before .before .before .before .before .args in
     checkNumber 2 0 16 (now (a .s)) (a .at) ≡ Next (c .before .count2 .given .0 .0)
-seen c = sym (c .before .before .before .number .ensures) ∙ c .before .count2 .given .1
+seen c = sym (c .before .before .before .digits .ensures) ∙ c .before .count2 .given .1
 
 count : (c : tie.After-known-told2)
     → let a = c .before .before .before .before .before .args in
     Number 2 0 16 (now (a .s)) (a .at) (c .before .count2 .given .0 .0)
-count c = number _ _ _ _ _ _ (seen c)
+count c = number _ _ _ _ _ _ _ (seen c)
 
-number-requires : tie.Need-number-requires
-number-requires c κs = (c .before .pre, (lit≤ tt, lit≤ tt))
+digits-requires : tie.Need-digits-requires
+digits-requires c κs = (c .before .pre, (lit≤ tt, lit≤ tt))
 
 enum-known-count : tie.Need-enum-known-count
 enum-known-count c = search needs
@@ -39,7 +39,7 @@ each-box-requires c κs = omega (arith, count (c .before) .room, count (c .befor
 
 returns : tie.Need-returns
 unfolding checkList
-returns c = rw (sym (c .before .before .before .number .ensures) ∙ c .before .count .given .1)
+returns c = rw (sym (c .before .before .before .digits .ensures) ∙ c .before .count .given .1)
 
 returns-2 : tie.Need-returns-2
 unfolding checkList
@@ -49,7 +49,7 @@ pub boxes-spec : {M : Type 1} → statement M
 boxes-spec =
     tie.close
     (tie.spec
-    number-requires
+    digits-requires
     enum-known-count
     enum-known-count-2
     value-at-requires

@@ -1,0 +1,56 @@
+-- What the inner functions ask for and answer. No promise to a caller rests on these names.
+use mathlib.Core.Path.{_≡_}
+use mathlib.Core.Bool.{Bool, true, _&&_}
+use mathlib.Core.List.{List, [], _∷_, _++_, map}
+use Prim.Native.Nat.{ℕ, _+_, _-_, _≤_}
+use lib.Dec.{leb, eqb}
+use lib.ListN.{length, getD, replicate}
+use Rattle.text.specs.declared.Seen.{Seen}
+use Rattle.text.specs.declared.Seen.the-variants.{Fine, Bad}
+use Rattle.field.specs.declared.Step.{Step}
+use Rattle.field.specs.declared.Step.the-variants.{Next, Stop}
+use Rattle.section.specs.declared.Row.{Row}
+use Rattle.section.specs.declared.Layout.{Layout}
+use Rattle.section.specs.Layout.{Item}
+use Rattle.section.specs.Contents.{Content, amountOf, contentsText, contentsAllowed}
+
+-- ---- Rows
+
+-- rows that are read without overflow: three digits at the most
+unfoldable pub allSmall : List Row → Bool
+allSmall [] = true
+allSmall (r ∷ rs) = (leb (r .width) 3 && leb (r .most) 999) && allSmall rs
+
+abbrev pub isSmall : Layout → Bool
+isSmall l = leb (l .count) 8 && (eqb (length (l .rows)) 8 && allSmall (l .rows))
+
+abbrev pub Small : Layout → Type 0
+Small l = isSmall l ≡ true
+
+-- ---- A section's numbers, eight of them, those without a row zero
+
+unfoldable pub numbersOf : List Content → List ℕ
+numbersOf cs = map amountOf cs ++ replicate (8 - length cs) 0
+
+abbrev pub noRow : Row
+noRow = record { code = 0; width = 0; least = 0; most = 0 }
+
+-- each is a byte where its row's most is
+abbrev pub Fit : Layout → List ℕ → Type 0
+Fit l v = (i : ℕ) → getD (l .rows) i noRow .most ≤ 255 → getD v i 0 ≤ 255
+
+-- ---- A record's section: where what follows it would begin, or the refusal
+
+-- what a check saw, and where it goes on from there
+abbrev pub goesOn : Seen → ℕ → Step
+goesOn Fine next = Next next
+goesOn (Bad code place) next = Stop code place
+
+-- allowed contents are followed by what stands behind their text
+abbrev pub passContents : List Item → ℕ → List Content → Step
+passContents is at cs = goesOn (contentsAllowed is at cs) (at + length (contentsText is cs))
+
+-- no further than a place
+abbrev pub Reaches : ℕ → Step → Type 0
+Reaches most (Next p) = p ≤ most
+Reaches most (Stop code place) = Unit

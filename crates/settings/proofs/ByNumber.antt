@@ -1,0 +1,155 @@
+-- The sections of numbers: eight numbers of a section hold what its members hold, and the section is checked and written by them.
+use mathlib.Core.Path.{_≡_, refl, sym, ap, _∙_}
+use mathlib.Core.Bool.{Bool, true, false, cond, _&&_}
+use mathlib.Core.List.{List, [], _∷_, _++_, map}
+use Prim.Native.Nat.{ℕ, zero, suc, _+_, _-_, _≤_, _<_}
+use native.Mathlib.Omega.{arith}
+use lib.Dec.{eqb}
+use lib.ListN.{length, getD, replicate}
+use borrow.Author.Tests.{ne-eqb}
+use Rattle.text.proofs.Cases.{by-test}
+use Rattle.lists.specs.Lists.{allZero}
+use Rattle.section.specs.declared.Layout.{Layout}
+use Rattle.section.specs.Layout.{Item, tableOf, layoutOf, digitsOf}
+use Rattle.section.specs.Contents.{Content, Amount, amountOf, contentsText, contentsAllowed}
+use Rattle.section.specs.Inner.{numbersOf, Fit, passContents}
+use Rattle.settings.specs.Settings.{ascentHold, amountIn, enrouteFrom, ascentFrom, hoursFrom, fixedOf, fixedHold, contentsOf}
+use Rattle.settings.specs.Valid.{areZero}
+use Rattle.settings.specs.Inner.{Bytes}
+use Rattle.settings.specs.declared.Ascent.{Ascent}
+use Rattle.settings.specs.declared.Fixed.{Fixed}
+use Rattle.settings.specs.declared.Settings.{Settings}
+
+-- ---- Numbers as contents
+
+pub amount-at : (v : List ℕ) (i : ℕ) → amountIn (map Amount v) i ≡ getD v i 0
+amount-at [] i = refl
+amount-at (x ∷ v) zero = refl
+amount-at (x ∷ v) (suc i) = amount-at v i
+
+none-at : (n i : ℕ) → getD (replicate {A = ℕ} n 0) i 0 ≡ 0
+none-at zero i = refl
+none-at (suc n) zero = refl
+none-at (suc n) (suc i) = none-at n i
+
+entry : (cs : List Content) (n i : ℕ) → getD (map amountOf cs ++ replicate {A = ℕ} n 0) i 0 ≡ amountIn cs i
+entry [] n i = none-at n i
+entry (c ∷ cs) n zero = refl
+entry (c ∷ cs) n (suc i) = entry cs n i
+
+-- each number is what the section holds there
+pub number-in : (cs : List Content) (i : ℕ) → amountIn (map Amount (numbersOf cs)) i ≡ amountIn cs i
+unfolding numbersOf
+number-in cs i = amount-at (map amountOf cs ++ replicate (8 - length cs) 0) i ∙ entry cs (8 - length cs) i
+
+-- so the members out of the numbers are those out of what the section holds
+pub enroute-same : (cs : List Content) → enrouteFrom (map Amount (numbersOf cs)) ≡ enrouteFrom cs
+unfolding enrouteFrom
+enroute-same cs = rw (number-in cs 0, number-in cs 1)
+
+pub ascent-same : (cs : List Content) → ascentFrom (map Amount (numbersOf cs)) ≡ ascentFrom cs
+unfolding ascentFrom
+ascent-same cs =
+    rw (
+      number-in cs 0,
+      number-in cs 1,
+      number-in cs 2,
+      number-in cs 3,
+      number-in cs 4,
+      number-in cs 5,
+      number-in cs 6,
+      number-in cs 7,
+    )
+
+pub hours-same : (cs : List Content) → hoursFrom (map Amount (numbersOf cs)) ≡ hoursFrom cs
+unfolding hoursFrom
+hours-same cs = rw (number-in cs 0, number-in cs 1)
+
+-- ---- Numbers that members hold
+
+pub same-fit : (l : Layout) (v w : List ℕ) → v ≡ w → Fit l w → (v ≡ w) × Fit l v
+same-fit l v w e f = (e, rw e f)
+
+pub same-bytes : (v w : List ℕ) → v ≡ w → Bytes w → (v ≡ w) × Bytes v
+same-bytes v w e b = (e, rw e b)
+
+pub two-bytes : (a b : ℕ) → a ≤ 255 → b ≤ 255 → Bytes (numbersOf (Amount a ∷ Amount b ∷ []))
+unfolding numbersOf
+two-bytes a b x y zero = x
+two-bytes a b x y (suc zero) = y
+two-bytes a b x y (suc (suc i)) = rw (none-at 6 i) (omega arith)
+
+pub one-byte : (a : ℕ) → a ≤ 255 → Bytes (numbersOf (Amount a ∷ []))
+unfolding numbersOf
+one-byte a x zero = x
+one-byte a x (suc i) = rw (none-at 7 i) (omega arith)
+
+pub no-bytes : Bytes (replicate {A = ℕ} 8 0)
+no-bytes i = rw (none-at 8 i) (omega arith)
+
+-- duration and top alone need more than a byte
+pub ascent-fits : (x : Ascent) → x .mode ≤ 255 → x .interval1 ≤ 255 → x .interval2 ≤ 255 → x .total ≤ 255 → x .list ≤ 255 → x .timer ≤ 255
+    → Fit (tableOf 5) (numbersOf (ascentHold x))
+unfolding numbersOf tableOf
+ascent-fits x a b c d e f zero h = a
+ascent-fits x a b c d e f (suc zero) h = b
+ascent-fits x a b c d e f (suc (suc zero)) h = absurd (omega arith)
+ascent-fits x a b c d e f (suc (suc (suc zero))) h = c
+ascent-fits x a b c d e f (suc (suc (suc (suc zero)))) h = d
+ascent-fits x a b c d e f (suc (suc (suc (suc (suc zero))))) h = absurd (omega arith)
+ascent-fits x a b c d e f (suc (suc (suc (suc (suc (suc zero)))))) h = e
+ascent-fits x a b c d e f (suc (suc (suc (suc (suc (suc (suc zero))))))) h = f
+ascent-fits x a b c d e f (suc (suc (suc (suc (suc (suc (suc (suc i)))))))) h = omega arith
+
+-- ---- By the section's number
+
+-- what is so of each section of numbers, and of none at all, is so of every section from 4 on
+pub from-four : (P : ℕ → Type 0) → P 4 → P 5 → P 6 → P 8 → P 9
+    → ((k : ℕ) → eqb k 2 ≡ false → eqb k 3 ≡ false → eqb k 4 ≡ false → eqb k 5 ≡ false → eqb k 6 ≡ false → eqb k 8 ≡ false → eqb k 9 ≡ false → P k)
+    → (k : ℕ) → 4 ≤ k → P k
+from-four P a b c d e other zero h = absurd (omega arith)
+from-four P a b c d e other (suc zero) h = absurd (omega arith)
+from-four P a b c d e other (suc (suc zero)) h = absurd (omega arith)
+from-four P a b c d e other (suc (suc (suc zero))) h = absurd (omega arith)
+from-four P a b c d e other (suc (suc (suc (suc zero)))) h = a
+from-four P a b c d e other (suc (suc (suc (suc (suc zero))))) h = b
+from-four P a b c d e other (suc (suc (suc (suc (suc (suc zero)))))) h = c
+from-four P a b c d e other (suc (suc (suc (suc (suc (suc (suc zero))))))) h = other 7 refl refl refl refl refl refl refl
+from-four P a b c d e other (suc (suc (suc (suc (suc (suc (suc (suc zero)))))))) h = d
+from-four P a b c d e other (suc (suc (suc (suc (suc (suc (suc (suc (suc zero))))))))) h = e
+from-four P a b c d e other (suc (suc (suc (suc (suc (suc (suc (suc (suc (suc k)))))))))) h =
+    let n = suc (suc (suc (suc (suc (suc (suc (suc (suc (suc k))))))))) in
+    other n (ne-eqb n 2 (λ x. omega arith)) (ne-eqb n 3 (λ x. omega arith)) (ne-eqb n 4 (λ x. omega arith)) (ne-eqb n 5 (λ x. omega arith))
+    (ne-eqb n 6 (λ x. omega arith)) (ne-eqb n 8 (λ x. omega arith)) (ne-eqb n 9 (λ x. omega arith))
+
+-- the record holds there what its sections of numbers hold
+pub contents-fixed : (x : Settings) (k : ℕ) → 4 ≤ k → contentsOf x k ≡ fixedHold (fixedOf x) k
+unfolding contentsOf
+contents-fixed x k h = rw (ne-eqb k 2 (λ e. omega arith), ne-eqb k 3 (λ e. omega arith))
+
+-- such a section has no lists
+pub only-digits : (k : ℕ) → 4 ≤ k → layoutOf k ≡ digitsOf (tableOf k)
+unfolding layoutOf tableOf
+only-digits = from-four (λ k. layoutOf k ≡ digitsOf (tableOf k)) refl refl refl refl refl (λ k a b c d e f g. rw (a, b, c, d, e, f, g))
+
+module _ (x : Fixed) where
+  -- it is passed by its numbers
+  pub pass-eight : (at k : ℕ) → 4 ≤ k → passContents (digitsOf (tableOf k)) at (map Amount (numbersOf (fixedHold x k))) ≡ passContents (layoutOf k) at (fixedHold x k)
+  unfolding layoutOf tableOf fixedHold numbersOf contentsAllowed contentsText
+  pass-eight at =
+      from-four (λ k. passContents (digitsOf (tableOf k)) at (map Amount (numbersOf (fixedHold x k))) ≡ passContents (layoutOf k) at (fixedHold x k)) refl refl refl refl refl
+      (λ k a b c d e f g. rw (a, b, c, d, e, f, g))
+
+  -- and written by them
+  pub text-eight : (k : ℕ) → 4 ≤ k → contentsText (digitsOf (tableOf k)) (map Amount (numbersOf (fixedHold x k))) ≡ contentsText (layoutOf k) (fixedHold x k)
+  unfolding layoutOf tableOf fixedHold numbersOf contentsText
+  text-eight =
+      from-four (λ k. contentsText (digitsOf (tableOf k)) (map Amount (numbersOf (fixedHold x k))) ≡ contentsText (layoutOf k) (fixedHold x k)) refl refl refl refl refl
+      (λ k a b c d e f g. rw (a, b, c, d, e, f, g))
+
+  -- it is zero where they are
+  pub zero-eight : (k : ℕ) → 4 ≤ k → allZero (numbersOf (fixedHold x k)) ≡ areZero (fixedHold x k)
+  unfolding fixedHold numbersOf allZero areZero
+  zero-eight =
+      from-four (λ k. allZero (numbersOf (fixedHold x k)) ≡ areZero (fixedHold x k)) refl refl refl refl refl
+      (λ k a b c d e f g. rw (c, d, e, f, g))

@@ -1,0 +1,3 @@
+pub mod Settings
+pub mod Valid
+pub mod Inner
