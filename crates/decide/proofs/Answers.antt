@@ -1,5 +1,5 @@
 -- What is decided follows "Whether to report" sentence by sentence.
-use mathlib.Core.Path.{_≡_, refl, _∙_}
+use mathlib.Core.Path.{_≡_, refl, ap, _∙_}
 use mathlib.Core.Logic.{_⊎_, inl, inr}
 use mathlib.Core.Bool.{Bool, true, false, cond, _&&_, _||_}
 use mathlib.Core.List.{List}
@@ -19,6 +19,7 @@ use Rattle.decide.specs.Rules.{Window, Inhibiting, Reporting, Heard, Adm
 use Rattle.decide.specs.declared.Decision.{Decision}
 use Rattle.decide.specs.declared.Decision.the-variants.{Silent, Routine, Scheme}
 use Rattle.decide.specs.declared.Reason.{Reason}
+use Rattle.decide.specs.declared.Reason.the-variants.{FlagOn}
 use Rattle.decide.proofs.First.{some-said, none-said}
 use Rattle.decide.proofs.Order.{silent-first}
 use Rattle.decide.proofs.Position.{in-span}
@@ -42,22 +43,38 @@ module _ (section : ℕ) (r : Reason) (quiet : isSilent (decisionOf r) ≡ true)
 
 -- ---- Ascent and descent, by what the phase has of its own
 
--- the flag is not the enroute flag
-module _ (x : Settings) (number section : ℕ) (other : eqb number 6 ≡ false) (own : Own) (airfield : List ℕ) where
+-- what is turned away is not admitted
+pub not-admitted : (own : Own) (airfield : List ℕ) → TurnedAway own airfield → ¬ Admitted own airfield
+not-admitted own airfield (switchedOff e) a = omega (arith, a .flag)
+not-admitted own airfield (inhibited h) a = a .inhibited h
+not-admitted own airfield (notSelected n h) a = neither (a .selected)
+  where
+    neither : (own .selected .count ≡ 0) ⊎ Has (own .selected) airfield → ⊥
+    neither (inl e) = omega arith
+    neither (inr g) = h g
+
+module _ (x : Settings) (own : Own) (airfield : List ℕ) where
   -- the scheme, or what stands against it
-  abbrev scheme : Reason
-  scheme = schemeReason (flagOf x Airports) number (own .flag) (own .selected) (own .inhibited) airfield
+  abbrev pub scheme : Reason
+  scheme = schemeReason (flagOf x Airports) (own .flagNumber) (own .flag) (own .selected) (own .inhibited) airfield
 
-  -- what is decided for the phase
-  abbrev decision : Decision
-  decision = decisionOf (routineBy (flagOf x Airports) section (own .section) (x .airports .routine) scheme)
+  -- the reason that is given for the phase
+  abbrev pub given : Reason
+  given = routineBy (flagOf x Airports) (own .sectionNumber) (own .section) (x .airports .routine) scheme
 
-  -- the test of the selected list says what the words say
-  selected-said : Says (eqb (own .selected .count) 0 || has (own .selected) airfield) ((own .selected .count ≡ 0) ⊎ Has (own .selected) airfield)
-  selected-said = either-said (eq-said (own .selected .count) 0) (has-said airfield (own .selected))
+  -- a scheme that is flown with the lists
+  pub admitted-scheme : flagOf x Airports ≡ 1 → Admitted own airfield → scheme ≡ FlagOn (own .flagNumber)
+  unfolding schemeReason
+  admitted-scheme z a =
+      rw (
+        z,
+        a .flag,
+        says-no (has-said airfield (own .inhibited)) (a .inhibited),
+        either-said (eq-said (own .selected .count) 0) (has-said airfield (own .selected)) .so-yes (a .selected),
+      )
 
   -- what is turned away flies no scheme
-  turned-away : flagOf x Airports ≡ 1 → TurnedAway own airfield → isSilent (decisionOf scheme) ≡ true
+  pub turned-away : flagOf x Airports ≡ 1 → TurnedAway own airfield → isSilent (decisionOf scheme) ≡ true
   unfolding schemeReason
   turned-away z (switchedOff e) = rw e
   turned-away z (inhibited h) =
@@ -70,18 +87,18 @@ module _ (x : Settings) (number section : ℕ) (other : eqb number 6 ≡ false) 
       (λ t. rw t)
 
   -- with airports 1 section 3's digit decides
-  listed : flagOf x Airports ≡ 1 → decision ≡ decisionOf (orRoutine 3 (x .airports .routine) scheme)
+  listed : flagOf x Airports ≡ 1 → decisionOf given ≡ decisionOf (orRoutine 3 (x .airports .routine) scheme)
   listed z = rw (ne-eqb (flagOf x Airports) 0 (λ (e : flagOf x Airports ≡ 0). omega (arith, z)))
 
-  -- the phase is decided as its sentences say
-  profile-follows : Profile x own airfield decision
+  -- the phase, whose flag is not the enroute flag, is decided as its sentences say
+  profile-follows : eqb (own .flagNumber) 6 ≡ false → Profile x own airfield (decisionOf given)
   unfolding schemeReason
-  profile-follows =
+  profile-follows other =
       record {
         scheme = λ z f. rw (z, f, other, other);
         routine = λ z f e. rw (z, f, e);
         silent = λ z f e. rw (z, f, e);
-        listed-scheme = λ z a. rw (z, a .flag, says-no (has-said airfield (own .inhibited)) (a .inhibited), selected-said .so-yes (a .selected), other, other);
+        listed-scheme = λ z a. listed z ∙ rw (admitted-scheme z a, other, other);
         listed-routine = λ z t e. listed z ∙ rw e (digit-on 3 scheme (turned-away z t));
         listed-silent = λ z t e. listed z ∙ rw e (digit-off 3 scheme (turned-away z t));
       }
@@ -89,7 +106,7 @@ module _ (x : Settings) (number section : ℕ) (other : eqb number 6 ≡ false) 
 -- ---- The rules in order
 
 module _ (x : Settings) (q : Question) (ok : Sound x) (r : InRange q) where
-  small : (mag (q .north) < 60000) × (mag (q .east) < 60000)
+  pub small : (mag (q .north) < 60000) × (mag (q .east) < 60000)
   small = in-span q (range-said q .so-yes r)
 
   -- the hour against the window, the position against the boxes
@@ -103,20 +120,20 @@ module _ (x : Settings) (q : Question) (ok : Sound x) (r : InRange q) where
   reporting-holds = some-said (q .north) (q .east) (small .0) (small .1) (x .regions .reporting) (ok .regions .reporting .boxes)
 
   -- the tests of section 2 as the rules have them
-  abbrev inside : ℕ
+  abbrev pub inside : ℕ
   inside = inhibitingBox (flagOf x Regions) (x .regions .inhibiting) (minutes (q .north)) (minutes (q .east))
 
-  abbrev outside : Bool
+  abbrev pub outside : Bool
   outside = noReportingBox (flagOf x Regions) (x .regions .reporting) (minutes (q .north)) (minutes (q .east))
 
-  inside-said : Says (ltb 0 inside) ((flagOf x Regions ≡ 1) × Inhibiting x q)
+  pub inside-said : Says (ltb 0 inside) ((flagOf x Regions ≡ 1) × Inhibiting x q)
   unfolding inhibitingBox
   inside-said =
       by-test (eqb (flagOf x Regions) 1)
       (λ t. rw t (reworded inhibiting-holds (λ i. (eqb-true (flagOf x Regions) 1 t, i)) (λ p. p .1)))
       (λ t. rw t (never-said (λ p. eqb-false (flagOf x Regions) 1 t (p .0))))
 
-  outside-said : Says outside ((flagOf x Regions ≡ 1) × ((0 < x .regions .reporting .count) × ¬ Reporting x q))
+  pub outside-said : Says outside ((flagOf x Regions ≡ 1) × ((0 < x .regions .reporting .count) × ¬ Reporting x q))
   unfolding noReportingBox
   outside-said =
       both-said (eq-said (flagOf x Regions) 1)
@@ -160,15 +177,26 @@ module _ (x : Settings) (q : Question) (ok : Sound x) (r : InRange q) where
   in-order : decisionOf (reasonFor x q) ≡ cond silenced Silent (decisionOf (phaseReason x (q .phase) (q .airfield)))
   unfolding reasonFor
   in-order =
-      silent-first (eqb (flagOf x Amdar) 0) (eqb (flagOf x InhibitHours) 1 && inWindow (x .hours .start) (x .hours .end) (q .hour))
-      (ltb 0 inside) outside inside (phaseReason x (q .phase) (q .airfield))
+      silent-first _ _ _ _ (phaseReason x (q .phase) (q .airfield)) refl refl refl refl (eqb (flagOf x Amdar) 0)
+      (eqb (flagOf x InhibitHours) 1 && inWindow (x .hours .start) (x .hours .end) (q .hour)) (ltb 0 inside) outside
 
   quiet-silent : Quiet → decisionOf (reasonFor x q) ≡ Silent
   quiet-silent e = in-order ∙ rw (quiet-said .so-yes e)
 
   -- where nothing silences the aircraft, its phase decides
+  pub heard-past : Heard x q → reasonFor x q ≡ phaseReason x (q .phase) (q .airfield)
+  unfolding reasonFor
+  heard-past h =
+      let loud = heard-loud h in
+      rw (
+        says-no (eq-said (flagOf x Amdar) 0) (λ e. loud (inl e)),
+        says-no (both-said (eq-said (flagOf x InhibitHours) 1) window-holds) (λ p. loud (inr (inl p))),
+        says-no inside-said (λ p. loud (inr (inr (inl p)))),
+        says-no outside-said (λ p. loud (inr (inr (inr p)))),
+      )
+
   heard : {d : Decision} → Heard x q → decisionOf (phaseReason x (q .phase) (q .airfield)) ≡ d → decisionOf (reasonFor x q) ≡ d
-  heard h e = in-order ∙ rw (says-no quiet-said (heard-loud h)) e
+  heard h e = ap decisionOf (heard-past h) ∙ e
 
   -- a question in range is decided as the sentences say
   rules-follow : Rules x q (decisionOf (reasonFor x q))
@@ -180,14 +208,14 @@ module _ (x : Settings) (q : Question) (ok : Sound x) (r : InRange q) where
         in-inhibiting = λ o i. quiet-silent (inr (inr (inl (o, i))));
         in-no-reporting = λ o s n. quiet-silent (inr (inr (inr (o, (s, n)))));
         level = λ h p. record { on = λ e. heard h (rw (p, e)); off = λ e. heard h (rw (p, e)) };
-        ascent = λ h p. by-own h 5 6 refl (ofAscent x) (rw p);
-        descent = λ h p. by-own h 7 8 refl (ofDescent x) (rw p);
+        ascent = λ h p. by-own h (ofAscent x) refl (rw p);
+        descent = λ h p. by-own h (ofDescent x) refl (rw p);
       }
     where
-      by-own : Heard x q → (number section : ℕ) (other : eqb number 6 ≡ false) (own : Own)
-          → decisionOf (phaseReason x (q .phase) (q .airfield)) ≡ decision x number section other own (q .airfield)
+      by-own : Heard x q → (own : Own) → eqb (own .flagNumber) 6 ≡ false
+          → decisionOf (phaseReason x (q .phase) (q .airfield)) ≡ decisionOf (given x own (q .airfield))
           → Profile x own (q .airfield) (decisionOf (reasonFor x q))
-      by-own h number section other own e = rw (heard h e) (profile-follows x number section other own (q .airfield))
+      by-own h own other e = rw (heard h e) (profile-follows x own (q .airfield) other)
 
 -- ---- The theorem
 

@@ -23,14 +23,14 @@ pub record Forced {A : Type 0} (R : A → Type 0) : Type 0 where
   pub value : A
   pub only : (a : A) → R a → a ≡ value
 
-bit {ℓ} : (n : ℕ) {P : Type ℓ} → n ≤ 1 → (n ≡ 0 → P) → (n ≡ 1 → P) → P
+pub bit {ℓ} : (n : ℕ) {P : Type ℓ} → n ≤ 1 → (n ≡ 0 → P) → (n ≡ 1 → P) → P
 bit n l f g = by-eq n 0 f (λ (m : n ≡ 0 → ⊥). g (omega arith))
 
 -- ---- Ascent and descent
 
 module _ (x : Settings) (own : Own) (airfield : List ℕ) (flag : own .flag ≤ 1) where
   -- what is not admitted is turned away
-  admitted-or-not : Admitted own airfield ⊎ TurnedAway own airfield
+  pub admitted-or-not : Admitted own airfield ⊎ TurnedAway own airfield
   admitted-or-not =
       bit (own .flag) flag (λ f. inr (switchedOff f))
       (λ f.

@@ -40,7 +40,7 @@ pub record NotFound (n e : ℤ) (m k : ℕ) (bs : List Region) : Type 0 where
 
 module _ (n e : ℤ) (small : mag n < 60000) (little : mag e < 60000) where
   -- one of the two is so
-  first-said : (m k : ℕ) (bs : List Region) → ((i : ℕ) → i < k → i < length bs → AllowedBox (getD bs i noRegion))
+  pub first-said : (m k : ℕ) (bs : List Region) → ((i : ℕ) → i < k → i < length bs → AllowedBox (getD bs i noRegion))
       → Found n e m k bs ⊎ NotFound n e m k bs
   unfolding firstFrom
   first-said m zero bs ok = inr (record { none = λ j l t h. omega arith; number = refl })

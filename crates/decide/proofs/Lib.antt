@@ -9,4 +9,5 @@ pub mod Order
 pub mod Position
 pub mod Sound
 pub mod Tests
+pub mod Why
 pub mod Words

@@ -4,7 +4,7 @@ use mathlib.Core.Path.{_≡_}
 use mathlib.Core.Logic.{_⊎_}
 use mathlib.Core.Bool.{cond, _||_}
 use mathlib.Core.List.{List}
-use Prim.Native.Nat.{ℕ, _+_, _*_, _%_, _≤_, _<_}
+use Prim.Native.Nat.{ℕ, suc, _+_, _-_, _*_, _%_, _≤_, _<_}
 use lib.Dec.{eqb}
 use lib.IntN.{ℤ, pos, negℤ}
 use lib.Signed.{_≤ℤ_}
@@ -40,6 +40,10 @@ placeOf Descent = 6
 
 abbrev pub flagOf : Settings → Flag → ℕ
 flagOf x f = getD (x .flags) (placeOf f) 0
+
+-- the flags numbered from 1
+abbrev pub numberOf : Flag → ℕ
+numberOf f = suc (placeOf f)
 
 -- ---- "Phase, hour (0-23) or position (a first observation's limits)"
 
@@ -88,6 +92,17 @@ pub record SomeHolds (l : Boxes) (latitude longitude : ℤ) : Type 0 where
   pub there : which < length (l .regions)
   pub holds : Holds (getD (l .regions) which noRegion) latitude longitude
 
+-- "an inhibiting box with its lowest number (from 1)": box n holds the position, and none of a lower number does
+abbrev pub boxOf : Boxes → ℕ → Region
+boxOf l n = getD (l .regions) (n - 1) noRegion
+
+pub record FirstHolding (l : Boxes) (latitude longitude : ℤ) (n : ℕ) : Type 0 where
+  pub from-one : 1 ≤ n
+  pub counted : n ≤ l .count
+  pub there : n ≤ length (l .regions)
+  pub holds : Holds (boxOf l n) latitude longitude
+  pub lowest : (k : ℕ) → 1 ≤ k → k < n → ¬ Holds (boxOf l k) latitude longitude
+
 -- ---- "The airfield isn't inhibited, and the selected list is empty or has it"
 
 -- one airfield of a list; each is four bytes behind the one before it
@@ -98,12 +113,14 @@ pub record Has (l : Airfields) (airfield : List ℕ) : Type 0 where
 
 -- ---- "Descent alike with its own lists and section 8"
 
--- what ascent and descent have each of their own
+-- what ascent and descent have each of their own: the flag, the lists, and what the section says; and the numbers of the two
 pub record Own : Type 0 where
   pub flag : ℕ
   pub selected : Airfields
   pub inhibited : Airfields
   pub section : ℕ
+  pub flagNumber : ℕ
+  pub sectionNumber : ℕ
 
 abbrev pub ofAscent : Settings → Own
 ofAscent x =
@@ -112,6 +129,8 @@ ofAscent x =
       selected = x .airports .selected .ascent;
       inhibited = x .airports .inhibited .ascent;
       section = x .routine6;
+      flagNumber = numberOf Ascent;
+      sectionNumber = 6;
     }
 
 abbrev pub ofDescent : Settings → Own
@@ -121,4 +140,10 @@ ofDescent x =
       selected = x .airports .selected .descent;
       inhibited = x .airports .inhibited .descent;
       section = x .routine8;
+      flagNumber = numberOf Descent;
+      sectionNumber = 8;
     }
+
+-- that of the phase that is asked about, which is not level flight
+unfoldable pub ownOf : Settings → Question → Own
+ownOf x q = cond (eqb (q .phase) 0) (ofAscent x) (ofDescent x)

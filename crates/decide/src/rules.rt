@@ -43,7 +43,7 @@ fn by_flag(flag: u8) -> Decision
     }
 }
 
-fn decision_of(reason: Reason) -> Decision
+pub fn decision_of(reason: Reason) -> Decision
     ensures { λ r. ⌜ r ≡ decisionOf reason ⌝ }
 {
     match reason {

@@ -1,4 +1,5 @@
 -- The laws of the desk.
+mod Asking
 mod Shared
 mod Waited
 pub mod Given

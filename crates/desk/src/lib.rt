@@ -54,6 +54,17 @@ pub struct HostApplied {
     pub rest: u32,
 }
 
+// The answer of why: the decision, and the reason with its number, both 0 in a refusal.
+#[repr(C)]
+pub struct HostExplained {
+    pub place: usize,
+    pub code: u8,
+    pub decision: u8,
+    pub reason: u8,
+    pub number: u8,
+    pub spare: u32,
+}
+
 // The answer of whether to report: 0 silent, 1 routine, 2 scheme.
 #[repr(C)]
 pub struct HostDecided {

@@ -6,6 +6,7 @@ mod Codes
 pub mod Command
 pub mod Configuration
 pub mod Decision
+pub mod Explain
 mod InRun
 pub mod Join
 pub mod Packed

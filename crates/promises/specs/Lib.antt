@@ -3,6 +3,7 @@ pub mod BoardRuns
 pub mod Command
 pub mod Configuration
 pub mod Decision
+pub mod Explain
 pub mod Join
 pub mod Packed
 pub mod Report
