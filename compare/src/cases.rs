@@ -5,6 +5,7 @@ pub mod board;
 pub mod command;
 pub mod config;
 pub mod decide;
+pub mod explain;
 pub mod join;
 pub mod report;
 

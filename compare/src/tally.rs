@@ -16,10 +16,25 @@ pub enum Outcome {
 
 const LABELS: [&str; 5] = ["accepted", "missing", "silent", "routine", "scheme"];
 
+/// The reasons of esk_explain, each with the numbers that it goes with: boxes, flags, sections, or none.
+const REASONS: [(usize, &[usize]); 9] = [
+    (1, &[0]),
+    (2, &[0]),
+    (3, &[1, 2, 3, 4, 5, 6, 7, 8, 9, 10, 11, 12, 13, 14, 15, 16]),
+    (4, &[0]),
+    (5, &[5, 6, 7]),
+    (6, &[3, 6, 8]),
+    (7, &[5, 6, 7]),
+    (8, &[0]),
+    (9, &[0]),
+];
+
 #[derive(Default)]
 pub struct Tally {
     /// Those of the labels, then codes 1 to 12.
     counts: [u64; 17],
+    /// Those of each reason with each number.
+    reasons: [[u64; 17]; 10],
 }
 
 impl Tally {
@@ -43,6 +58,31 @@ impl Tally {
         });
     }
 
+    /// Counts a reason beside its outcome.
+    pub fn reason(&mut self, reason: u8, number: u8) {
+        self.reasons[usize::from(reason)][usize::from(number)] += 1;
+    }
+
+    /// Every reason with every number that was not met, and every refusal of an explanation that was not.
+    pub fn unmet(&self) -> Vec<String> {
+        let numbers = REASONS.iter().flat_map(|(reason, numbers)| numbers.iter().map(|number| (*reason, *number)));
+        let reasons = numbers.filter(|(reason, number)| self.reasons[*reason][*number] == 0);
+        let codes = [4, 5, 12].into_iter().filter(|code| self.counts[4 + code] == 0);
+        let words = reasons.map(|(reason, number)| format!("reason {reason} number {number}"));
+        words.chain(codes.map(|code| format!("code {code}"))).collect()
+    }
+
+    /// A reason that was met: how often, and with how many of its numbers where it has several.
+    fn told(&self, reason: usize, numbers: &[usize]) -> Option<String> {
+        let counts = numbers.iter().map(|number| self.reasons[reason][*number]).filter(|count| *count > 0);
+        let (met, count) = counts.fold((0, 0), |(met, sum), count| (met + 1, sum + count));
+        match (met, numbers.len()) {
+            (0, _) => None,
+            (_, 1) => Some(format!("{reason}: {count}")),
+            (_, all) => Some(format!("{reason}: {count} with {met} of {all} numbers")),
+        }
+    }
+
     pub fn total(&self) -> u64 {
         self.counts.iter().sum()
     }
@@ -53,6 +93,11 @@ impl fmt::Display for Tally {
         let label = |at: usize| LABELS.get(at).map_or_else(|| format!("code {}", at - 4), |label| label.to_string());
         let counts = self.counts.iter().enumerate().filter(|(_, count)| **count > 0);
         let parts: Vec<String> = counts.map(|(at, count)| format!("{count} {}", label(at))).collect();
-        write!(to, "{} alike ({})", self.total(), parts.join(", "))
+        write!(to, "{} alike ({})", self.total(), parts.join(", "))?;
+        let parts: Vec<String> = REASONS.iter().filter_map(|(reason, numbers)| self.told(*reason, numbers)).collect();
+        if parts.is_empty() {
+            return Ok(());
+        }
+        write!(to, "; reasons {}", parts.join(", "))
     }
 }

@@ -1,8 +1,8 @@
-//! The calls of what goes up: commands, the configuration, the decision, the join and the board.
+//! The calls of what goes up: commands, the configuration, the decision and its reason, the join and the board.
 
 use super::{lent, lent_mut};
 use desk_compare::meet::{self, uplink as meet_up};
-use desk_compare::ours::uplink::{Applied, Command, CommandGot, Decided, Settings, Slot};
+use desk_compare::ours::uplink::{Applied, Command, CommandGot, Decided, Explained, Settings, Slot};
 use desk_compare::ours::Answer;
 use desk_compare::second::decide::Question;
 use desk_compare::second::{board, command, config, decide, join, spell};
@@ -62,6 +62,22 @@ pub unsafe extern "C" fn second_decide(
 ) -> Decided {
     let question = Question { phase, latitude, longitude, hour, airfield: lent(airfield, length) };
     meet_up::decided(decide::decide(&meet_up::meant_settings(&settings), &question))
+}
+
+/// # Safety
+/// As above.
+#[no_mangle]
+pub unsafe extern "C" fn second_explain(
+    settings: Settings,
+    phase: u8,
+    latitude: i32,
+    longitude: i32,
+    hour: u8,
+    airfield: *const u8,
+    length: usize,
+) -> Explained {
+    let question = Question { phase, latitude, longitude, hour, airfield: lent(airfield, length) };
+    meet_up::explained(decide::explain(&meet_up::meant_settings(&settings), &question))
 }
 
 /// # Safety

@@ -6,6 +6,7 @@ use crate::meet::uplink as meet;
 use crate::ours::bytes_of;
 use crate::ours::uplink::Settings;
 use crate::second::decide::{self, decide, Decision};
+use crate::second::Refusal;
 use crate::tally::{Outcome, Tally};
 use crate::tell::{self, hex, BREAK};
 
@@ -30,9 +31,19 @@ impl Question {
         &self.airfield[..usize::from(self.length)]
     }
 
-    fn meant(&self) -> decide::Question<'_> {
+    pub fn meant(&self) -> decide::Question<'_> {
         let Question { phase, hour, latitude, longitude, .. } = *self;
         decide::Question { phase, latitude, longitude, hour, airfield: self.airfield() }
+    }
+}
+
+/// How a question came out.
+pub fn outcome(answer: Result<Decision, Refusal>) -> Outcome {
+    match answer {
+        Ok(Decision::Silent) => Outcome::Silent,
+        Ok(Decision::Routine) => Outcome::Routine,
+        Ok(Decision::Scheme) => Outcome::Scheme,
+        Err(refusal) => Outcome::Refused(refusal.code),
     }
 }
 
@@ -59,12 +70,7 @@ impl super::Case for Case {
             if got != want {
                 return self.alone(question).answered("esk_decide", got, want);
             }
-            tally.count(match second {
-                Ok(Decision::Silent) => Outcome::Silent,
-                Ok(Decision::Routine) => Outcome::Routine,
-                Ok(Decision::Scheme) => Outcome::Scheme,
-                Err(refusal) => Outcome::Refused(refusal.code),
-            });
+            tally.count(outcome(second));
         }
         Ok(())
     }
@@ -87,7 +93,8 @@ impl super::Case for Case {
 }
 
 impl Case {
-    fn alone(&self, question: &Question) -> Case {
+    /// The case of one of the questions.
+    pub fn alone(&self, question: &Question) -> Case {
         Case { settings: self.settings.clone(), questions: vec![*question] }
     }
 }

@@ -1,10 +1,10 @@
-//! Where the two programs meet in what goes up: commands, configurations, decisions, joins and boards.
+//! Where the two programs meet in what goes up: commands, configurations, decisions, reasons, joins and boards.
 
 use super::answer;
 use crate::ours::uplink as ours;
 use crate::ours::Answer;
 use crate::second::board::Slot;
-use crate::second::decide::Decision;
+use crate::second::decide::{Cause, Decision, Why};
 use crate::second::join::Fault;
 use crate::second::settings::*;
 use crate::second::Refusal;
@@ -34,6 +34,24 @@ pub fn decided(decided: Result<Decision, Refusal>) -> ours::Decided {
         Ok(Decision::Scheme) => decision(2),
         Err(Refusal { code, place }) => ours::Decided { code, place: place as usize, ..Default::default() },
     }
+}
+
+/// What esk_explain ought to answer; the flags of the phases are the fifth to the seventh.
+pub fn explained(explained: Result<Why, Refusal>) -> ours::Explained {
+    let ours::Decided { place, code, decision, .. } = decided(explained.map(|why| why.decision));
+    let (reason, number) = match explained.map(|why| why.cause) {
+        Ok(Cause::Off) => (1, 0),
+        Ok(Cause::Hours) => (2, 0),
+        Ok(Cause::Inside(number)) => (3, number),
+        Ok(Cause::Outside) => (4, 0),
+        Ok(Cause::Allowed(phase)) => (5, 5 + phase),
+        Ok(Cause::Digit(section)) => (6, section),
+        Ok(Cause::Forbidden(phase)) => (7, 5 + phase),
+        Ok(Cause::Inhibited) => (8, 0),
+        Ok(Cause::Unselected) => (9, 0),
+        Err(_) => (0, 0),
+    };
+    ours::Explained { place, code, decision, reason, number, spare: 0 }
 }
 
 /// What esk_join ought to answer.

@@ -1,4 +1,4 @@
-//! The header's structs for commands, the configuration, the decision and the board.
+//! The header's structs for commands, the configuration, the decision, its reason and the board.
 
 use super::{Answer, Plain};
 use std::mem::{offset_of, size_of};
@@ -132,6 +132,17 @@ pub struct Decided {
 
 #[repr(C)]
 #[derive(Clone, Copy, Debug, Default, PartialEq, Eq)]
+pub struct Explained {
+    pub place: usize,
+    pub code: u8,
+    pub decision: u8,
+    pub reason: u8,
+    pub number: u8,
+    pub spare: u32,
+}
+
+#[repr(C)]
+#[derive(Clone, Copy, Debug, Default, PartialEq, Eq)]
 pub struct Slot {
     pub designator: [u8; 6],
     pub length: u16,
@@ -151,6 +162,8 @@ const _: () = {
     assert!(size_of::<CommandGot>() == 632 && offset_of!(CommandGot, command) == 16);
     assert!(size_of::<Applied>() == 16 && offset_of!(Applied, downlink) == 9);
     assert!(size_of::<Decided>() == 16 && offset_of!(Decided, code) == 8 && offset_of!(Decided, decision) == 9);
+    assert!(size_of::<Explained>() == 16 && offset_of!(Explained, code) == 8 && offset_of!(Explained, decision) == 9);
+    assert!(offset_of!(Explained, reason) == 10 && offset_of!(Explained, number) == 11);
     assert!(size_of::<Slot>() == 8 && offset_of!(Slot, length) == 6);
 };
 
@@ -159,4 +172,5 @@ unsafe impl Plain for Command {}
 unsafe impl Plain for CommandGot {}
 unsafe impl Plain for Applied {}
 unsafe impl Plain for Decided {}
+unsafe impl Plain for Explained {}
 unsafe impl Plain for Slot {}

@@ -1,4 +1,4 @@
-//! Whether to report: document 01's rules in their order.
+//! Whether to report, and why: document 01's rules in their order, and the reasons that document 02, §1, names.
 
 use super::record::named;
 use super::settings::*;
@@ -22,10 +22,48 @@ pub enum Decision {
     Scheme,
 }
 
+/// Why: "the first reason that holds".
+#[derive(Clone, Copy, Debug, PartialEq, Eq)]
+pub enum Cause {
+    /// "AMDAR off."
+    Off,
+    /// "Hours."
+    Hours,
+    /// "An inhibiting box with its lowest number (from 1)."
+    Inside(u8),
+    /// "No reporting box holds the place."
+    Outside,
+    /// "A scheme or any level answer names the phase flag": the flag of a phase, where it lets the aircraft report.
+    Allowed(u8),
+    /// "A routine in ascent or descent its digit": the digit of a section.
+    Digit(u8),
+    /// "Phase flag 0": of a phase.
+    Forbidden(u8),
+    /// "Airfield inhibited."
+    Inhibited,
+    /// "Airfield not selected."
+    Unselected,
+}
+
+/// A decision and what it came of.
+#[derive(Clone, Copy, Debug, PartialEq, Eq)]
+pub struct Why {
+    pub decision: Decision,
+    pub cause: Cause,
+}
+
+use Cause::{Allowed, Digit, Forbidden, Hours, Inhibited, Inside, Off, Outside, Unselected};
 use Decision::{Routine, Scheme, Silent};
 
-/// "Refusals: 12, then 5 for phase, hour or position, then 4 for an airfield that isn't four allowed bytes."
+/// Whether to report.
+#[inline(always)]
 pub fn decide(configuration: &Configuration, question: &Question) -> Result<Decision, Refusal> {
+    explain(configuration, question).map(|why| why.decision)
+}
+
+/// "Refusals: 12, then 5 for phase, hour or position, then 4 for an airfield that isn't four allowed bytes."
+#[inline(always)]
+pub fn explain(configuration: &Configuration, question: &Question) -> Result<Why, Refusal> {
     config::valid(configuration)?;
     let Question { phase, latitude, longitude, hour, airfield } = *question;
     let placed = record::LATITUDE.holds(Some(latitude)) && record::LONGITUDE.holds(Some(longitude));
@@ -39,34 +77,38 @@ pub fn decide(configuration: &Configuration, question: &Question) -> Result<Deci
 }
 
 #[inline(always)]
-fn rules(configuration: &Configuration, question: &Question, airfield: &[u8; 4]) -> Decision {
+fn rules(configuration: &Configuration, question: &Question, airfield: &[u8; 4]) -> Why {
     let [amdar, inhibit, regions, airports, ascent, enroute, descent] = configuration.flags;
-    let sections = &configuration.sections;
-    if amdar == 0 || inhibit == 1 && window(sections.hours, question.hour) {
-        return Silent;
+    let (sections, phase) = (&configuration.sections, question.phase);
+    let why = |decision, cause| Why { decision, cause };
+    if amdar == 0 {
+        return why(Silent, Off);
     }
-    if regions == 1 && outside(&sections.boxes, question) {
-        return Silent;
+    if inhibit == 1 && window(sections.hours, question.hour) {
+        return why(Silent, Hours);
     }
-    let (flag, lists, routine) = match question.phase {
-        0 => (ascent, [&sections.airfields[0], &sections.airfields[2]], sections.routine6),
-        1 => return routine_if(enroute == 1),
-        _ => (descent, [&sections.airfields[1], &sections.airfields[3]], sections.routine8),
+    if regions == 1 {
+        if let Some(cause) = kept_out(&sections.boxes, question) {
+            return why(Silent, cause);
+        }
+    }
+    let (flag, lists, digit) = match phase {
+        0 => (ascent, [&sections.airfields[0], &sections.airfields[2]], (6, sections.routine6)),
+        1 if enroute == 1 => return why(Routine, Allowed(phase)),
+        1 => return why(Silent, Forbidden(phase)),
+        _ => (descent, [&sections.airfields[1], &sections.airfields[3]], (8, sections.routine8)),
     };
-    if airports == 0 {
-        return if flag == 1 { Scheme } else { routine_if(routine == [1]) };
-    }
-    if flag == 1 && admitted(lists, airfield) {
-        return Scheme;
-    }
-    routine_if(sections.airports == [1])
-}
-
-fn routine_if(routine: bool) -> Decision {
-    if routine {
-        Routine
-    } else {
-        Silent
+    let hindrance = match (flag, airports) {
+        (0, _) => Some(Forbidden(phase)),
+        (_, 0) => None,
+        _ => turned_away(lists, airfield),
+    };
+    let Some(hindrance) = hindrance else {
+        return why(Scheme, Allowed(phase));
+    };
+    match if airports == 0 { digit } else { (3, sections.airports) } {
+        (section, [1]) => why(Routine, Digit(section)),
+        _ => why(Silent, hindrance),
     }
 }
 
@@ -80,9 +122,13 @@ fn window([start, end]: [u16; 2], hour: u8) -> bool {
 
 /// "Silent inside any inhibiting box, or when reporting boxes exist and none holds the position."
 #[inline(always)]
-fn outside([reporting, inhibiting]: &[Boxes; 2], question: &Question) -> bool {
+fn kept_out([reporting, inhibiting]: &[Boxes; 2], question: &Question) -> Option<Cause> {
     let holds = |region: &Region| holds(region, question.latitude, question.longitude);
-    inhibiting.used().iter().any(holds) || reporting.count > 0 && !reporting.used().iter().any(holds)
+    match inhibiting.used().iter().position(holds) {
+        Some(before) => Some(Inside(before as u8 + 1)),
+        None if reporting.count > 0 && !reporting.used().iter().any(holds) => Some(Outside),
+        None => None,
+    }
 }
 
 /// "Edges belong to a box."
@@ -93,8 +139,11 @@ fn holds(region: &Region, latitude: i32, longitude: i32) -> bool {
     (south..=north).contains(&latitude) && (west..=east).contains(&longitude)
 }
 
-/// "The airfield isn't inhibited, and the selected list is empty or has it."
+/// "The airfield isn't inhibited, and the selected list is empty or has it": the first of the two that fails.
 #[inline(always)]
-fn admitted([selected, inhibited]: [&Airfields; 2], airfield: &[u8; 4]) -> bool {
-    !inhibited.used().contains(airfield) && (selected.count == 0 || selected.used().contains(airfield))
+fn turned_away([selected, inhibited]: [&Airfields; 2], airfield: &[u8; 4]) -> Option<Cause> {
+    if inhibited.used().contains(airfield) {
+        return Some(Inhibited);
+    }
+    (selected.count > 0 && !selected.used().contains(airfield)).then_some(Unselected)
 }

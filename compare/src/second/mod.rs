@@ -1,5 +1,5 @@
-//! The second program, written from document 01's text alone, and from the header's words where these say more: packed
-//! figures and reports; commands, the configuration, the decision, joining and the board.
+//! The second program, written from the text of documents 01 and 02 alone, and from the header's words where these say
+//! more: packed figures and reports; commands, the configuration, the decision and its reason, joining and the board.
 
 pub mod allowed;
 pub mod board;

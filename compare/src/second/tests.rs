@@ -5,6 +5,7 @@ mod commands;
 mod decisions;
 mod forms;
 mod joins;
+mod reasons;
 mod records;
 
 use super::record::{Report, BYTES};

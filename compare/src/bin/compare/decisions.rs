@@ -1,8 +1,9 @@
-//! Families of decisions.
+//! Families of decisions; explanations are asked the same.
 
-use crate::queue;
+use crate::queue::Queue;
 use crate::run::{Done, Run};
 use desk_compare::cases::decide::{Case, Question};
+use desk_compare::cases::Case as Asked;
 use desk_compare::make::uplink::{self, Lists, AIRFIELDS};
 use desk_compare::make::{faults, odd_byte};
 use desk_compare::meet::uplink as meet;
@@ -10,16 +11,24 @@ use desk_compare::random::Random;
 use desk_compare::second::config;
 use desk_compare::second::settings::*;
 
-type Queue = queue::Queue<Case>;
-
 pub fn families(run: &mut Run) {
-    run.family("decide-flags", "every flag and routine digit x phase, airfield, hour and place in and out", flags);
-    run.family("decide-hours", "every start, end and hour", hours);
-    run.family("decide-edges", "on, inside and outside every edge of boxes, by a minute", edges);
-    run.family("decide-airfields", "lists of every length, the airfield at every place", airfields);
-    run.family("decide-refused", "phases, hours, places and airfields out of range; configurations not valid", refused);
+    families_of::<Case>(run, "decide");
+}
+
+/// The families of a call that is asked as a decision is.
+pub fn families_of<C: Asked + From<Case>>(run: &mut Run, call: &str) {
+    let name = |of: &str| format!("{call}-{of}");
+    run.family(&name("flags"), "every flag and routine digit x phase, airfield, hour and place in and out", flags::<C>);
+    run.family(&name("hours"), "every start, end and hour", hours::<C>);
+    run.family(&name("edges"), "on, inside and outside every edge of boxes, by a minute", edges::<C>);
+    run.family(&name("airfields"), "lists of every length, the airfield at every place", airfields::<C>);
+    run.family(
+        &name("refused"),
+        "phases, hours, places and airfields out of range; configurations not valid",
+        refused::<C>,
+    );
     let turns = run.turns(25_000);
-    run.family("decide-random", "random valid configurations x 50 questions", |random, queue| {
+    run.family(&name("random"), "random valid configurations x 50 questions", |random, queue: &mut Queue<C>| {
         for _ in 0..turns {
             let mut held = uplink::configuration(random);
             if random.percent(80) {
@@ -32,9 +41,9 @@ pub fn families(run: &mut Run) {
     });
     let turns = run.turns(20_000);
     run.family(
-        "decide-damaged",
+        &name("damaged"),
         "random configurations, one or two members changed, x 5 questions",
-        |random, queue| {
+        |random, queue: &mut Queue<C>| {
             for _ in 0..turns {
                 let held = uplink::configuration(random);
                 let questions = (0..5).map(|_| question(random, &held)).collect();
@@ -42,20 +51,21 @@ pub fn families(run: &mut Run) {
                 for _ in 0..1 + random.below(2) {
                     faults::settings(random, &mut settings);
                 }
-                queue.case(Case { settings: Box::new(settings), questions })?;
+                queue.case(Case { settings: Box::new(settings), questions }.into())?;
             }
             Ok(())
         },
     );
 }
 
-fn ask(queue: &mut Queue, held: &Configuration, questions: Vec<Question>) -> Done {
-    queue.case(Case { settings: Box::new(meet::configuration(held)), questions })
+pub fn ask<C: Asked + From<Case>>(queue: &mut Queue<C>, held: &Configuration, questions: Vec<Question>) -> Done {
+    queue.case(Case { settings: Box::new(meet::configuration(held)), questions }.into())
 }
 
-const HERE: Question = Question { phase: 0, hour: 12, latitude: 0, longitude: 0, airfield: *b"ABCD\0\0", length: 4 };
+pub const HERE: Question =
+    Question { phase: 0, hour: 12, latitude: 0, longitude: 0, airfield: *b"ABCD\0\0", length: 4 };
 
-fn at(airfield: [u8; 4]) -> Question {
+pub fn at(airfield: [u8; 4]) -> Question {
     let mut question = HERE;
     question.airfield[..4].copy_from_slice(&airfield);
     question
@@ -63,7 +73,7 @@ fn at(airfield: [u8; 4]) -> Question {
 
 /// A question with weight on the edges of the configuration's boxes, on poles, 180 degrees and midnight, and on its
 /// airfields; one in twenty is out of range.
-fn question(random: &mut Random, held: &Configuration) -> Question {
+pub fn question(random: &mut Random, held: &Configuration) -> Question {
     let sections = &held.sections;
     let boxes = &sections.boxes[random.below(2)];
     let region = if boxes.count > 0 { random.of(boxes.used()) } else { Region::default() };
@@ -109,24 +119,24 @@ fn wrong(random: &mut Random, question: &mut Question) {
     }
 }
 
-fn list(names: &[[u8; 4]]) -> Airfields {
+pub fn list(names: &[[u8; 4]]) -> Airfields {
     let entry = |index| names.get(index).copied().unwrap_or_default();
     Airfields { count: names.len() as u8, entries: std::array::from_fn(entry) }
 }
 
-fn boxes(regions: &[Region]) -> Boxes {
+pub fn boxes(regions: &[Region]) -> Boxes {
     let entry = |index| regions.get(index).copied().unwrap_or_default();
     Boxes { count: regions.len() as u8, entries: std::array::from_fn(entry) }
 }
 
 /// A box in degrees: north, south, west, east.
-fn region([north, south, west, east]: [i32; 4]) -> Region {
+pub fn region([north, south, west, east]: [i32; 4]) -> Region {
     let [north, south] = [north, south].map(|degrees| uplink::edge(&LATITUDE, degrees));
     let [west, east] = [west, east].map(|degrees| uplink::edge(&LONGITUDE, degrees));
     Region { north, south, west, east }
 }
 
-fn flags(_: &mut Random, queue: &mut Queue) -> Done {
+fn flags<C: Asked + From<Case>>(_: &mut Random, queue: &mut Queue<C>) -> Done {
     let mut held = config::reset();
     held.sections.hours = [11, 12];
     held.sections.boxes = [boxes(&[region([10, -10, -10, 10])]), boxes(&[region([1, 0, 0, 1])])];
@@ -147,7 +157,7 @@ fn flags(_: &mut Random, queue: &mut Queue) -> Done {
     Ok(())
 }
 
-fn hours(_: &mut Random, queue: &mut Queue) -> Done {
+fn hours<C: Asked + From<Case>>(_: &mut Random, queue: &mut Queue<C>) -> Done {
     let mut held = config::reset();
     for inhibit in 0..2 {
         held.flags[1] = inhibit;
@@ -161,7 +171,7 @@ fn hours(_: &mut Random, queue: &mut Queue) -> Done {
     Ok(())
 }
 
-fn edges(random: &mut Random, queue: &mut Queue) -> Done {
+fn edges<C: Asked + From<Case>>(random: &mut Random, queue: &mut Queue<C>) -> Done {
     let mut regions = vec![[90, -90, -180, 180], [0; 4], [90, 90, 180, 180], [-90, -90, -180, -180], [1, -1, -1, 1]];
     let mut two = |most: i32| [random.between(-most, most), random.between(-most, most)];
     for _ in 0..200 {
@@ -202,7 +212,7 @@ fn round([one, other]: [i32; 2], most: i32) -> Vec<i32> {
 }
 
 /// Of four lists one is filled up to every length; the questions ask for each of its names, and for names near them.
-fn airfields(random: &mut Random, queue: &mut Queue) -> Done {
+fn airfields<C: Asked + From<Case>>(random: &mut Random, queue: &mut Queue<C>) -> Done {
     let mut held = config::reset();
     held.flags = [1; 7];
     held.flags[1..3].fill(0);
@@ -232,7 +242,7 @@ fn airfields(random: &mut Random, queue: &mut Queue) -> Done {
     Ok(())
 }
 
-fn refused(random: &mut Random, queue: &mut Queue) -> Done {
+fn refused<C: Asked + From<Case>>(random: &mut Random, queue: &mut Queue<C>) -> Done {
     let held = uplink::configuration_of(random, Lists::Few);
     let mut questions: Vec<Question> = (0..=255).map(|phase| Question { phase, ..HERE }).collect();
     questions.extend((0..=255).map(|hour| Question { hour, ..HERE }));
@@ -263,5 +273,5 @@ fn refused(random: &mut Random, queue: &mut Queue) -> Done {
     ask(queue, &held, questions.clone())?;
     let mut settings = meet::configuration(&held);
     settings.flags[6] = 9;
-    queue.case(Case { settings: Box::new(settings), questions })
+    queue.case(Case { settings: Box::new(settings), questions }.into())
 }

@@ -9,6 +9,7 @@
 //!     command HEX                                   command-record HEX ROOM
 //!     reset                                         apply SETTINGS TEXT
 //!     decide SETTINGS PHASE LATITUDE LONGITUDE HOUR AIRFIELD
+//!     explain, as decide
 //!     join FIRST SECOND ROOM                        board-check SLOTS AREA
 //!     board-add SLOTS AREA DESIGNATOR TEXT          board-take SLOTS AREA DESIGNATOR ROOM
 //!
@@ -20,6 +21,7 @@ mod command_records;
 mod commands;
 mod configs;
 mod decisions;
+mod explanations;
 mod forms;
 mod joins;
 mod one;
@@ -33,12 +35,12 @@ use run::{Options, Run};
 use std::process::exit;
 
 const USAGE: &str = "compare [--seed N] [--long] [--groups GROUP,.. | --only FAMILY] | compare case WORDS
-groups: report, command, config, decide, join, board, all";
+groups: report, command, config, decide, explain, join, board, all";
 
 type Group = (&'static str, fn(&mut Run));
 
 /// Each group and its families.
-const GROUPS: [Group; 6] = [
+const GROUPS: [Group; 7] = [
     ("report", |run| {
         packed::families(run);
         reports::families(run);
@@ -51,6 +53,7 @@ const GROUPS: [Group; 6] = [
     }),
     ("config", configs::families),
     ("decide", decisions::families),
+    ("explain", explanations::families),
     ("join", joins::families),
     ("board", boards::families),
 ];
@@ -62,6 +65,7 @@ fn standing() -> Vec<String> {
         ("command", cfg!(feature = "command")),
         ("config", cfg!(feature = "config")),
         ("decide", cfg!(feature = "decide")),
+        ("explain", cfg!(feature = "explain")),
         ("join", cfg!(feature = "join")),
         ("board", cfg!(feature = "board")),
     ];

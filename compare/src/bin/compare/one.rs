@@ -1,7 +1,7 @@
 //! One case from the command line, as a mismatch prints it.
 
 use crate::run;
-use desk_compare::cases::{board, command, config, decide, join, report};
+use desk_compare::cases::{board, command, config, decide, explain, join, report};
 use desk_compare::ours::{self, of_bytes, Plain};
 
 /// Runs the case and gives the exit status, or says what is wrong with the words. `@FILE` stands for words in a file.
@@ -16,7 +16,8 @@ pub fn case(words: &[String]) -> Result<i32, String> {
         Some(&("packed-read" | "packed-write" | "report" | "record")) => run::one(report_case(&words)?),
         Some(&("command" | "command-record")) => run::one(command_case(&words)?),
         Some(&("reset" | "apply")) => run::one(config_case(&words)?),
-        Some(&"decide") => run::one(decide_case(&words)?),
+        Some(&"decide") => run::one(decide_case(&words[1..])?),
+        Some(&"explain") => run::one(explain::Case::from(decide_case(&words[1..])?)),
         Some(&"join") => run::one(join_case(&words)?),
         Some(&("board-check" | "board-add" | "board-take")) => run::one(board_case(&words)?),
         _ => no_such_case(),
@@ -57,7 +58,7 @@ fn config_case(words: &[&str]) -> Result<config::Case, String> {
 }
 
 fn decide_case(words: &[&str]) -> Result<decide::Case, String> {
-    let ["decide", settings, phase, latitude, longitude, hour, name] = words else {
+    let [settings, phase, latitude, longitude, hour, name] = words else {
         return no_such_case();
     };
     let name = bytes(name)?;

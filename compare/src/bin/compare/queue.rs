@@ -42,6 +42,12 @@ impl<C: Case> Queue<C> {
         self.turn()
     }
 
+    /// What no case so far came out as: reasons with their numbers, and the refusals of explanations.
+    pub fn unmet(&mut self) -> Result<Vec<String>, Box<Mismatch>> {
+        self.finish()?;
+        Ok(self.tally.unmet())
+    }
+
     /// What was found alike since the last time.
     pub fn tally(&mut self) -> Tally {
         std::mem::take(&mut self.tally)

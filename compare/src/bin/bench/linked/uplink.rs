@@ -1,6 +1,6 @@
 //! The calls of what goes up.
 
-use desk_compare::ours::uplink::{Applied, Command, CommandGot, Decided, Settings, Slot};
+use desk_compare::ours::uplink::{Applied, Command, CommandGot, Decided, Explained, Settings, Slot};
 use desk_compare::ours::Answer;
 
 extern "C" {
@@ -19,6 +19,15 @@ extern "C" {
         airfield: *const u8,
         length: usize,
     ) -> Decided;
+    fn esk_explain(
+        settings: *const Settings,
+        phase: u8,
+        latitude: i32,
+        longitude: i32,
+        hour: u8,
+        airfield: *const u8,
+        length: usize,
+    ) -> Explained;
     fn esk_join(
         first: *const u8,
         first_length: usize,
@@ -84,6 +93,12 @@ pub fn apply(settings: &mut Settings, text: &[u8]) -> Applied {
 #[inline(always)]
 pub fn decide(settings: &Settings, [phase, hour]: [u8; 2], [north, east]: [i32; 2], airfield: &[u8]) -> Decided {
     unsafe { esk_decide(settings, phase, north, east, hour, airfield.as_ptr(), airfield.len()) }
+}
+
+/// As a decision.
+#[inline(always)]
+pub fn explain(settings: &Settings, [phase, hour]: [u8; 2], [north, east]: [i32; 2], airfield: &[u8]) -> Explained {
+    unsafe { esk_explain(settings, phase, north, east, hour, airfield.as_ptr(), airfield.len()) }
 }
 
 #[inline(always)]
