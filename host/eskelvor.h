@@ -21,8 +21,9 @@
 #include <stdint.h>
 
 /* 3.0.0: a record has one form for a missing figure and an absent observation, and another is refused with 7;
- * esk_settings_valid answers 0 or 12 and esk_decide a place, as all other calls do; esk_command has no padding. */
-#define ESK_VERSION "3.0.0"
+ * esk_settings_valid answers 0 or 12 and esk_decide a place, as all other calls do; esk_command has no padding.
+ * 3.1.0: esk_explain. */
+#define ESK_VERSION "3.1.0"
 
 #ifdef __cplusplus
 extern "C" {
@@ -344,6 +345,52 @@ typedef struct esk_decided {
  */
 esk_decided esk_decide(const esk_settings *settings, uint8_t phase, int32_t latitude, int32_t longitude, uint8_t hour,
                        const uint8_t *airfield, size_t length);
+
+/* ---- why it reports or stays silent ------------------------------------------------------------------------------ */
+
+/*
+ * Reasons, in the order in which they are looked for; the first that holds is given. 1 to 4 and 7 to 9 go with
+ * ESK_SILENT, 6 with ESK_ROUTINE, and 5 with ESK_SCHEME in ascent and descent, with ESK_ROUTINE in level flight. Flags
+ * and boxes are counted from 1: flag 5 is ascent, 6 enroute, 7 descent.
+ */
+enum {
+    ESK_WHY_AMDAR_OFF = 1,        /* the AMDAR flag is 0; number 0 */
+    ESK_WHY_HOURS = 2,            /* the inhibit hours flag is 1 and the hour is in the window of section 9; number 0 */
+    ESK_WHY_INHIBITING_BOX = 3,   /* the regions flag is 1 and an inhibiting box holds the position; number: the lowest
+                                     such box, 1 to 16 */
+    ESK_WHY_NO_REPORTING_BOX = 4, /* the regions flag is 1, there are reporting boxes and none holds the position;
+                                     number 0 */
+    ESK_WHY_FLAG_ON = 5,          /* the phase's flag is 1, and in ascent and descent with the airports flag 1 the
+                                     airfield is not inhibited, and is selected where any is; number: the flag, 5, 6
+                                     or 7 */
+    ESK_WHY_DIGIT = 6,            /* ascent or descent without its scheme, and a section's digit is 1; number: that
+                                     section, 3 with the airports flag 1, else 6 in ascent and 8 in descent */
+    ESK_WHY_FLAG_OFF = 7,         /* the phase's flag is 0; number: the flag, 5, 6 or 7 */
+    ESK_WHY_INHIBITED = 8,        /* the airports flag is 1 and the airfield is inhibited for the phase; number 0 */
+    ESK_WHY_NOT_SELECTED = 9      /* the airports flag is 1 and the phase has selected airfields, not this one;
+                                     number 0 */
+};
+
+/* The answer of esk_explain. 16 bytes, no padding. */
+typedef struct esk_explained {
+    size_t place;     /* 0 */
+    uint8_t code;     /* 0, 12, 5 or 4 */
+    uint8_t decision; /* ESK_SILENT, ESK_ROUTINE or ESK_SCHEME; 0 on refusal */
+    uint8_t reason;   /* ESK_WHY_.., 1 to 9; 0 on refusal */
+    uint8_t number;   /* of the box, flag or section that the reason names; 0 where it names none, and on refusal */
+    uint32_t spare;   /* 0 */
+} esk_explained;
+
+/*
+ * Why an aircraft with this configuration reports or stays silent. What is asked, what is lent and what is refused are
+ * as for esk_decide, and for every input code, place and decision are those that it answers. The configuration, which
+ * is never NULL, and the airfield are lent for reading. Codes, all at place 0:
+ *   12  the configuration is not valid
+ *   5   phase above 2, hour above 23, latitude not -5400 to 5400 or longitude not -10800 to 10800
+ *   4   the airfield is not four bytes 'A' to 'Z' or '0' to '9', in every phase
+ */
+esk_explained esk_explain(const esk_settings *settings, uint8_t phase, int32_t latitude, int32_t longitude,
+                          uint8_t hour, const uint8_t *airfield, size_t length);
 
 /* ---- joining two commands --------------------------------------------------------------------------------------- */
 

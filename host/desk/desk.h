@@ -19,7 +19,7 @@ typedef struct subcommand {
 } subcommand;
 
 extern const subcommand report_subcommand, check_subcommand, explain_subcommand, join_subcommand, apply_subcommand,
-    decide_subcommand, packed_subcommand, board_subcommand, night_subcommand;
+    decide_subcommand, why_subcommand, packed_subcommand, board_subcommand, night_subcommand;
 
 static inline int worse(int one, int other)
 {

@@ -13,8 +13,8 @@
 #include <string.h>
 
 static const subcommand *const subcommands[] = {
-    &report_subcommand, &check_subcommand,  &explain_subcommand, &join_subcommand,  &apply_subcommand,
-    &decide_subcommand, &packed_subcommand, &board_subcommand,   &night_subcommand,
+    &report_subcommand, &check_subcommand, &explain_subcommand, &join_subcommand,  &apply_subcommand,
+    &decide_subcommand, &why_subcommand,   &packed_subcommand,  &board_subcommand, &night_subcommand,
 };
 
 enum { SUBCOMMANDS = sizeof subcommands / sizeof *subcommands };

@@ -23,6 +23,8 @@ esk_answer second_settings_valid(esk_settings settings);
 esk_applied second_apply(esk_settings *settings, const uint8_t *text, size_t length);
 esk_decided second_decide(esk_settings settings, uint8_t phase, int32_t latitude, int32_t longitude, uint8_t hour,
                           const uint8_t *airfield, size_t length);
+esk_explained second_explain(esk_settings settings, uint8_t phase, int32_t latitude, int32_t longitude, uint8_t hour,
+                             const uint8_t *airfield, size_t length);
 
 esk_answer second_join(const uint8_t *first, size_t first_length, const uint8_t *second, size_t second_length,
                        uint8_t *out, size_t room);

@@ -1,4 +1,4 @@
-/* Targets of what goes up: commands, the configuration, the decision and the join. */
+/* Targets of what goes up: commands, the configuration, the decision, its reason and the join. */
 #include "harness.h"
 
 /* A room for a command: up to 1023 bytes, past the longest one. */
@@ -94,6 +94,40 @@ static void decide(input from)
     give_back("airfield", airfield);
 }
 
+/* The decision that goes with a reason, as the header says. */
+static uint8_t decision_by(esk_explained e)
+{
+    if (e.reason == ESK_WHY_DIGIT || (e.reason == ESK_WHY_FLAG_ON && e.number == 6))
+        return ESK_ROUTINE;
+    return e.reason == ESK_WHY_FLAG_ON ? ESK_SCHEME : ESK_SILENT;
+}
+
+/* Configuration, phase, hour, latitude, longitude, airfield, as for decide. The whole answer is held against the second
+ * program's, and then code, place and decision against esk_decide's, the reason against these. Both of our calls are lent
+ * the same blocks; the second program only reads its own, so that a write into either block shows. */
+static void explain(input from)
+{
+    esk_settings held;
+    take_into(&from, &held, sizeof held);
+    lent settings = lend(&held, sizeof held);
+    uint8_t phase = take_byte(&from), hour = take_byte(&from);
+    int32_t latitude = (int32_t)take_word(&from), longitude = (int32_t)take_word(&from);
+    lent airfield = lend_rest(&from);
+    const esk_settings *of = (const esk_settings *)settings.ours;
+    esk_explained ours = esk_explain(of, phase, latitude, longitude, hour, airfield.ours, airfield.length);
+    esk_explained second = second_explain(held, phase, latitude, longitude, hour, airfield.second, airfield.length);
+    hold("answer", &ours, &second, sizeof ours);
+    esk_decided decided = esk_decide(of, phase, latitude, longitude, hour, airfield.ours, airfield.length);
+    esk_explained alike = {decided.place, decided.code, decided.decision, ours.reason, ours.number, 0};
+    hold("decided", &ours, &alike, sizeof ours);
+    const uint8_t reason[] = {ours.reason >= 1 && ours.reason <= 9, ours.reason == 0 && ours.number == 0,
+                              decision_by(ours)};
+    const uint8_t wanted[] = {decided.code == ESK_ACCEPTED, decided.code != ESK_ACCEPTED, decided.decision};
+    hold("reason", reason, wanted, sizeof reason);
+    give_back("settings", settings);
+    give_back("airfield", airfield);
+}
+
 /* Room, length of the first text, both texts. */
 static void join(input from)
 {
@@ -116,6 +150,7 @@ const target uplink_targets[] = {
     {"esk_settings_valid", "answer settings", settings_valid},
     {"esk_apply", "answer settings text", apply},
     {"esk_decide", "answer settings airfield", decide},
+    {"esk_explain", "answer decided reason settings airfield", explain},
     {"esk_join", "answer first second out", join},
     {NULL, NULL, NULL},
 };

@@ -20,6 +20,7 @@ join @
 apply -c @
 apply @
 decide --phase level --lat 0 --lon 0 --hour 0 -c @
+why --phase level --lat 0 --lon 0 --hour 0 -c @
 board @ list
 board @ check
 board @ add XY0001 '$none'
@@ -43,7 +44,7 @@ reads() {
         "$root/target/host/json_flat" <out >flat || fail 'not JSON'
         grep -qx "status=$got" flat || fail 'the status is not in the document'
     done
-    cases=$((cases + 26))
+    cases=$((cases + 28))
     cmp -s b sound || fail 'the board is another'
 }
 words='' why=''
@@ -81,8 +82,8 @@ out_has 'then, report 22 from byte 5000000 on: YMML to YPAD'
 # Standard output on a full disk
 if [ -c /dev/full ]; then
     for line in '--help' '--version' "report $examples/one.report" "check $none" "explain $none" "join $none" \
-        "apply $none" 'decide --phase level --lat 0 --lon 0 --hour 0' 'packed read KK' 'board b list' \
-        'night' 'board b take XY0001' \
+        "apply $none" 'decide --phase level --lat 0 --lon 0 --hour 0' 'why --phase level --lat 0 --lon 0 --hour 0' \
+        'packed read KK' 'board b list' 'night' 'board b take XY0001' \
         "check --json $none" 'board b take XY0001 --json'; do
         got=0 words=$line why='a full disk behind standard output'
         # shellcheck disable=SC2086

@@ -1,6 +1,6 @@
 #!/bin/sh
-# Every example of README.md: the lines behind a `$` are run, in order, in one folder, and what they write is what
-# stands there.
+# Every example of README.md and of docs/requests: the lines behind a `$` are run, in order, in one folder, and what they
+# write is what stands there.
 . "$(dirname "$0")/cases.sh"
 mkdir "$scratch/bin" "$scratch/folder"
 printf '#!/bin/sh\nexec "%s/host/tool" run eskelvor "$@"\n' "$root" >"$scratch/bin/eskelvor"
@@ -9,15 +9,16 @@ PATH=$scratch/bin:$PATH
 cd "$scratch/folder"
 ln -s "$examples" examples
 
-awk '/^```console$/ { on = 1; next } /^```$/ { on = 0 } on' "$root/README.md" >"$scratch/want"
+awk '/^```console$/ { on = 1; next } /^```$/ { on = 0 } on' "$root/README.md" "$root"/docs/requests/*.md \
+    >"$scratch/want"
 : >"$scratch/out" >"$scratch/err"
 grep '^\$ ' "$scratch/want" | while read -r _ line; do
     printf '$ %s\n' "$line"
     sh -c "$line" 2>&1 </dev/null || true
 done >"$scratch/out"
 cases=$(grep -c '^\$ ' "$scratch/want")
-why='the examples of README.md' words=''
+why='the examples of README.md and docs/requests' words=''
 diff "$scratch/want" "$scratch/out" >"$scratch/err" || fail 'they differ'
 [ "$cases" -ge 10 ] || fail "only $cases examples"
 
-done_with 'the examples of README.md'
+done_with 'the examples of README.md and docs/requests'

@@ -1,0 +1,118 @@
+#include "question.h"
+
+#include "config_file.h"
+#include "joining.h"
+#include "json.h"
+#include "minutes.h"
+#include "options.h"
+
+#include <stdio.h>
+#include <string.h>
+
+const char question_usage[] = "[-c FILE] --phase PHASE --lat LAT --lon LON --hour HOUR\n"
+                              "           [--airfield NAME] [COMMAND | FILE | - ]..";
+
+const char question_help[] = "  -c, --config FILE   the aircraft's configuration; without it, the one after\n"
+                             "                      reset\n"
+                             "  COMMAND..           applied to it first; it is not kept\n"
+                             "  --phase PHASE       ascent, level or descent\n"
+                             "  --lat LAT           degrees, 37.5S or -37.5; degrees and minutes, 37:30S;\n"
+                             "                      minutes, 2250mS or -2250m\n"
+                             "  --lon LON           the same with E and W\n"
+                             "  --hour HOUR         0 to 23, UTC\n"
+                             "  --airfield NAME     four letters or digits; may be left out in level flight\n"
+                             "\n"
+                             "Degrees are taken to the nearest minute.\n";
+
+const char *const decision_names[3] = {"silent", "routine", "scheme"};
+
+static int phase_of(const char *word)
+{
+    static const char *const phases[] = {"ascent", "level", "descent"};
+    for (int i = 0; i < 3; i++)
+        if (strcmp(word, phases[i]) == 0)
+            return i;
+    return -1;
+}
+
+/* The words as numbers. A number that is none is a slip; one outside its range is left to the proved call. */
+static int understand(question *q)
+{
+    if (!q->phase || !q->latitude || !q->longitude || !q->hour)
+        return trouble(NULL, "give --phase, --lat, --lon and --hour; --help tells more");
+    int phase = phase_of(q->phase);
+    long hour = whole_number(q->hour, 0, 255);
+    if (phase < 0)
+        return trouble("--phase", "ascent, level or descent");
+    if (hour < 0)
+        return trouble("--hour", "a whole number, 0 to 23");
+    if (!minutes_of(q->latitude, "NS", &q->north))
+        return trouble("--lat", "degrees or minutes: 37.5S, 37:30S, -37.5 or 2250mS");
+    if (!minutes_of(q->longitude, "EW", &q->east))
+        return trouble("--lon", "degrees or minutes: 144.5E, 144:30E, -144.5 or 8670mE");
+    if (q->airfield == NULL && phase != ESK_LEVEL)
+        return trouble("--airfield", "needed in ascent and descent");
+    q->phase_number = (uint8_t)phase;
+    q->hour_number = (uint8_t)hour;
+    return FINE;
+}
+
+int take_question(int count, char **words, question *q)
+{
+    static joined all;
+    static const question nothing;
+    const char *file = NULL;
+    intake in = {0, 0, 0, NULL, NULL};
+    *q = nothing;
+    const option known[] = {{"--config", "-c", &file, NULL},      {"--phase", NULL, &q->phase, NULL},
+                            {"--lat", NULL, &q->latitude, NULL},  {"--lon", NULL, &q->longitude, NULL},
+                            {"--hour", NULL, &q->hour, NULL},     {"--airfield", NULL, &q->airfield, NULL},
+                            {"--text", NULL, NULL, &in.typed},    {"--exact", NULL, NULL, &in.exact}};
+    int status = take_options(&count, words, known, sizeof known / sizeof *known);
+    if (status == FINE)
+        status = understand(q);
+    if (status == FINE)
+        status = gather(&in, count, words, &all);
+    if (status == FINE)
+        status = config_read(file, &q->settings);
+    return status == FINE ? apply_gathered(&all, &q->settings, file) : status;
+}
+
+/* A well-formed name stands for one that is left out: in level flight the answer does not depend on it. */
+const char *question_airfield(const question *q)
+{
+    return q->airfield ? q->airfield : "0000";
+}
+
+static const char *because(const question *q, unsigned code)
+{
+    if (code == ESK_SETTINGS)
+        return NULL;
+    if (code == ESK_BYTE)
+        return "an airfield is four letters A to Z or digits";
+    if (q->hour_number > 23)
+        return "an hour is 0 to 23";
+    return "latitudes are 90S to 90N, longitudes 180W to 180E";
+}
+
+int refuse_question(const question *q, unsigned code)
+{
+    return refuse_plain(NULL, A_SETTINGS, code, because(q, code));
+}
+
+void name_position(const question *q, char *to, size_t room)
+{
+    char north[24], east[24];
+    name_degrees(q->north, "NS", 0, north, sizeof north);
+    name_degrees(q->east, "EW", 0, east, sizeof east);
+    snprintf(to, room, "%s %s", north, east);
+}
+
+void json_question(const question *q)
+{
+    json_word("phase", q->phase);
+    json_number("latitude_minutes", q->north);
+    json_number("longitude_minutes", q->east);
+    json_number("hour", q->hour_number);
+    json_word("airfield", q->airfield);
+}
