@@ -51,12 +51,23 @@ int board_add(board *b, const char *designator, const uint8_t *text, size_t leng
     return a.code == ESK_ACCEPTED ? FINE : refuse_plain(designator, A_BOARD, a.code, NULL);
 }
 
-int board_take(board *b, const char *designator, uint8_t *out, size_t *length)
+/* A taking. A refusal is told, but for the code `quiet`. */
+static int take(board *b, const char *designator, uint8_t *out, size_t *length, unsigned quiet)
 {
     if (designator_status(b, designator) != FINE)
         return REFUSED;
     esk_answer a = esk_board_take(b->slots, b->n, b->area, b->n * ESK_COMMAND_BYTES, bytes(designator),
                                   strlen(designator), out, ESK_COMMAND_BYTES);
     *length = a.length;
-    return a.code == ESK_ACCEPTED ? FINE : refuse_plain(designator, A_BOARD, a.code, NULL);
+    return a.code == ESK_ACCEPTED || a.code == quiet ? FINE : refuse_plain(designator, A_BOARD, a.code, NULL);
+}
+
+int board_take(board *b, const char *designator, uint8_t *out, size_t *length)
+{
+    return take(b, designator, out, length, ESK_ACCEPTED);
+}
+
+int board_waiting(board *b, const char *designator, uint8_t *out, size_t *length)
+{
+    return take(b, designator, out, length, ESK_NOTHING);
 }

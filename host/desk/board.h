@@ -17,4 +17,7 @@ int board_add(board *b, const char *designator, const uint8_t *text, size_t leng
 /* Takes what waits from the board that was read. */
 int board_take(board *b, const char *designator, uint8_t *out, size_t *length);
 
+/* What would be taken; a length of 0 where nothing waits. The board that was read is used up. */
+int board_waiting(board *b, const char *designator, uint8_t *out, size_t *length);
+
 #endif

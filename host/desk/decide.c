@@ -27,7 +27,7 @@ static void tell_decision(const question *q, esk_decided d)
 static int run(int count, char **words)
 {
     question q;
-    int status = take_question(count, words, &q);
+    int status = take_question(count, words, &q, NULL, 0);
     if (status != FINE)
         return status;
     const char *airfield = question_airfield(&q);
@@ -40,5 +40,9 @@ static int run(int count, char **words)
 }
 
 const subcommand decide_subcommand = {
-    "decide", question_usage, "Says whether an aircraft reports: silent, routine or scheme", question_help, run,
+    "decide",
+    QUESTION_USAGE QUESTION_COMMANDS,
+    "Says whether an aircraft reports: silent, routine or scheme",
+    QUESTION_HELP QUESTION_NOTE,
+    run,
 };

@@ -4,27 +4,13 @@
 #include "joining.h"
 #include "json.h"
 #include "minutes.h"
-#include "options.h"
 
 #include <stdio.h>
 #include <string.h>
 
-const char question_usage[] = "[-c FILE] --phase PHASE --lat LAT --lon LON --hour HOUR\n"
-                              "           [--airfield NAME] [COMMAND | FILE | - ]..";
-
-const char question_help[] = "  -c, --config FILE   the aircraft's configuration; without it, the one after\n"
-                             "                      reset\n"
-                             "  COMMAND..           applied to it first; it is not kept\n"
-                             "  --phase PHASE       ascent, level or descent\n"
-                             "  --lat LAT           degrees, 37.5S or -37.5; degrees and minutes, 37:30S;\n"
-                             "                      minutes, 2250mS or -2250m\n"
-                             "  --lon LON           the same with E and W\n"
-                             "  --hour HOUR         0 to 23, UTC\n"
-                             "  --airfield NAME     four letters or digits; may be left out in level flight\n"
-                             "\n"
-                             "Degrees are taken to the nearest minute.\n";
-
 const char *const decision_names[3] = {"silent", "routine", "scheme"};
+
+enum { SHARED_OPTIONS = 8 };
 
 static int phase_of(const char *word)
 {
@@ -57,18 +43,21 @@ static int understand(question *q)
     return FINE;
 }
 
-int take_question(int count, char **words, question *q)
+int take_question(int count, char **words, question *q, const option *own, size_t options)
 {
     static joined all;
     static const question nothing;
     const char *file = NULL;
     intake in = {0, 0, 0, NULL, NULL};
     *q = nothing;
-    const option known[] = {{"--config", "-c", &file, NULL},      {"--phase", NULL, &q->phase, NULL},
-                            {"--lat", NULL, &q->latitude, NULL},  {"--lon", NULL, &q->longitude, NULL},
-                            {"--hour", NULL, &q->hour, NULL},     {"--airfield", NULL, &q->airfield, NULL},
-                            {"--text", NULL, NULL, &in.typed},    {"--exact", NULL, NULL, &in.exact}};
-    int status = take_options(&count, words, known, sizeof known / sizeof *known);
+    option known[SHARED_OPTIONS + MORE_OPTIONS] = {
+        {"--config", "-c", &file, NULL},     {"--phase", NULL, &q->phase, NULL},
+        {"--lat", NULL, &q->latitude, NULL}, {"--lon", NULL, &q->longitude, NULL},
+        {"--hour", NULL, &q->hour, NULL},    {"--airfield", NULL, &q->airfield, NULL},
+        {"--text", NULL, NULL, &in.typed},   {"--exact", NULL, NULL, &in.exact}};
+    for (size_t i = 0; i < options; i++)
+        known[SHARED_OPTIONS + i] = own[i];
+    int status = take_options(&count, words, known, SHARED_OPTIONS + options);
     if (status == FINE)
         status = understand(q);
     if (status == FINE)

@@ -108,4 +108,61 @@ json_has results.0.code=4 'results.0.because=an airfield is four letters A to Z 
 answers 1 'a damaged configuration, by its code' why --json --phase level --lat 0 --lon 0 --hour 24 -c damaged
 json_has results.0.code=12 status=1
 
+# Once what waits on a board is handed over; the board stays as it is
+asked='--phase ascent --lat 51.4775N --lon 0.4614W --hour 12 --airfield EGLL'
+waits='--board tonight --aircraft XY0001'
+answers 0 'a board' board tonight create 3
+answers 0 'a command waits' board tonight add XY0001 AWR049999199000000000/
+answers 0 'another waits for another' board tonight add XY0003 AWR040999999000000000/
+cp tonight board-before
+# shellcheck disable=SC2086
+{
+    answers 0 'silent now, and a scheme afterwards' why $asked $waits AWR049999099000006000/0/
+    out_is 'silent now: the ascent flag is 0
+reports by the ascent scheme after what waits for XY0001 is handed over: the ascent flag is 1'
+    err_is
+    answers 0 'the same for a machine' why --json $asked $waits AWR049999099000006000/0/
+    json_has results.0.decision=silent results.0.reason=7 results.0.number=5 results.0.designator=XY0001 \
+        results.0.waiting=AWR049999199000000000/ results.0.after.changes=true results.0.after.decision=scheme \
+        results.0.after.reason=5 results.0.after.number=5 'results.0.after.why=the ascent flag is 1' status=0
+    answers 0 'what waits changes nothing here' why $asked $waits
+    out_is 'reports by the ascent scheme now: the ascent flag is 1
+no change after what waits for XY0001 is handed over'
+    answers 0 'no change, for a machine' why --json $asked $waits
+    json_has results.0.after.changes=false results.0.after.decision=scheme status=0
+    answers 0 'nothing waits for another' why $asked --board tonight --aircraft XY0002
+    out_is 'reports by the ascent scheme now: the ascent flag is 1
+nothing waits for XY0002'
+    answers 0 'nothing waits, for a machine' why --json $asked --board tonight --aircraft XY0002
+    json_has results.0.designator=XY0002 results.0.waiting=null results.0.after=null status=0
+    answers 0 'silent by its flag now, by AMDAR afterwards' why $asked --board tonight --aircraft XY0003 \
+        AWR049999099000006000/0/
+    out_is 'silent now: the ascent flag is 0
+silent after what waits for XY0003 is handed over: AMDAR is off'
+    answers 1 'a designator that is none' why $asked --board tonight --aircraft xy0001
+    out_is
+    err_has 'designator: refused: code 4 at byte 0'
+    answers 1 'a designator, for a machine' why --json $asked --board tonight --aircraft XY1
+    json_has results.0.code=4 results.0.place=0 status=1
+    answers 1 'the question is refused before the board is looked at' why --json $asked --hour 24 --board nowhere \
+        --aircraft XY0001
+    json_has results.0.code=5 status=1
+    answers 2 'no such board' why $asked --board nowhere --aircraft XY0001
+    out_is
+    answers 2 'a board without an aircraft' why $asked --board tonight
+    err_has 'give --board and --aircraft together'
+    answers 2 'an aircraft without a board' why $asked --aircraft XY0001
+    err_has 'give --board and --aircraft together'
+    answers 2 'decide has no board' decide $asked --board tonight --aircraft XY0001
+}
+cmp -s tonight board-before || fail 'the board is another'
+printf x >>tonight
+# shellcheck disable=SC2086
+{
+    answers 1 'a damaged board' why --json $asked $waits
+    json_has results.0.code=10 status=1
+    answers 1 'a file that is no board' why --json $asked --board held --aircraft XY0001
+    json_has results.0.code=10 status=1
+}
+
 done_with 'why it reports or stays silent'
