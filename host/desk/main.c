@@ -8,9 +8,11 @@
 #include "desk.h"
 #include "tell.h"
 
+#include <fcntl.h>
 #include <signal.h>
 #include <stdio.h>
 #include <string.h>
+#include <unistd.h>
 
 static const subcommand *const subcommands[] = {
     &report_subcommand, &check_subcommand, &explain_subcommand, &join_subcommand,  &apply_subcommand,
@@ -82,8 +84,23 @@ static int run(int count, char **words)
     return worse(status, tell_end(status));
 }
 
+/*
+ * A standard descriptor that the caller closed is given to /dev/null: the next file that is opened would have its number,
+ * and what is told would be written into that file. It is opened for the other direction, so that a write to a closed
+ * output is still told as one that failed. Gives whether all three are held.
+ */
+static int hold_descriptors(void)
+{
+    for (int i = STDIN_FILENO; i <= STDERR_FILENO; i++)
+        if (fcntl(i, F_GETFD) < 0 && open("/dev/null", i == STDIN_FILENO ? O_WRONLY : O_RDONLY) != i)
+            return 0;
+    return 1;
+}
+
 int main(int count, char **words)
 {
+    if (!hold_descriptors())
+        return TROUBLE; /* there may be nowhere to tell it */
     count--;
     words++;
     signal(SIGXFSZ, SIG_IGN); /* a file that may not grow is told as a write that failed */

@@ -100,6 +100,23 @@ why='a reader that went away' words='board b take'
 answers 0 'whatever became of it, the board is sound' board b check
 cp sound b
 
+# Standard output closed: the next file that is opened must not get its number
+for line in 'board b take XY0001' 'board b take XY0001 --json' "board b add XY0001 $none" "check $none"; do
+    for closed in '>&-' '<&- >&-'; do
+        got=0 words="$line $closed" why='standard output closed'
+        eval "eskelvor $line $closed 2>err" || got=$?
+        cases=$((cases + 1))
+        [ "$got" = 2 ] || fail "status $got, not 2"
+        err_has 'eskelvor: standard output: cannot write: '
+        cmp -s b sound || fail 'the board is another'
+        [ ! -s .b.eskelvor-lock ] || fail 'something was written into the lock file'
+    done
+done
+got=0 words='board b take <&- >&- 2>&-' why='all three closed'
+eskelvor board b take XY0001 <&- >&- 2>&- || got=$?
+[ "$got" = 2 ] || fail "status $got, not 2"
+cmp -s b sound || fail 'the command is gone from the board'
+
 # A file that may not grow: the limit is in blocks, and below a board's size
 limited() { (ulimit -f "$1" && shift && eskelvor "$@"); }
 got=0 words='board b add' why='a file that may not grow'
