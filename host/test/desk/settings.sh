@@ -35,7 +35,33 @@ cp held before
 answers 1 'one command is refused: nothing is kept' apply -c held -o held AWR049999999000400000/071/ \
     AWR049999999000400000/611/
 err_has 'command 2: refused: code 5 at byte 22, section 4'
+out_is
 cmp -s held before || fail 'the file is another'
+answers 1 'nor shown as accepted where nothing is kept' apply $second AWR049999999000400000/611/
+out_is
+answers 1 'nor for a machine' apply --json -c held -o held $second AWR049999999000400000/611/
+json_has results.0.accepted=false results.0.code=5 status=1
+answers 2 'nothing is accepted where the configuration is not there' apply -c nowhere -o held $second
+out_is
+err_is 'eskelvor: nowhere: cannot open: No such file or directory'
+answers 2 'a configuration is not begun anew over one that is there' apply -o held $second
+out_is
+err_is 'eskelvor: held: there is a configuration in it already; -c held changes it'
+answers 2 'the same for a machine' apply --json -o held $second
+json_has results.0.about=held status=2
+cmp -s held before || fail 'the file is another'
+answers 2 'a file of the name - is not made' apply -o - $second
+out_is
+err_is 'eskelvor: --out: a configuration is kept in a file, and - is none; --json shows it on standard output'
+[ ! -e ./- ] || fail 'there is a file of the name -'
+printf '%s\n%s\n' $australia $melbourne >two
+input=two
+answers 0 'commands of a file and of standard input, told in order' apply two - $second
+out_has 'two, line 1: accepted' 'two, line 2: accepted' 'standard input, line 2: accepted' 'command 3: accepted'
+input=/dev/null
+ln -s nothing leads
+answers 2 'a link that leads nowhere is left as it is' apply -o leads $second
+[ -L leads ] || fail 'the link was replaced'
 answers 1 'the same for a machine' apply --json -c held -o held AWR049999999000400000/611/
 json_has results.0.code=5 results.0.place=22 status=1
 cmp -s held before || fail 'the file is another'
