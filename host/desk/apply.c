@@ -164,8 +164,8 @@ static void tell_all_sections(const esk_settings *s)
         }
 }
 
-/* Reads, applies, and writes where a file is held for it; what was accepted and what changed is told once it is on disk.
- * What began after reset never takes the place of a file. */
+/* Reads, applies, and writes where a file is held for it; what was accepted and what changed is told once it is on
+ * disk. What began after reset never takes the place of a file. */
 static int apply_all(const orders *o, const char *from, kept *out)
 {
     esk_settings old, now;
@@ -213,6 +213,8 @@ static int apply_and_keep(const orders *o, const char *from, const char *to, lon
     if (status != FINE)
         return status;
     status = keep_hold(&k, to, wait);
+    if (status == FINE)
+        status = keep_may_replace(&k);
     if (status == FINE)
         status = apply_all(o, from, &k);
     keep_release(&k);

@@ -22,6 +22,8 @@ int board_hold(kept *k, board *b, const char *file, long wait)
     int status = board_read(file, b); /* what is no sound board gets no lock file beside it */
     if (status == FINE)
         status = keep_hold(k, file, wait);
+    if (status == FINE)
+        status = keep_may_replace(k);
     return status == FINE ? board_read(file, b) : status;
 }
 

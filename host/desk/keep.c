@@ -12,6 +12,11 @@
 
 enum { WAITS_A_SECOND = 50 };
 
+/* O_NOFOLLOW of x86-64, for which this program is always built: another machine's headers have another number. */
+enum { NO_LINK = 0400000 };
+
+enum { ANY_MAY_WRITE = 0222 };
+
 /* The names beside the kept file. Gives whether they fit. */
 static int name_all(kept *k)
 {
@@ -47,15 +52,44 @@ static int take_lock(int lock, long wait)
     return 1;
 }
 
+/* What there is to know of the kept file. Gives 1 where it is there; 0 where not, or where the system cannot tell; else
+ * -1, with errno. */
+static int look_at(const kept *k, struct statx *s)
+{
+    if (statx(AT_FDCWD, k->path, 0, STATX_BASIC_STATS, s) == 0)
+        return 1;
+    return errno == ENOENT || errno == ENOSYS ? 0 : -1;
+}
+
+/* Gives an open file the kept one's group and mode, and its owner where the system lets this user give a file away. */
+static int give_rights(int file, const struct statx *s)
+{
+    if (fchown(file, s->stx_uid, s->stx_gid) != 0 && fchown(file, (uid_t)-1, s->stx_gid) != 0)
+        return 0;
+    return fchmod(file, s->stx_mode & 0777) == 0;
+}
+
+/* Those who may write the kept file may take its lock. Another user's lock file cannot be given other rights: it is
+ * then as it was, and holds as well. */
+static void share_lock(const kept *k)
+{
+    struct statx s;
+    int shared = look_at(k, &s) == 1 && (s.stx_mode & ANY_MAY_WRITE) != 0 && give_rights(k->locked, &s);
+    (void)shared;
+}
+
 int keep_hold(kept *k, const char *file, long wait)
 {
     k->name = file;
     k->locked = -1;
     if (find_path(k, file) != FINE)
         return TROUBLE;
-    k->locked = open(k->lock, O_RDWR | O_CREAT | O_CLOEXEC, 0666);
+    k->locked = open(k->lock, O_RDWR | O_CREAT | O_CLOEXEC | NO_LINK, 0666);
+    if (k->locked < 0 && errno == ELOOP)
+        return trouble(k->lock, "the lock file is a link, and is not followed");
     if (k->locked < 0)
-        return failed(file, "make its lock file");
+        return failed(file, "open its lock file");
+    share_lock(k);
     if (take_lock(k->locked, wait))
         return FINE;
     if (errno == EACCES || errno == EAGAIN)
@@ -78,23 +112,40 @@ static int write_all(int to, const uint8_t *bytes, size_t length)
     return 1;
 }
 
-/* The new file may be read and written by those who may read and write the old one. */
-static int keep_mode(const kept *k, int fresh)
+/* What a killed writer left of a new file. */
+static int remove_left(const kept *k)
 {
-    struct statx old;
-    if (statx(AT_FDCWD, k->path, 0, STATX_MODE, &old) != 0)
-        return errno == ENOENT || errno == ENOSYS;
-    return fchmod(fresh, old.stx_mode & 0777) == 0;
+    return unlink(k->fresh) == 0 || errno == ENOENT ? FINE : failed(k->fresh, "remove");
+}
+
+/* A creation that was killed leaves the new file as a second name, so that is removed before names are counted. */
+int keep_may_replace(const kept *k)
+{
+    struct statx s;
+    if (remove_left(k) != FINE)
+        return TROUBLE;
+    int there = look_at(k, &s);
+    if (there < 0)
+        return failed(k->name, "look at");
+    if (there && s.stx_nlink > 1)
+        return trouble(k->name, "it has a second name, a hard link, which would part from it; it is left as it is");
+    if (there && ((s.stx_mode & ANY_MAY_WRITE) == 0 || access(k->path, W_OK) != 0))
+        return trouble(k->name, "it may not be written; it is left as it is");
+    return FINE;
 }
 
 int keep_write(kept *k, const uint8_t *bytes, size_t length)
 {
-    if (unlink(k->fresh) != 0 && errno != ENOENT)
-        return failed(k->fresh, "remove");
-    int fresh = open(k->fresh, O_WRONLY | O_CREAT | O_EXCL | O_CLOEXEC, 0666);
+    struct statx old;
+    if (remove_left(k) != FINE)
+        return TROUBLE;
+    int there = look_at(k, &old);
+    if (there < 0)
+        return failed(k->name, "look at");
+    int fresh = open(k->fresh, O_WRONLY | O_CREAT | O_EXCL | O_CLOEXEC, there ? 0600 : 0666);
     if (fresh < 0)
         return failed(k->name, "make the new file beside it");
-    int fine = keep_mode(k, fresh) && write_all(fresh, bytes, length) && fsync(fresh) == 0;
+    int fine = (!there || give_rights(fresh, &old)) && write_all(fresh, bytes, length) && fsync(fresh) == 0;
     int why = errno;
     if (close(fresh) != 0 && fine) {
         fine = 0;

@@ -5,6 +5,9 @@
  * The new bytes go to a file beside the kept one, .NAME.eskelvor-new, which is flushed to disk and then renamed onto
  * it; then the folder is flushed. A writer holds a lock on .NAME.eskelvor-lock, from before it reads to after it has
  * written. What a killed writer left of a new file is removed by the next writer. The lock file stays.
+ *
+ * The new file and the lock file have the group and mode of the old one, and its owner where the system lets this user
+ * give a file away.
  */
 #ifndef DESK_KEEP_H
 #define DESK_KEEP_H
@@ -24,6 +27,10 @@ typedef struct kept {
 
 /* Takes the lock, waiting so many seconds for another writer. A link is followed. */
 int keep_hold(kept *k, const char *file, long wait);
+
+/* Whether a held file that is there may be replaced: this user may write it, its mode lets someone write it (root may
+ * without), and it has no second name, which would part from it. */
+int keep_may_replace(const kept *k);
 
 /* Writes the new file beside the kept one and flushes it to disk. */
 int keep_write(kept *k, const uint8_t *bytes, size_t length);

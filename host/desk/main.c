@@ -85,9 +85,9 @@ static int run(int count, char **words)
 }
 
 /*
- * A standard descriptor that the caller closed is given to /dev/null: the next file that is opened would have its number,
- * and what is told would be written into that file. It is opened for the other direction, so that a write to a closed
- * output is still told as one that failed. Gives whether all three are held.
+ * A standard descriptor that the caller closed is given to /dev/null: the next file that is opened would have its
+ * number, and what is told would be written into that file. It is opened for the other direction, so that a write to a
+ * closed output is still told as one that failed. Gives whether all three are held.
  */
 static int hold_descriptors(void)
 {

@@ -69,6 +69,68 @@ chmod 640 b
 answers 0 'an add through a link' board linked add XY0002 $first
 [ -L linked ] || fail 'the link was replaced'
 [ "$(ls -l b | cut -c 1-10)" = -rw-r----- ] || fail 'the mode is another'
+
+# rights: the lock's and the board's; second names
+rights() { stat -c '%a %u %g' "$1"; }
+answers 0 'a board that a group shares' board shared create 2
+chmod 660 shared
+group=$(id -G | tr ' ' '\n' | tail -1)
+if [ "$(id -u)" = 0 ]; then chown 12345:54321 shared; else chgrp "$group" shared; fi
+before=$(rights shared)
+(umask 077 && eskelvor board shared add XY0001 $first >out 2>err) || fail 'an add'
+[ "$(rights shared)" = "$before" ] || fail "was $before, is $(rights shared)"
+[ "$(stat -c '%a %g' .shared.eskelvor-lock)" = "660 ${before##* }" ] || fail 'the lock has other rights'
+if [ "$(id -u)" = 0 ] && command -v setpriv >/dev/null; then
+    chmod 755 .
+    mkdir ours && chown 12345:54321 ours && chmod 2770 ours && mv shared .shared.eskelvor-lock ours
+    as() { # USER WORD..: as that user of the group
+        user=$1
+        shift
+        setpriv --reuid "$user" --regid 54321 --clear-groups "$root/host/tool" run eskelvor "$@" >out 2>err
+    }
+    if as 12346 --version; then
+        as 12346 board ours/shared add XY0002 $first || fail 'another of the group'
+        [ "$(stat -c '%a %g' ours/shared)" = '660 54321' ] || fail 'its group or mode is another'
+        as 12345 board ours/shared add XY0002 $first || fail 'the first of the group again'
+        chmod 640 ours/shared
+        ! as 12346 board ours/shared add XY0002 $first || fail 'one who may not write it'
+        cases=$((cases + 3))
+    else
+        echo 'board: other users cannot run the program here; that case is passed over'
+    fi
+fi
+cp b unwritable
+chmod 440 unwritable
+cp unwritable before
+for verb in "add XY0001 $first" 'take XY0002'; do
+    # shellcheck disable=SC2086
+    answers 2 "a board without write permission: $verb" board unwritable $verb
+    err_is 'eskelvor: unwritable: it may not be written; it is left as it is'
+    out_is
+done
+cmp -s unwritable before || fail 'the board is another'
+answers 0 'it may be read' board unwritable check
+cp b named
+ln named named2
+cp named before
+for verb in "add XY0001 $first" 'take XY0002'; do
+    # shellcheck disable=SC2086
+    answers 2 "a board with a second name: $verb" board named $verb
+    err_is 'eskelvor: named: it has a second name, a hard link, which would part from it; it is left as it is'
+    out_is
+done
+cmp -s named before || fail 'the board is another'
+rm named2
+answers 0 'with one name again' board named take XY0002
+cp b lured
+echo precious >prey
+ln -s prey .lured.eskelvor-lock
+answers 2 'a lock file that is a link' board lured add XY0001 $first
+err_has '.lured.eskelvor-lock: the lock file is a link, and is not followed'
+ln -sf made .lured.eskelvor-lock
+answers 2 'and leads nowhere' board lured add XY0001 $first
+[ ! -e made ] || fail 'a file was made through the link'
+
 answers 0 'eight writers at once' board many create 8
 writers=''
 for i in 1 2 3 4 5 6 7 8; do

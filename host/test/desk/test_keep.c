@@ -183,6 +183,7 @@ static int stopped_create(long step, int how)
     int status = call(step, how, "create", "2", NULL), there = access(file, F_OK) == 0;
     HOLD(!there || *waiting() == 0, "a whole board, or none");
     HOLD(status != FINE || there, "status 0 where it is there");
+    HOLD(!there || call(-1, KILLED, "add", "XY0001", FIRST) == FINE, "what a killed creation left is no second name");
     return status;
 }
 
