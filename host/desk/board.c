@@ -5,15 +5,9 @@
 int board_create(const char *file, long slots, long wait)
 {
     static board empty;
-    kept k;
+    static uint8_t packed[BOARD_MOST];
     empty.n = (size_t)slots;
-    int status = keep_hold(&k, file, wait);
-    if (status == FINE)
-        status = board_write(&k, &empty);
-    if (status == FINE)
-        status = keep_create(&k);
-    keep_release(&k);
-    return status;
+    return keep_new(file, packed, board_pack(&empty, packed), wait);
 }
 
 int board_hold(kept *k, board *b, const char *file, long wait)
@@ -72,4 +66,19 @@ int board_take(board *b, const char *designator, uint8_t *out, size_t *length)
 int board_waiting(board *b, const char *designator, uint8_t *out, size_t *length)
 {
     return take(b, designator, out, length, ESK_NOTHING);
+}
+
+int board_return(board *b, const char *designator, const uint8_t *text, size_t length, size_t *waiting)
+{
+    uint8_t later[ESK_COMMAND_BYTES], both[ESK_COMMAND_BYTES];
+    size_t came = 0;
+    int status = board_waiting(b, designator, later, &came);
+    if (status != FINE)
+        return status;
+    if (came == 0)
+        return board_add(b, designator, text, length, waiting);
+    esk_answer a = esk_join(text, length, later, came, both, sizeof both);
+    if (a.code != ESK_ACCEPTED)
+        return refuse_plain(designator, A_COMMAND, a.code, NULL);
+    return board_add(b, designator, both, a.length, waiting);
 }

@@ -20,4 +20,8 @@ int board_take(board *b, const char *designator, uint8_t *out, size_t *length);
 /* What would be taken; a length of 0 where nothing waits. The board that was read is used up. */
 int board_waiting(board *b, const char *designator, uint8_t *out, size_t *length);
 
+/* Puts an accepted command that was taken back, before all that has come to wait since: what waits is taken and joined
+ * behind it, and the join is added. Where nothing waits it is an add. */
+int board_return(board *b, const char *designator, const uint8_t *text, size_t length, size_t *waiting);
+
 #endif

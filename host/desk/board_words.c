@@ -10,10 +10,11 @@
 #include <string.h>
 #include <unistd.h>
 
-/* The words of one call: the board's file, and what the options say. */
+/* The words of one call: the board's file, what to do with it, and what the options say. */
 typedef struct call {
-    const char *file;
+    const char *file, *verb;
     long wait;
+    const char *to; /* the file for what is taken; NULL: standard output */
     intake in;
 } call;
 
@@ -52,21 +53,24 @@ static int tell_added(const char *designator, unsigned long commands, size_t len
     return FINE;
 }
 
+/* What puts a command on a board that was read: board_add or board_return. */
+typedef int (*putter)(board *b, const char *designator, const uint8_t *text, size_t length, size_t *waiting);
+
 /* All the commands or none: what is accepted is told once it is on disk. */
-static int add(call *c, int count, char **words)
+static int put(call *c, putter onto, int count, char **words)
 {
     static board b;
     static joined all;
     size_t length = 0;
     kept k;
     if (count < 2)
-        return trouble("add", "give the aircraft's designator and a command");
+        return trouble(c->verb, "give the aircraft's designator and a command");
     int status = gather(&c->in, count - 1, words + 1, &all);
     if (status != FINE)
         return status;
     status = board_hold(&k, &b, c->file, c->wait);
     if (status == FINE)
-        status = board_add(&b, words[0], all.text, all.length, &length);
+        status = onto(&b, words[0], all.text, all.length, &length);
     if (status == FINE)
         status = board_write(&k, &b);
     if (status == FINE)
@@ -75,8 +79,12 @@ static int add(call *c, int count, char **words)
     return status == FINE ? tell_added(words[0], all.texts, length) : status;
 }
 
-static void tell_taken(const char *designator, const uint8_t *text, size_t length)
+static void tell_taken(const char *designator, const uint8_t *text, size_t length, const char *to)
 {
+    if (!as_json && to != NULL) {
+        printf("taken: the %lu bytes that waited for %s are in %s\n", (unsigned long)length, designator, to);
+        return;
+    }
     if (!as_json) {
         fwrite(text, 1, length, stdout);
         putchar('\n');
@@ -88,11 +96,13 @@ static void tell_taken(const char *designator, const uint8_t *text, size_t lengt
     json_word("designator", designator);
     json_number("length", (long long)length);
     json_text("text", text, length);
+    if (to != NULL)
+        json_word("file", to);
     json_close();
 }
 
 /* All that was told is out of this program, and on disk where standard output is a file. */
-static int hand_out(void)
+static int flush_output(void)
 {
     if (tell_end(FINE) != FINE)
         return TROUBLE;
@@ -101,10 +111,34 @@ static int hand_out(void)
     return failed("standard output", "flush");
 }
 
-/*
- * The new board is made ready, the command is handed out, and only then is the new board put in place. A kill between
- * the two leaves the command on the board: it may be handed out twice, and is never lost.
- */
+/* Hands a text out: to standard output, or into a new file, with a line end, where it is on disk. */
+static int hand_out(const call *c, const char *designator, const uint8_t *text, size_t length)
+{
+    uint8_t line[ESK_COMMAND_BYTES + 1];
+    if (c->to == NULL) {
+        tell_taken(designator, text, length, NULL);
+        return flush_output();
+    }
+    memcpy(line, text, length);
+    line[length] = '\n';
+    return keep_new(c->to, line, length + 1, c->wait);
+}
+
+/* The new board is made ready, the command is handed out, and only then is the new board put in place. A kill between
+ * the two leaves the command on the board: it may be handed out twice, and is never lost. */
+static int hand_over(const call *c, kept *k, const char *designator, const uint8_t *text, size_t length)
+{
+    int status = hand_out(c, designator, text, length);
+    if (status != FINE) {
+        keep_drop(k);
+        trouble(designator, "not handed out; it still waits");
+    } else if (keep_replace(k) != FINE)
+        status = trouble(designator, "handed out, and may still wait: take it again");
+    else if (c->to != NULL)
+        tell_taken(designator, text, length, c->to);
+    return status;
+}
+
 static int take(const call *c, int count, char **words)
 {
     static board b;
@@ -113,20 +147,15 @@ static int take(const call *c, int count, char **words)
     kept k;
     if (count != 1)
         return trouble("take", "give the aircraft's designator");
+    if (c->to != NULL && strcmp(c->to, "-") == 0)
+        return trouble("--to", "give a file; without --to it goes to standard output");
     int status = board_hold(&k, &b, c->file, c->wait);
     if (status == FINE)
         status = board_take(&b, words[0], text, &length);
     if (status == FINE)
         status = board_write(&k, &b);
-    if (status == FINE) {
-        tell_taken(words[0], text, length);
-        status = hand_out();
-        if (status != FINE) {
-            keep_drop(&k);
-            trouble(words[0], "not handed out; it still waits");
-        } else if (keep_replace(&k) != FINE)
-            status = trouble(words[0], "handed out, and may still wait: take it again");
-    }
+    if (status == FINE)
+        status = hand_over(c, &k, words[0], text, length);
     keep_release(&k);
     return status;
 }
@@ -185,11 +214,12 @@ static int look(const call *c, int lists)
 static int run(int count, char **words)
 {
     const char *wait = "10";
-    call c = {NULL, 0, {0, 0, 0, NULL, NULL}};
+    call c = {NULL, NULL, 0, NULL, {0, 0, 0, NULL, NULL}};
     const option known[] = {{"--wait", NULL, &wait, NULL},
+                            {"--to", NULL, &c.to, NULL},
                             {"--text", NULL, NULL, &c.in.typed},
                             {"--exact", NULL, NULL, &c.in.exact}};
-    if (take_options(&count, words, known, 3) != FINE)
+    if (take_options(&count, words, known, 4) != FINE)
         return TROUBLE;
     c.wait = whole_number(wait, 0, 86400);
     if (c.wait < 0)
@@ -197,22 +227,28 @@ static int run(int count, char **words)
     if (count < 2)
         return trouble(NULL, "give the board's file and what to do; --help tells more");
     c.file = words[0];
-    if (strcmp(words[1], "create") == 0)
+    c.verb = words[1];
+    if (c.to != NULL && strcmp(c.verb, "take") != 0)
+        return trouble("--to", "only a taking has it");
+    if (strcmp(c.verb, "create") == 0)
         return create(&c, count - 2, words + 2);
-    if (strcmp(words[1], "add") == 0)
-        return add(&c, count - 2, words + 2);
-    if (strcmp(words[1], "take") == 0)
+    if (strcmp(c.verb, "add") == 0)
+        return put(&c, board_add, count - 2, words + 2);
+    if (strcmp(c.verb, "return") == 0)
+        return put(&c, board_return, count - 2, words + 2);
+    if (strcmp(c.verb, "take") == 0)
         return take(&c, count - 2, words + 2);
-    if (count == 2 && strcmp(words[1], "list") == 0)
+    if (count == 2 && strcmp(c.verb, "list") == 0)
         return look(&c, 1);
-    if (count == 2 && strcmp(words[1], "check") == 0)
+    if (count == 2 && strcmp(c.verb, "check") == 0)
         return look(&c, 0);
-    return trouble(words[1], "no such thing to do with a board; --help tells what there is");
+    return trouble(c.verb, "no such thing to do with a board; --help tells what there is");
 }
 
 const subcommand board_subcommand = {
     "board",
-    "FILE create N | add DESIGNATOR COMMAND.. | take DESIGNATOR\n"
+    "FILE create N | add DESIGNATOR COMMAND..\n"
+    "           | take [--to FILE] DESIGNATOR | return DESIGNATOR COMMAND..\n"
     "           | list | check",
     "Keeps the board of waiting commands in a file",
     "  create N     makes a board of N slots, at most 64; a file that is there stays\n"
@@ -220,6 +256,9 @@ const subcommand board_subcommand = {
     "               files as for eskelvor check\n"
     "  take         hands what waits for an aircraft to standard output, and frees\n"
     "               its slot\n"
+    "  --to FILE    takes it into a new file instead, which is on disk before the\n"
+    "               slot is freed; a file that is there stays\n"
+    "  return       puts what was taken back, before all that waits by now\n"
     "  list         shows what waits\n"
     "  check        says whether the file and its board are sound\n"
     "  --wait S     waits S seconds for another writer of the board (10)\n"
@@ -228,7 +267,9 @@ const subcommand board_subcommand = {
     "\n"
     "A kill at any moment leaves the board as it was before, or as it is after. An\n"
     "add that was told accepted is on disk. A taking is handed out before the board\n"
-    "that lacks it is put in place: a kill between the two hands it out twice, and\n"
-    "never loses it. A damaged file is refused with code 10, and never mended.\n",
+    "that lacks it is put in place: a kill between the two hands it out twice. Into a\n"
+    "file it is never lost. A pipe may hold it when its reader stops, and then it is\n"
+    "lost: take it --to a file, send that, and return it where that fails. A damaged\n"
+    "file is refused with code 10, and never mended.\n",
     run,
 };

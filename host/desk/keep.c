@@ -181,15 +181,34 @@ int keep_replace(kept *k)
     return TROUBLE;
 }
 
+static int is_there(const char *file)
+{
+    return trouble(file, "there is a file of this name already; it is left as it is");
+}
+
 int keep_create(kept *k)
 {
     int fine = link(k->fresh, k->path) == 0;
     if (!fine && errno == EEXIST)
-        trouble(k->name, "there is a file of this name already; it is left as it is");
+        is_there(k->name);
     else if (!fine)
         failed(k->name, "put the new file in place");
     keep_drop(k);
     return fine ? flush_folder(k) : TROUBLE;
+}
+
+int keep_new(const char *file, const uint8_t *bytes, size_t length, long wait)
+{
+    kept k;
+    if (access(file, F_OK) == 0) /* it may be one that this program holds already: its lock is not touched */
+        return is_there(file);
+    int status = keep_hold(&k, file, wait);
+    if (status == FINE)
+        status = keep_write(&k, bytes, length);
+    if (status == FINE)
+        status = keep_create(&k);
+    keep_release(&k);
+    return status;
 }
 
 void keep_drop(kept *k)

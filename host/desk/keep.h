@@ -41,6 +41,9 @@ int keep_replace(kept *k);
 /* Puts the new file in place where there is none yet. */
 int keep_create(kept *k);
 
+/* All of that for a file that is not there yet: held, written, put in place, released. */
+int keep_new(const char *file, const uint8_t *bytes, size_t length, long wait);
+
 /* Removes the new file, if it was not put in place. */
 void keep_drop(kept *k);
 

@@ -57,11 +57,56 @@ answers 0 'a board of no slots is valid' board none create 0 --json
 json_has results.0.accepted=true results.0.code=0 results.0.slots=0 status=0
 answers 1 'and takes nothing' board none add XY0001 $first
 err_has 'code 9'
-for slip in 'b' 'b create' 'c create 65' 'c create -1' 'c create two' 'b add XY0001' 'b take' 'b take A B' 'b burn' \
+for slip in 'b' 'b create' 'c create 65' 'c create -1' 'c create two' 'b add XY0001' 'b take' 'b take A B' \
+    'b return XY0001' 'b burn' \
     'b list x' '--wait soon b list'; do
     # shellcheck disable=SC2086
     answers 2 "a slip: $slip" board $slip
 done
+
+# into a file, and back
+answers 0 'a board to take from' board t create 2
+answers 0 'with a command' board t add XY0001 $first
+cp t before
+echo mine >sent
+answers 2 'a file that is there is left as it is' board t take --to sent XY0001
+err_is 'eskelvor: sent: there is a file of this name already; it is left as it is' \
+    'eskelvor: XY0001: not handed out; it still waits'
+out_is
+[ "$(cat sent)" = mine ] || fail 'the file is another'
+answers 2 'no folder' board t take --to nowhere/sent XY0001
+answers 2 'no file' board t take --to - XY0001
+[ ! -e ./- ] || fail 'there is a file of the name -'
+answers 2 'the board itself is no such file' board t take --to t XY0001
+answers 2 'an option of the taking alone' board t list --to sent
+cmp -s t before || fail 'the board is another'
+rm sent
+answers 1 'nothing waits: no file' board t take --to sent XY0002
+[ ! -e sent ] || fail 'a file for nothing'
+answers 0 'into a file' board t take --to sent XY0001
+out_is 'taken: the 26 bytes that waited for XY0001 are in sent'
+[ "$(cat sent)" = $first ] || fail 'another text'
+answers 1 'the slot is free' board t take XY0001
+answers 0 'newer ones come to wait' board t add XY0001 $second
+answers 0 'back before the newer one' board t return XY0001 sent
+out_is 'accepted: 31 bytes wait for XY0001'
+answers 0 'the newer one has the last word' board t take --json --to=again XY0001
+json_has results.0.text=$both results.0.file=again results.0.length=31 status=0
+answers 1 'a text that is no command is not returned' board t return XY0001 AWR04
+answers 0 'two that set the same' board t add XY0001 AWR049999999000400000/301/
+answers 0 'returned' board t return XY0001 --json AWR049999999000400000/151/
+json_has results.0.accepted=true results.0.designator=XY0001 results.0.commands=1 results.0.length=26 status=0
+answers 0 'the newer one stays, added it would be the other' board t take XY0001
+out_is AWR049999999000400000/301/
+answers 0 'where nothing waits it is an add' board t return XY0001 again
+answers 0 'for another' board t add XY0002 $first
+answers 1 'where no slot is free it is refused as an add is' board t return XY0003 again
+err_has 'code 9'
+answers 0 'on a full board, where its aircraft has a slot' board t return XY0001 $first
+answers 0 'both wait' board t list
+out_is 't: valid, 2 of 2 slots used' "  slot  1  XY0001   31 bytes  $both" "  slot  2  XY0002   26 bytes  $first"
+answers 1 'a designator in small letters' board t return xy0001 $first
+err_has 'designator: refused: code 4'
 
 # links, the file's mode, and other writers
 ln -s b linked

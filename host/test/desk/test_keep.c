@@ -1,7 +1,7 @@
 /*
  * Files that are kept: what is left of a board's file when the program is killed, or a call of the system fails, at
- * each step of an add and of a taking; every bit of a board's file flipped, every length cut; the same for a
- * configuration's.
+ * each step of an add, a taking, a return and a creation; every bit of a board's file flipped, every length cut; the
+ * same for a configuration's.
  *
  * The calls of the system that put a file in place are stood in for here, each by a sibling that does the same, so that
  * the one of a given number can kill the process or fail.
@@ -97,7 +97,7 @@ int unlink(const char *path)
 #define BOTH "AWR041199999100400009/300/2301/"
 
 static char folder[] = "/tmp/eskelvor-keep-XXXXXX";
-static char file[64], output[64];
+static char file[64], output[64], sent[64], to_sent[80];
 
 /* Calls `eskelvor board FILE ..` in a process of its own that stops at a step. Gives its status; -1: it was killed. */
 static int call(long step, int how, const char *verb, const char *designator, const char *command)
@@ -131,14 +131,20 @@ static const char *waiting(void)
     return text;
 }
 
-/* What the call wrote to standard output. */
-static const char *said(void)
+/* What a file holds. */
+static const char *text_of(const char *name)
 {
     static uint8_t bytes[2000];
     size_t length = 0;
-    HOLD(keep_read(output, bytes, sizeof bytes - 1, &length) == FINE, "its output is there");
+    HOLD(keep_read(name, bytes, sizeof bytes - 1, &length) == FINE, "the file is there");
     bytes[length] = 0;
     return (const char *)bytes;
+}
+
+/* What the call wrote to standard output. */
+static const char *said(void)
+{
+    return text_of(output);
 }
 
 static void fresh_board(const char *command)
@@ -177,6 +183,36 @@ static int stopped_take(long step, int how)
     return status;
 }
 
+/* A taking into a file that stops at a step: the text waits, or it is whole in the file. */
+static int stopped_take_to(long step, int how)
+{
+    fresh_board(BOTH);
+    unlink(sent);
+    int status = call(step, how, "take", "XY0001", to_sent);
+    int waits = strcmp(waiting(), BOTH) == 0, there = access(sent, F_OK) == 0;
+    HOLD(!there || strcmp(text_of(sent), BOTH "\n") == 0, "the whole text in the file, or no file");
+    HOLD(waits || (there && *waiting() == 0), "what no longer waits is in the file");
+    HOLD(status != FINE || (there && !waits), "status 0 where it is there and is gone");
+    HOLD(status == FINE || *said() == 0 || !waits, "taken is told once it is so");
+    HOLD(call(-1, KILLED, "return", "XY0001", BOTH) == FINE, "it can be put back");
+    HOLD(strcmp(waiting(), BOTH) == 0, "and is what waited");
+    return status;
+}
+
+/* A return that stops at a step: the newer text waits, or the returned one with the newer one behind it. */
+static int stopped_return(long step, int how)
+{
+    fresh_board(SECOND);
+    int status = call(step, how, "return", "XY0001", FIRST);
+    int told = strncmp(said(), "accepted", 8) == 0;
+    HOLD(strcmp(waiting(), SECOND) == 0 || strcmp(waiting(), BOTH) == 0, "the newer text, or both");
+    HOLD(!told || strcmp(waiting(), BOTH) == 0, "accepted is told once it is on disk");
+    HOLD(status != FINE || told, "status 0 where it was told");
+    HOLD(call(-1, KILLED, "return", "XY0001", FIRST) == FINE, "the next writer finds all in order");
+    HOLD(strcmp(waiting(), BOTH) == 0, "returned again, it is the same text");
+    return status;
+}
+
 static int stopped_create(long step, int how)
 {
     unlink(file);
@@ -204,8 +240,10 @@ static void stops_anywhere(void)
 {
     for (int how = KILLED; how <= BROKEN; how++) {
         long add = each_step(stopped_add, how), take = each_step(stopped_take, how);
-        long create = each_step(stopped_create, how);
-        HOLD(add >= 6 && take >= 7 && create >= 6, "there are steps");
+        long create = each_step(stopped_create, how), back = each_step(stopped_return, how);
+        long into = each_step(stopped_take_to, how);
+        HOLD(add >= 6 && take >= 7 && create >= 6 && back >= 6 && into >= 13, "there are steps");
+        printf("test_keep: stopped at each of %ld steps of a return, %ld of a taking into a file\n", back, into);
         printf("test_keep: stopped at each of %ld steps of an add, %ld of a taking, %ld of a creation (%s)\n", add,
                take, create, how == KILLED ? "killed" : how == NO_SPACE ? "disk full" : "disk broken");
     }
@@ -320,6 +358,8 @@ int main(void)
     HOLD(mkdtemp(folder) != NULL, "a folder");
     snprintf(file, sizeof file, "%s/board", folder);
     snprintf(output, sizeof output, "%s/output", folder);
+    snprintf(sent, sizeof sent, "%s/sent", folder);
+    snprintf(to_sent, sizeof to_sent, "--to=%s", sent);
     stops_anywhere();
     second_writer();
     flipped_board();
@@ -329,6 +369,9 @@ int main(void)
     cut_config();
     snprintf(lock, sizeof lock, "%s/.board.eskelvor-lock", folder);
     unlink(lock);
+    snprintf(lock, sizeof lock, "%s/.sent.eskelvor-lock", folder);
+    unlink(lock);
+    unlink(sent);
     unlink(file);
     unlink(output);
     HOLD(rmdir(folder) == 0, "nothing else is left in the folder");
