@@ -69,12 +69,21 @@ static int give_rights(int file, const struct statx *s)
     return fchmod(file, s->stx_mode & 0777) == 0;
 }
 
+/* Whether the lock file is a file under this one name: under another it may be anything of another user's. */
+static int is_own_file(int lock)
+{
+    struct statx s;
+    return statx(lock, "", AT_EMPTY_PATH, STATX_BASIC_STATS, &s) == 0 && S_ISREG(s.stx_mode) && s.stx_nlink == 1;
+}
+
 /* Those who may write the kept file may take its lock. Another user's lock file cannot be given other rights: it is
  * then as it was, and holds as well. */
 static void share_lock(const kept *k)
 {
     struct statx s;
-    int shared = look_at(k, &s) == 1 && (s.stx_mode & ANY_MAY_WRITE) != 0 && give_rights(k->locked, &s);
+    if (look_at(k, &s) != 1 || (s.stx_mode & ANY_MAY_WRITE) == 0 || !is_own_file(k->locked))
+        return;
+    int shared = give_rights(k->locked, &s);
     (void)shared;
 }
 

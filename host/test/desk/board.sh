@@ -175,6 +175,13 @@ err_has '.lured.eskelvor-lock: the lock file is a link, and is not followed'
 ln -sf made .lured.eskelvor-lock
 answers 2 'and leads nowhere' board lured add XY0001 $first
 [ ! -e made ] || fail 'a file was made through the link'
+[ "$(cat prey)" = precious ] || fail 'the file behind the link is another'
+rm .lured.eskelvor-lock
+chmod 600 prey
+chmod 666 lured
+ln prey .lured.eskelvor-lock
+answers 0 'a lock file with a second name is locked' board lured add XY0002 $first
+[ "$(stat -c %a prey)" = 600 ] || fail 'a file under another name got the rights of the board'
 
 answers 0 'eight writers at once' board many create 8
 writers=''
