@@ -20,8 +20,10 @@ pause() {
     sleep "$(printf '%d.%06d' $((pause / 1000000)) $((pause % 1000000)))"
 }
 
-# Starts a call, and kills it after a pause.
+# Starts a call, and kills it after a pause: which may be before it has opened its output, where the last call's words
+# would still stand.
 interrupted() {
+    : >call
     "$root/host/tool" run eskelvor board b "$@" >call 2>/dev/null &
     call=$!
     pause
