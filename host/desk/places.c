@@ -1,5 +1,7 @@
 #include "places.h"
 
+#include "mark.h"
+
 #include <stdio.h>
 
 /* A field and the bytes it has. */
@@ -23,11 +25,72 @@ static const field later_fields[] = {
     {1, "quality"},
 };
 
-static const field command_head[] = {
-    {5, "AWR04"},         {1, "flag AMDAR"},   {1, "flag inhibit hours"}, {1, "flag regions"}, {1, "flag airports"},
-    {1, "flag ascent"},   {1, "flag enroute"}, {1, "flag descent"},       {1, "downlink"},     {1, "indicator E2"},
-    {1, "indicator E3"},  {1, "indicator E4"}, {1, "indicator E5"},       {1, "indicator E6"}, {1, "indicator E7"},
-    {1, "indicator E8"},  {1, "indicator E9"}, {1, "delimiter"},
+/* A figure of a command: where its bytes stand in its section (0 is the head), and what may stand there. */
+typedef struct figure {
+    int section;
+    size_t offset, width;
+    const char *name, *range; /* no range: nothing but the figure's own bytes */
+} figure;
+
+static const figure figures[] = {
+    {0, 0, 5, "AWR04", NULL},
+    {0, 5, 1, "flag AMDAR", "0, 1 or 9"},
+    {0, 6, 1, "flag inhibit hours", "0, 1 or 9"},
+    {0, 7, 1, "flag regions", "0, 1 or 9"},
+    {0, 8, 1, "flag airports", "0, 1 or 9"},
+    {0, 9, 1, "flag ascent", "0, 1 or 9"},
+    {0, 10, 1, "flag enroute", "0, 1 or 9"},
+    {0, 11, 1, "flag descent", "0, 1 or 9"},
+    {0, 12, 1, "downlink", "0, 1 or 2"},
+    {0, 13, 1, "indicator E2", "0 or 2"},
+    {0, 14, 1, "indicator E3", "0 or 3"},
+    {0, 15, 1, "indicator E4", "0 or 4"},
+    {0, 16, 1, "indicator E5", "0 or 5"},
+    {0, 17, 1, "indicator E6", "0 or 6"},
+    {0, 18, 1, "indicator E7", "0"},
+    {0, 19, 1, "indicator E8", "0 or 8"},
+    {0, 20, 1, "indicator E9", "0 or 9"},
+    {0, 21, 1, "delimiter", NULL},
+    {4, 0, 2, "interval", "01 to 60"},
+    {4, 2, 1, "maximum wind", "0 or 1"},
+    {4, 3, 1, "delimiter", NULL},
+    {5, 0, 1, "mode", "0 or 1"},
+    {5, 1, 2, "series 1 interval", "03 to 20"},
+    {5, 3, 3, "series 1 duration", "030 to 600"},
+    {5, 6, 2, "series 2 interval", "03 to 60"},
+    {5, 8, 3, "total duration", "051 to 111"},
+    {5, 11, 3, "top", "150 to 350"},
+    {5, 14, 1, "list", "1 or 2"},
+    {5, 15, 1, "timer", "0 or 1"},
+    {5, 16, 1, "delimiter", NULL},
+    {6, 0, 1, "routine", "0 or 1"},
+    {6, 1, 1, "delimiter", NULL},
+    {8, 0, 1, "routine", "0 or 1"},
+    {8, 1, 1, "delimiter", NULL},
+    {9, 0, 2, "start hour", "00 to 23"},
+    {9, 2, 2, "end hour", "00 to 23"},
+    {9, 4, 1, "delimiter", NULL},
+};
+
+/* What the lists of sections 2 and 3 are made of: a count, and as many items of these figures. */
+static const figure box_figures[] = {
+    {2, 0, 3, "north edge", "00 to 90 and N or S"},
+    {2, 3, 3, "south edge", "00 to 90 and N or S"},
+    {2, 6, 4, "west edge", "000 to 180 and E or W"},
+    {2, 10, 4, "east edge", "000 to 180 and E or W"},
+};
+
+static const figure airfield_figures[] = {{3, 0, 4, "airfield", "four letters A to Z or digits"}};
+
+/* The lists of a section, in their order, with the counts' range, and what stands behind them. */
+static const figure lists[] = {
+    {2, 0, 2, "reporting boxes", "00 to 16"},   {2, 0, 2, "inhibiting boxes", "00 to 16"},
+    {3, 0, 2, "ascent selected", "00 to 20"},   {3, 0, 2, "descent selected", "00 to 20"},
+    {3, 0, 2, "ascent inhibited", "00 to 20"},  {3, 0, 2, "descent inhibited", "00 to 20"},
+};
+
+static const figure behind_lists[] = {
+    {2, 0, 1, "delimiter", NULL}, {3, 0, 1, "routine", "0 or 1"}, {3, 1, 1, "delimiter", NULL},
 };
 
 #define COUNT(list) (sizeof(list) / sizeof *(list))
@@ -68,25 +131,83 @@ static void name_report_place(size_t place, char *to, size_t room)
         snprintf(to, room, "%s of observation %lu", name, (unsigned long)number);
 }
 
-/* The delimiters before a place, the head's own among them. */
-static size_t delimiters_before(const uint8_t *text, size_t place)
+/* The figure of a section that begins at an offset, or NULL. */
+static const figure *figure_at(const figure *from, size_t count, int section, size_t offset)
 {
-    size_t count = 0;
-    for (size_t i = 21; i < place; i++)
-        count += text[i] == '/';
-    return count;
+    for (size_t i = 0; i < count; i++)
+        if (from[i].section == section && from[i].offset == offset)
+            return &from[i];
+    return NULL;
 }
 
-/* The sections named stand one behind the other, and the only solidi are the ones that end them. */
-static void name_section(const uint8_t *text, size_t place, char *to, size_t room)
+/* A place of a command: its section, the figure that begins there or NULL, and the list and item that it stands in. */
+typedef struct spot {
+    int section; /* 0 the head, -1 behind the last delimiter */
+    const figure *figure;
+    const char *list; /* NULL: in none */
+    size_t item;      /* from 1; 0 is the list's count */
+} spot;
+
+/* Sections 2 and 3: the lists before the place have been read, so that their counts are digits. */
+static void find_in_lists(spot *s, const uint8_t *at, size_t offset)
 {
-    size_t ended = delimiters_before(text, place), named = 0;
-    for (int k = 2; k <= 9; k++)
-        if (text[11 + k] != '0' && ++named == ended) {
-            snprintf(to, room, "section %d", k);
+    const figure *parts = s->section == 2 ? box_figures : airfield_figures;
+    size_t count = s->section == 2 ? COUNT(box_figures) : COUNT(airfield_figures), size = s->section == 2 ? 14 : 4;
+    for (size_t i = 0; i < COUNT(lists); i++) {
+        if (lists[i].section != s->section)
+            continue;
+        if (offset < 2) {
+            s->figure = offset == 0 ? &lists[i] : NULL;
             return;
         }
-    snprintf(to, room, BEHIND_THE_LAST);
+        size_t items = (size_t)(at[0] - '0') * 10 + (size_t)(at[1] - '0');
+        if (offset - 2 < items * size) {
+            s->list = lists[i].name;
+            s->item = (offset - 2) / size + 1;
+            s->figure = figure_at(parts, count, s->section, (offset - 2) % size);
+            return;
+        }
+        at += 2 + items * size;
+        offset -= 2 + items * size;
+    }
+    s->figure = figure_at(behind_lists, COUNT(behind_lists), s->section, offset);
+}
+
+/* The sections named stand one behind the other, and the only solidi before a place are the ones that end them. */
+static spot find_spot(const uint8_t *text, size_t place)
+{
+    spot s = {place < 22 ? 0 : -1, NULL, NULL, 0};
+    size_t ended = 0, named = 0, start = 0;
+    for (size_t i = 21; i < place; i++)
+        if (text[i] == '/') {
+            ended++;
+            start = i + 1;
+        }
+    for (int k = 2; k <= 9 && s.section < 0; k++)
+        if (text[11 + k] != '0' && ++named == ended)
+            s.section = k;
+    if (s.section == 2 || s.section == 3)
+        find_in_lists(&s, text + start, place - start);
+    else
+        s.figure = figure_at(figures, COUNT(figures), s.section, place - start);
+    return s;
+}
+
+static void name_command_place(const uint8_t *text, size_t place, char *to, size_t room)
+{
+    spot s = find_spot(text, place);
+    const char *name = s.figure ? s.figure->name : NULL;
+    if (s.section < 0)
+        snprintf(to, room, BEHIND_THE_LAST);
+    else if (s.section == 0)
+        snprintf(to, room, "%s", name ? name : "");
+    else if (name == NULL)
+        snprintf(to, room, "section %d", s.section);
+    else if (s.list != NULL)
+        snprintf(to, room, "section %d, %s, %s %lu%s%s", s.section, s.list, s.section == 2 ? "box" : "airfield",
+                 (unsigned long)s.item, s.section == 2 ? ", " : "", s.section == 2 ? name : "");
+    else
+        snprintf(to, room, "section %d, %s", s.section, name);
 }
 
 void name_place(subject kind, const uint8_t *text, size_t length, size_t place, char *to, size_t room)
@@ -94,8 +215,18 @@ void name_place(subject kind, const uint8_t *text, size_t length, size_t place, 
     *to = 0;
     if (kind == A_REPORT)
         name_report_place(place, to, room);
-    else if (kind == A_COMMAND && place < 22)
-        snprintf(to, room, "%s", field_at(command_head, COUNT(command_head), place));
     else if (kind == A_COMMAND && place <= length)
-        name_section(text, place, to, room);
+        name_command_place(text, place, to, room);
+}
+
+void word_figure(subject kind, const uint8_t *text, size_t length, esk_answer a, char *to, size_t room)
+{
+    *to = 0;
+    if (kind != A_COMMAND || (a.code != ESK_BYTE && a.code != ESK_RANGE) || a.place > length)
+        return;
+    const figure *f = find_spot(text, a.place).figure;
+    if (f == NULL || f->range == NULL || f->width > length - a.place)
+        return;
+    size_t at = name_bytes(text + a.place, f->width, to, room);
+    snprintf(to + at, room - at, " is not %s", f->range);
 }

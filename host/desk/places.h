@@ -9,4 +9,8 @@
 /* Writes the field's name, or nothing where the place is in none. */
 void name_place(subject kind, const uint8_t *text, size_t length, size_t place, char *to, size_t room);
 
+/* Of a figure that is refused for its bytes or its range: what stands there, and what may. The verdict is the answer's;
+ * nothing is written where the layout has no range for the place. */
+void word_figure(subject kind, const uint8_t *text, size_t length, esk_answer a, char *to, size_t room);
+
 #endif

@@ -126,7 +126,26 @@ void name_origin(const origin *from, char *to, size_t room)
         snprintf(to, room, "%s%s%s %lu", file, comma, from->unit, from->number);
 }
 
-static void refuse_as_json(const origin *from, subject kind, esk_answer a, const char *field, const uint8_t *text,
+/* A refusal's words: where it is, what its code means, and what is at fault where more is known than that. */
+typedef struct wording {
+    char field[96], because[160];
+} wording;
+
+static wording words_of(subject kind, esk_answer a, const uint8_t *text, size_t length)
+{
+    wording w = {"", ""};
+    if (a.code >= ESK_FIXED && a.code <= ESK_END)
+        name_place(kind, text, length, a.place, w.field, sizeof w.field);
+    word_figure(kind, text, length, a, w.because, sizeof w.because);
+    if (kind == A_DESIGNATOR) {
+        size_t at = name_bytes(text, length < 20 ? length : 20, w.because, sizeof w.because);
+        snprintf(w.because + at, sizeof w.because - at, "%s: a designator has six letters or digits, A to Z and 0 to 9",
+                 length > 20 ? ".." : "");
+    }
+    return w;
+}
+
+static void refuse_as_json(const origin *from, subject kind, esk_answer a, const wording *w, const uint8_t *text,
                            size_t length, unsigned long long whole)
 {
     json_object(NULL);
@@ -134,31 +153,45 @@ static void refuse_as_json(const origin *from, subject kind, esk_answer a, const
     json_origin(from);
     json_number("code", a.code);
     json_number("place", (long long)a.place);
-    json_word("meaning", meaning_at(kind, a.code, field));
-    json_word("field", *field ? field : NULL);
+    json_word("meaning", meaning_at(kind, a.code, w->field));
+    json_word("field", *w->field ? w->field : NULL);
+    json_word("because", *w->because ? w->because : NULL);
     json_number("length", (long long)whole);
     json_text("text", text, length);
     json_close();
 }
 
-int refuse(const origin *from, subject kind, esk_answer a, const uint8_t *text, size_t length, unsigned long long whole)
+static void tell_refusal(const origin *from, subject kind, esk_answer a, const wording *w, const uint8_t *text,
+                         size_t length, unsigned long long whole)
 {
-    char name[1200], field[80] = "";
-    if (a.code >= ESK_FIXED && a.code <= ESK_END)
-        name_place(kind, text, length, a.place, field, sizeof field);
-    if (as_json) {
-        refuse_as_json(from, kind, a, field, text, length, whole);
-        return REFUSED;
-    }
+    char name[NAME_ROOM];
     name_origin(from, name, sizeof name);
     fflush(stdout);
     fprintf(stderr, "eskelvor: %s%srefused: code %u at byte %lu%s%s: %s", name, *name ? ": " : "", (unsigned)a.code,
-            (unsigned long)a.place, *field ? ", " : "", field, meaning_at(kind, a.code, field));
-    if (a.code == ESK_LENGTH)
+            (unsigned long)a.place, *w->field ? ", " : "", w->field,
+            *w->because ? w->because : meaning_at(kind, a.code, w->field));
+    if (a.code == ESK_LENGTH && !*w->because)
         fprintf(stderr, ", this one %llu", whole);
     fputc('\n', stderr);
     mark_byte(stderr, text, length, a.place);
+}
+
+int refuse_because(const origin *from, subject kind, esk_answer a, const uint8_t *text, size_t length,
+                   unsigned long long whole, const char *because)
+{
+    wording w = words_of(kind, a, text, length);
+    if (because != NULL)
+        snprintf(w.because, sizeof w.because, "%s", because);
+    if (as_json)
+        refuse_as_json(from, kind, a, &w, text, length, whole);
+    else
+        tell_refusal(from, kind, a, &w, text, length, whole);
     return REFUSED;
+}
+
+int refuse(const origin *from, subject kind, esk_answer a, const uint8_t *text, size_t length, unsigned long long whole)
+{
+    return refuse_because(from, kind, a, text, length, whole, NULL);
 }
 
 int refuse_plain(const char *about, subject kind, unsigned code, const char *what)

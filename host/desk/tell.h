@@ -10,6 +10,8 @@
 
 extern int as_json;
 
+enum { NAME_ROOM = 4200 }; /* for a name as it is told */
+
 /* What a text is, for the words about a code and a place. */
 typedef enum subject { A_REPORT, A_COMMAND, A_FIELD, A_DESIGNATOR, A_BOARD, A_SETTINGS } subject;
 
@@ -36,6 +38,10 @@ int failed(const char *about, const char *doing);
  * of `whole` that it has. Gives REFUSED. */
 int refuse(const origin *from, subject kind, esk_answer answer, const uint8_t *text, size_t length,
            unsigned long long whole);
+
+/* The same with words on what is at fault, in place of what the code means; NULL for none. */
+int refuse_because(const origin *from, subject kind, esk_answer answer, const uint8_t *text, size_t length,
+                   unsigned long long whole, const char *because);
 
 /* The same where there is no text to show: `what` is a few words on what is at fault, or NULL. */
 int refuse_plain(const char *about, subject kind, unsigned code, const char *what);

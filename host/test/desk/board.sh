@@ -27,9 +27,12 @@ answers 1 'the second of two is refused: neither is added' board b add XY0001 AW
 err_has 'command 2: refused: code 8 at byte 8'
 cmp -s b before || fail 'the board is another'
 answers 1 'a designator in small letters' board b add xy0001 $first
-err_is 'eskelvor: designator: refused: code 4 at byte 0: a byte that is not allowed there' '  xy0001' '  ^'
+six='a designator has six letters or digits, A to Z and 0 to 9'
+err_is "eskelvor: designator: refused: code 4 at byte 0: xy0001: $six" '  xy0001' '  ^'
+answers 1 'a designator of five' board b take AU137
+err_is "eskelvor: designator: refused: code 4 at byte 0: AU137: $six" '  AU137' '  ^'
 answers 1 'a designator of five, for a machine' board b take --json XY000
-json_has results.0.code=4 results.0.text=XY000 status=1
+json_has results.0.code=4 results.0.text=XY000 "results.0.because=XY000: $six" status=1
 answers 0 'what waits' board b list
 out_is 'b: valid, 2 of 2 slots used' "  slot  1  XY0001   31 bytes  $both" "  slot  2  XY0002   31 bytes  $both"
 answers 0 'what waits, for a machine' board b list --json

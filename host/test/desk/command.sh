@@ -12,7 +12,7 @@ answers 0 'two, for a machine' check --json $none $second
 json_has results.0.accepted=true results.0.length=22 results.1.command=2 results.1.text=$second status=0
 
 answers 1 'a number that ends too early' check AWR049999999000400000/15
-err_is 'eskelvor: command 1: refused: code 8 at byte 24, section 4: the command ends inside a field' \
+err_is 'eskelvor: command 1: refused: code 8 at byte 24, section 4, maximum wind: the command ends inside a field' \
     '  AWR049999999000400000/15' \
     '                          ^'
 out_is
@@ -25,8 +25,10 @@ answers 1 'each code at its field' check --json AWR042999999000000000/ AWR049999
     AWR049999999000000700/
 json_has results.0.code=4 results.0.place=5 'results.0.field=flag AMDAR' \
     results.1.code=3 results.1.place=21 results.1.field=delimiter \
-    results.2.code=5 results.2.place=22 'results.2.field=section 4' \
-    results.3.code=6 results.3.place=24 'results.3.field=section 2' \
+    results.2.code=5 results.2.place=22 'results.2.field=section 4, interval' \
+    'results.2.meaning=a number outside its range' 'results.2.because=61 is not 01 to 60' \
+    results.3.code=6 results.3.place=24 'results.3.field=section 2, reporting boxes, box 1, north edge' \
+    results.3.because=null \
     results.4.code=7 results.4.place=27 'results.4.meaning=fields disagree' \
     results.5.code=4 results.5.place=18 'results.5.field=indicator E7' status=1
 answers 1 'one refused among accepted ones' check $none AWR04 $none
@@ -44,9 +46,43 @@ out_is 'command 1: accepted, 835 bytes'
 answers 1 'one byte more is code 1' check --json "${long}x"
 json_has results.0.code=1 results.0.place=0 results.0.length=836
 answers 1 'far into a long command the part round the mark is shown' check "${long%/*/}/2401/"
-err_is 'eskelvor: command 1: refused: code 5 at byte 830, section 9: a number outside its range' \
+err_is 'eskelvor: command 1: refused: code 5 at byte 830, section 9, start hour: 24 is not 00 to 23' \
     '  ..DEFGHABCDEFGHABCDEFGHABCDEFGH1/601/1060902005120021/1/0/2401/' \
     '                                                            ^'
+
+# Each figure of the layout, its range, and what stood there
+while IFS='|' read -r text at said; do
+    answers 1 "a figure in words: $said" check "AWR04$text"
+    err_has "command 1: refused: code $at, $said"
+done <<'END'
+9999993000000000/|4 at byte 11|flag descent: 3 is not 0, 1 or 9
+9999999300000000/|4 at byte 12|downlink: 3 is not 0, 1 or 2
+9999999000000003/|4 at byte 20|indicator E9: 3 is not 0 or 9
+9999999000000700/|4 at byte 18|indicator E7: 7 is not 0
+9999999020000000/17|5 at byte 22|section 2, reporting boxes: 17 is not 00 to 16
+9999999020000000/0191N10S010W010E00/|5 at byte 24|section 2, reporting boxes, box 1, north edge: 91N is not 00 to 90 and N or S
+9999999020000000/000110S45S110E155X/|4 at byte 36|section 2, inhibiting boxes, box 1, east edge: 155X is not 000 to 180 and E or W
+9999999003000000/21|5 at byte 22|section 3, ascent selected: 21 is not 00 to 20
+9999999003000000/01YMML02YPADyssy00000/|4 at byte 34|section 3, descent selected, airfield 2: yssy is not four letters A to Z or digits
+9999999003000000/000000002/|5 at byte 30|section 3, routine: 2 is not 0 or 1
+9999999003000000/000000001x|3 at byte 31|section 3, delimiter: a fixed byte is wrong
+9999999000400000/611/|5 at byte 22|section 4, interval: 61 is not 01 to 60
+9999999000400000/001/|5 at byte 22|section 4, interval: 00 is not 01 to 60
+9999999000400000/6x1/|4 at byte 22|section 4, interval: 6x is not 01 to 60
+9999999000400000/602/|5 at byte 24|section 4, maximum wind: 2 is not 0 or 1
+9999999000050000/2060902005120021/|4 at byte 22|section 5, mode: 2 is not 0 or 1
+9999999000050000/1020902005120021/|5 at byte 23|section 5, series 1 interval: 02 is not 03 to 20
+9999999000050000/1060292005120021/|5 at byte 25|section 5, series 1 duration: 029 is not 030 to 600
+9999999000050000/1060906105120021/|5 at byte 28|section 5, series 2 interval: 61 is not 03 to 60
+9999999000050000/1060902011220021/|5 at byte 30|section 5, total duration: 112 is not 051 to 111
+9999999000050000/1060902005135121/|5 at byte 33|section 5, top: 351 is not 150 to 350
+9999999000050000/1060902005120031/|4 at byte 36|section 5, list: 3 is not 1 or 2
+9999999000050000/1060902005120023/|4 at byte 37|section 5, timer: 3 is not 0 or 1
+9999999000406080/601/1/2/|5 at byte 28|section 8, routine: 2 is not 0 or 1
+9999999000400009/601/2324/|5 at byte 28|section 9, end hour: 24 is not 00 to 23
+END
+answers 1 'a control character in a figure is shown' check "$(printf 'AWR049999999000400000/6\0331/')"
+err_has 'section 4, interval: 6\x1b is not 01 to 60'
 
 printf '%s\n' $none >"$scratch/one"
 answers 0 'the line end of a file is no part of the command' check "$scratch/one"
@@ -67,7 +103,7 @@ answers 1 'of two CR one belongs to the line end' check "$scratch/crcr"
 err_has 'code 8 at byte 22'
 printf 'AWR04\0009999999000000000/\n' >"$scratch/nul"
 answers 1 'a byte 0 is seen' check "$scratch/nul"
-err_is "eskelvor: $scratch/nul, line 1: refused: code 4 at byte 5, flag AMDAR: a byte that is not allowed there" \
+err_is "eskelvor: $scratch/nul, line 1: refused: code 4 at byte 5, flag AMDAR: \\x00 is not 0, 1 or 9" \
     '  AWR04\x009999999000000000/' \
     '       ^'
 printf 'AWR04\0479\377\\99999000000000/\n' >"$scratch/odd"
