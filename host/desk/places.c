@@ -4,6 +4,8 @@
 
 #include <stdio.h>
 
+enum { LINE_END = 2, LATER_BYTES = 23 }; /* the bytes of a CR LF, and of a later observation */
+
 /* A field and the bytes it has. */
 typedef struct field {
     size_t bytes;
@@ -95,40 +97,54 @@ static const figure behind_lists[] = {
 
 #define COUNT(list) (sizeof(list) / sizeof *(list))
 
-/* The name of the field that holds the byte `place` of a run of fields, or NULL behind the last. */
-static const char *field_at(const field *fields, size_t count, size_t place)
+/* The field that holds the byte `place` of a run of fields, or NULL behind the last. `left` is then what it has from that
+ * byte on. */
+static const field *field_at(const field *fields, size_t count, size_t place, size_t *left)
 {
     for (size_t i = 0; i < count; i++) {
+        *left = fields[i].bytes - place;
         if (place < fields[i].bytes)
-            return fields[i].name;
+            return &fields[i];
         place -= fields[i].bytes;
     }
     return NULL;
 }
 
-/* Observations stand two in a line: 24 + 27 + 23 + 2 bytes to the end of the first, 23 + 23 + 2 in each after it. */
+/* The field of a report's place, and the number of its observation, 0 in the head. Observations stand two in a line: 24 +
+ * 27 + 23 + 2 bytes to the end of the first, 23 + 23 + 2 in each after it. NULL is the line end behind two. */
+static const field *report_field(size_t place, size_t *number, size_t *left)
+{
+    *number = 0;
+    if (place < 24)
+        return field_at(report_head, COUNT(report_head), place, left);
+    *number = 1;
+    if (place < 51)
+        return field_at(first_fields, COUNT(first_fields), place - 24, left);
+    *number = 2;
+    if (place < 76)
+        return field_at(later_fields, COUNT(later_fields), place - 51, left);
+    size_t in_line = (place - 76) % 48;
+    *number = 3 + (place - 76) / 48 * 2 + (in_line >= 23);
+    return field_at(later_fields, COUNT(later_fields), in_line < 23 ? in_line : in_line - 23, left);
+}
+
 static void name_report_place(size_t place, char *to, size_t room)
 {
-    const char *name = field_at(report_head, COUNT(report_head), place);
-    size_t number = 1;
-    if (name != NULL) {
-        snprintf(to, room, "%s", name);
-        return;
-    }
-    if (place < 51)
-        name = field_at(first_fields, COUNT(first_fields), place - 24);
-    else if (place < 76) {
-        number = 2;
-        name = field_at(later_fields, COUNT(later_fields), place - 51);
-    } else {
-        size_t in_line = (place - 76) % 48;
-        number = 3 + (place - 76) / 48 * 2 + (in_line >= 23);
-        name = field_at(later_fields, COUNT(later_fields), in_line < 23 ? in_line : in_line - 23);
-    }
-    if (name == NULL)
+    size_t number, left;
+    const field *f = report_field(place, &number, &left);
+    if (f == NULL)
         snprintf(to, room, "line end");
+    else if (number == 0)
+        snprintf(to, room, "%s", f->name);
     else
-        snprintf(to, room, "%s of observation %lu", name, (unsigned long)number);
+        snprintf(to, room, "%s of observation %lu", f->name, (unsigned long)number);
+}
+
+size_t report_field_end(size_t place, int whole_observation)
+{
+    size_t number, left;
+    const field *f = report_field(place, &number, &left);
+    return place + (f == NULL ? LINE_END : whole_observation ? LATER_BYTES : left);
 }
 
 /* The figure of a section that begins at an offset, or NULL. */

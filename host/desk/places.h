@@ -13,4 +13,7 @@ void name_place(subject kind, const uint8_t *text, size_t length, size_t place, 
  * nothing is written where the layout has no range for the place. */
 void word_figure(subject kind, const uint8_t *text, size_t length, esk_answer a, char *to, size_t room);
 
+/* Where the field of a report ends that begins at a place, or the later observation that does. */
+size_t report_field_end(size_t place, int whole_observation);
+
 #endif

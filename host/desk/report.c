@@ -3,6 +3,7 @@
 #include "observation.h"
 #include "options.h"
 #include "pieces.h"
+#include "places.h"
 #include "progress.h"
 #include "tell.h"
 
@@ -57,15 +58,34 @@ static int lacks_cr(const piece *p)
     return lost;
 }
 
-/* A piece that is refused for its length: where its bytes first depart from a report's. */
-static int refuse_length(const origin *from, const piece *p, esk_answer a)
+/* Where the bytes of a piece first depart from a report's; the bytes that it lacks are taken to be 0. */
+static esk_answer first_departure(const piece *p, size_t length)
 {
     uint8_t padded[ESK_REPORT_BYTES] = {0};
-    size_t length = p->length < sizeof padded ? p->length : sizeof padded;
     memcpy(padded, p->bytes, length);
-    esk_answer first = esk_report_check(padded, sizeof padded);
-    int status = refuse(from, A_REPORT, a, p->bytes, p->length, p->whole);
-    if (as_json)
+    return esk_report_check(padded, sizeof padded);
+}
+
+/* Whether all that a short piece has is as in a report: it departs from one in a field that it does not have whole. An
+ * absent observation, solidi from its first byte on, counts as one field. */
+static int is_cut(const piece *p, size_t length, esk_answer first)
+{
+    size_t solidi = first.place;
+    while (first.code == ESK_DISAGREE && solidi < length && p->bytes[solidi] == '/')
+        solidi++;
+    return length < ESK_REPORT_BYTES && report_field_end(first.place, solidi == length) > length;
+}
+
+/* A piece that is refused for its length: cut short, or where its bytes first depart from a report's. */
+static int refuse_length(const origin *from, const piece *p, esk_answer a)
+{
+    size_t length = p->length < ESK_REPORT_BYTES ? p->length : ESK_REPORT_BYTES;
+    esk_answer first = first_departure(p, length);
+    int cut = is_cut(p, length, first);
+    char because[80];
+    snprintf(because, sizeof because, "cut short: %lu bytes of %d are there", (unsigned long)length, ESK_REPORT_BYTES);
+    int status = refuse_because(from, A_REPORT, a, p->bytes, p->length, p->whole, cut ? because : NULL);
+    if (as_json || cut)
         return status;
     if (lacks_cr(p))
         fputs("  its line ends are not CR LF\n", stderr);

@@ -85,7 +85,20 @@ json_has results.0.code=1 results.0.length=223 results.1.offset=223 results.1.ac
 
 { cat "$examples/one.report"; head -c 77 "$examples/one.report"; } >"$scratch/cut"
 answers 1 'a file cut in its second report' report --json "$scratch/cut"
-json_has results.0.accepted=true results.1.code=1 results.1.length=77 status=1
+json_has results.0.accepted=true results.1.code=1 results.1.length=77 \
+    'results.1.because=cut short: 77 bytes of 220 are there' status=1
+for bytes in 1 9 15 16 23 24 26 50 52 74 75 76 77 98 100 122 123 124 170 219; do
+    head -c $bytes "$one" >"$scratch/cut"
+    answers 1 "cut behind byte $bytes: told as cut, not as departing" report "$scratch/cut"
+    err_has "report 1 from byte 0 on: refused: code 1 at byte 0: cut short: $bytes bytes of 220 are there"
+    ! grep -q depart "$scratch/err" || fail 'it departs from nothing'
+done
+{ head -c 90 "$one"; printf '//x///'; } >"$scratch/cut"
+answers 1 'a wrong byte before the cut still counts' report "$scratch/cut"
+err_has 'a report has 220 bytes, this one 96' "  its bytes first depart from a report's at byte 76"
+{ cat "$one" "$one"; head -c 219 "$one"; } >"$scratch/cut"
+answers 1 'one byte is missing at the end' report "$scratch/cut"
+err_has 'report 3 from byte 440 on: refused: code 1 at byte 0: cut short: 219 bytes of 220 are there'
 
 head -c 1000 /dev/zero | tr '\0' '/' >"$scratch/noise"
 answers 1 'bytes that are no report at all: in pieces of 220 bytes' report --json "$scratch/noise"
