@@ -9,8 +9,10 @@
  */
 #include "night.h"
 
+#include "config_file.h"
 #include "json.h"
 #include "options.h"
+#include "settings.h"
 
 #include <stdio.h>
 #include <string.h>
@@ -73,6 +75,62 @@ static int send(const char *file, int number)
     return FINE;
 }
 
+/* A part of a configuration as its command has it: the flags one by one, then the sections in their order. */
+typedef struct part {
+    const char *at;
+    int length;
+} part;
+
+static const int sections[] = {2, 3, 4, 5, 6, 8, 9};
+
+enum { SECTIONS = sizeof sections / sizeof *sections, SECTIONS_AT = 22, FLAGS_AT = 5 };
+
+static part part_of(const char *text, int number)
+{
+    part p = {text + FLAGS_AT + number, 1};
+    if (number < FLAGS)
+        return p;
+    p.at = text + SECTIONS_AT;
+    for (int i = FLAGS; i < number; i++)
+        p.at += strcspn(p.at, "/") + 1;
+    p.length = (int)strcspn(p.at, "/");
+    return p;
+}
+
+static void tell_difference(int number, part holds, part shown)
+{
+    int k = number < FLAGS ? 0 : sections[number - FLAGS];
+    if (as_json) {
+        json_object(NULL);
+        if (k == 0)
+            json_word("flag", flag_names[number]);
+        else
+            json_number("section", k);
+        json_text("holds", holds.at, (size_t)holds.length);
+        json_text("shown", shown.at, (size_t)shown.length);
+        json_close();
+        return;
+    }
+    if (k == 0)
+        printf("          flag %s", flag_names[number]);
+    else
+        printf("          section %d, %s", k, section_title(k));
+    printf(": %.*s, the desk shows %.*s\n", holds.length, holds.at, shown.length, shown.at);
+}
+
+/* Tells each part in which what an aircraft holds is not what the desk shows. */
+static void tell_differences(const esk_settings *holds, const esk_settings *shown)
+{
+    char here[ESK_COMMAND_BYTES + 1] = "", there[ESK_COMMAND_BYTES + 1] = "";
+    config_text(holds, (uint8_t *)here);
+    config_text(shown, (uint8_t *)there);
+    for (int i = 0; i < FLAGS + SECTIONS; i++) {
+        part one = part_of(here, i), other = part_of(there, i);
+        if (one.length != other.length || memcmp(one.at, other.at, (size_t)one.length) != 0)
+            tell_difference(i, one, other);
+    }
+}
+
 static void tell_held(const char *event, const char *lead, int aircraft, const esk_settings *now, int same)
 {
     if (as_json) {
@@ -82,10 +140,15 @@ static void tell_held(const char *event, const char *lead, int aircraft, const e
         json_number("ascent", now->flags[4]);
         json_number("series_1_interval_seconds", now->ascent.interval1);
         json_bool("as_the_desk_shows", same);
+        json_list("differs");
+        tell_differences(now, &desk[aircraft]);
         json_close();
-    } else
-        printf("  %-6s  ascent reports %s, a sample every %d seconds: %s\n", lead, now->flags[4] ? "on" : "off",
-               now->ascent.interval1, same ? "as the desk shows" : "NOT WHAT THE DESK SHOWS");
+        json_close();
+        return;
+    }
+    printf("  %-6s  ascent reports %s, a sample every %d seconds: %s\n", lead, now->flags[4] ? "on" : "off",
+           now->ascent.interval1, same ? "as the desk shows" : "NOT WHAT THE DESK SHOWS:");
+    tell_differences(now, &desk[aircraft]);
 }
 
 /* An aircraft comes back, and applies what it is handed. Counts it where it then holds what the desk shows. */

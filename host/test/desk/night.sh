@@ -11,6 +11,17 @@ out_has '26 of 29 commands accepted' 'A queue of 16 would have taken 27, dropped
     'AU0137  ascent reports off, a sample every 6 seconds: NOT WHAT THE DESK SHOWS' \
     'AU0245  ascent reports on, a sample every 3 seconds: NOT WHAT THE DESK SHOWS' \
     'refused: code 9, no slot is free'
+grep -A 3 'NZ700. .*NOT WHAT' "$scratch/out" >"$scratch/differs"
+mv "$scratch/differs" "$scratch/out"
+alike='ascent reports on, a sample every 6 seconds: NOT WHAT THE DESK SHOWS:'
+out_is "  NZ7001  $alike" \
+    '          flag airports: 0, the desk shows 1' \
+    '          section 3, airfields for the schemes of ascent and descent: 000000000, the desk shows 01YMML0000000' \
+    '          section 9, the hours of silence: 0000, the desk shows 2301' \
+    "  NZ7002  $alike" \
+    '          flag inhibit hours: 1, the desk shows 0' \
+    '  FJ0003  ascent reports off, a sample every 6 seconds: NOT WHAT THE DESK SHOWS:' \
+    '          flag ascent: 0, the desk shows 1'
 [ -z "$(ls -A "$TMPDIR")" ] || fail 'something is left in the folder'
 
 # What the board hands over is what eskelvor join makes of the aircraft's accepted commands.
@@ -26,7 +37,10 @@ done
 answers 0 'for a machine' night --json
 json_has results.0.event=add results.0.designator=AU0137 results.0.code=0 results.0.waiting=22 results.8.code=9 \
     results.12.code=4 results.12.place=37 results.29.event=hand-over results.29.as_the_desk_shows=true \
-    'results.35.event=old queue' results.35.as_the_desk_shows=false status=0
+    'results.35.event=old queue' results.35.as_the_desk_shows=false \
+    results.37.differs.0.flag=airports results.37.differs.0.holds=0 results.37.differs.0.shown=1 \
+    results.37.differs.2.section=9 results.37.differs.2.holds=0000 results.37.differs.2.shown=2301 \
+    'results.38.differs.0.flag=inhibit hours' status=0
 answers 2 'it takes no words' night now
 TMPDIR=$scratch/nowhere
 answers 2 'a folder that is not there' night
