@@ -1,5 +1,7 @@
 #include "json.h"
 
+#include "mark.h"
+
 #include <stdio.h>
 #include <string.h>
 
@@ -11,17 +13,37 @@ static struct {
     int filled[DEEPEST];  /* whether it holds something already */
 } open;
 
-static void quoted(const void *bytes, size_t length)
+static void quoted_byte(uint8_t byte)
+{
+    if (byte == '"' || byte == '\\')
+        printf("\\%c", byte);
+    else if (byte < 0x20 || byte > 0x7e)
+        printf("\\u%04x", byte);
+    else
+        putchar(byte);
+}
+
+/* Whether a control character begins here that UTF-8 spells in two bytes: its number is the second. */
+static int is_wide_control(const uint8_t *bytes, size_t length)
+{
+    return length > 1 && bytes[0] == 0xc2 && bytes[1] >= 0x80 && bytes[1] < 0xa0;
+}
+
+/* A word keeps its UTF-8 letters; of a text every byte must be had back, so that it keeps none but ASCII. */
+static void quoted(const void *bytes, size_t length, int is_word)
 {
     const uint8_t *at = bytes;
     putchar('"');
-    for (size_t i = 0; i < length; i++)
-        if (at[i] == '"' || at[i] == '\\')
-            printf("\\%c", at[i]);
-        else if (at[i] < 0x20 || at[i] > 0x7e)
-            printf("\\u%04x", at[i]);
+    for (size_t i = 0; i < length;) {
+        size_t letter = is_word ? letter_length(at + i, length - i) : 0;
+        if (is_word && is_wide_control(at + i, length - i))
+            i++;
+        if (letter > 1)
+            fwrite(at + i, 1, letter, stdout);
         else
-            putchar(at[i]);
+            quoted_byte(at[i]);
+        i += letter > 1 ? letter : 1;
+    }
     putchar('"');
 }
 
@@ -33,7 +55,7 @@ static void begin(const char *key)
     if (open.depth == 2 && key == NULL)
         putchar('\n');
     if (key != NULL) {
-        quoted(key, strlen(key));
+        quoted(key, strlen(key), 1);
         putchar(':');
     }
 }
@@ -64,15 +86,17 @@ void json_close(void)
 void json_text(const char *key, const void *bytes, size_t length)
 {
     begin(key);
-    quoted(bytes, length);
+    quoted(bytes, length, 0);
 }
 
 void json_word(const char *key, const char *word)
 {
     if (word == NULL)
         json_null(key);
-    else
-        json_text(key, word, strlen(word));
+    else {
+        begin(key);
+        quoted(word, strlen(word), 1);
+    }
 }
 
 void json_number(const char *key, long long number)

@@ -1,8 +1,9 @@
 /*
  * json.h: one JSON document on standard output, written as it comes.
  *
- * A key of NULL is for an item of a list. A byte that is not printable ASCII is written as \u00 and its two hex digits,
- * so that any bytes at all make a valid document and can be had back from it.
+ * A key of NULL is for an item of a list. A byte of a text that is not printable ASCII is written as \u00 and its two hex
+ * digits, so that any bytes at all make a valid document and can be had back from it. A word, such as a file's name, keeps
+ * its UTF-8 letters as they are; its other bytes are written as those of a text.
  */
 #ifndef DESK_JSON_H
 #define DESK_JSON_H

@@ -19,7 +19,7 @@ static void tell_figure(const char *field, size_t length, esk_figure figure)
     json_object(NULL);
     json_bool("accepted", 1);
     json_number("code", ESK_ACCEPTED);
-    json_text("field", field, length);
+    json_text("text", field, length);
     json_figure("number", figure, 0);
     json_close();
 }

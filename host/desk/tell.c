@@ -56,8 +56,10 @@ int trouble(const char *about, const char *format, ...)
         json_close();
         return TROUBLE;
     }
+    char name[NAME_ROOM];
     fflush(stdout);
-    fprintf(stderr, "eskelvor: %s%s%s\n", about ? about : "", about ? ": " : "", message);
+    fprintf(stderr, "eskelvor: %s%s%s\n", name_safely(about ? about : "", name, sizeof name), about ? ": " : "",
+            message);
     return TROUBLE;
 }
 
@@ -116,7 +118,9 @@ void json_origin(const origin *from)
 
 void name_origin(const origin *from, char *to, size_t room)
 {
+    char shown[NAME_ROOM];
     const char *file = from->file == NULL ? "" : strcmp(from->file, "-") == 0 ? "standard input" : from->file;
+    file = name_safely(file, shown, sizeof shown);
     const char *comma = *file ? ", " : "";
     if (from->number == 0)
         snprintf(to, room, "%s", from->file ? file : from->unit);
@@ -207,8 +211,10 @@ int refuse_plain(const char *about, subject kind, unsigned code, const char *wha
         json_close();
         return REFUSED;
     }
+    char name[NAME_ROOM];
     fflush(stdout);
-    fprintf(stderr, "eskelvor: %s%srefused: code %u at byte 0: %s%s%s\n", about ? about : "", about ? ": " : "", code,
-            meaning(kind, code), what ? ": " : "", what ? what : "");
+    fprintf(stderr, "eskelvor: %s%srefused: code %u at byte 0: %s%s%s\n",
+            name_safely(about ? about : "", name, sizeof name), about ? ": " : "", code, meaning(kind, code),
+            what ? ": " : "", what ? what : "");
     return REFUSED;
 }

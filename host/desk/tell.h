@@ -52,7 +52,7 @@ const char *meaning(subject kind, unsigned code);
 /* The keys of a result that say where its text came from. */
 void json_origin(const origin *from);
 
-/* "night.txt, line 3" */
+/* "night.txt, line 3", fit for a terminal whatever the file's name is */
 void name_origin(const origin *from, char *to, size_t room);
 
 #endif

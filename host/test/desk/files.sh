@@ -70,6 +70,42 @@ else
     echo 'files: as root every file may be read; that case is passed over'
 fi
 
+# Names that are no plain ASCII: UTF-8 letters stay, what a terminal would obey is escaped
+odd=$(printf 'a\033[2Jb')
+latin=$(printf 'caf\351')
+utf=$(printf 'M\303\274nchen-\346\235\261-\360\237\233\251')
+c1=$(printf 'c\302\233m')
+printf '%s\nAWR04\n' $none | tee "$odd" "$latin" "$utf" >"$c1"
+answers 1 'a name with an escape cannot move the cursor' check "$odd"
+out_is 'a\x1b[2Jb, line 1: accepted, 22 bytes'
+err_has 'eskelvor: a\x1b[2Jb, line 2: refused: code 8'
+answers 1 'nor one with a control character in UTF-8' check "$c1"
+out_is 'c\xc2\x9bm, line 1: accepted, 22 bytes'
+answers 1 'a byte that is no UTF-8 is escaped' check "$latin"
+out_is 'caf\xe9, line 1: accepted, 22 bytes'
+answers 1 'letters stay' check "$utf"
+out_is "$utf, line 1: accepted, 22 bytes"
+err_has "eskelvor: $utf, line 2: refused: code 8"
+answers 1 'letters stay, for a machine' check --json "$utf"
+json_has "results.0.file=$utf" "results.1.file=$utf"
+answers 1 'other bytes are escaped, for a machine' check --json "$odd" "$latin" "$c1"
+json_has 'results.0.file=a\u001b[2Jb' 'results.2.file=caf\u00e9' 'results.4.file=c\u009bm'
+answers 1 'of a text every byte is escaped that is not ASCII' check --json --text "$utf"
+json_has 'results.0.text=M\u00c3\u00bcnchen-\u00e6\u009d\u00b1-\u00f0\u009f\u009b\u00a9'
+answers 2 'a file that is not there' check "no$odd"
+err_has 'eskelvor: noa\x1b[2Jb: cannot open'
+answers 2 'a file that is not there, for a machine' check --json "no$utf"
+json_has "results.0.about=no$utf" status=2
+answers 1 'a file that is no board' board "$odd" list
+err_has 'eskelvor: a\x1b[2Jb: refused: code 10'
+answers 1 'a designator' board b take "$odd"
+err_has 'a\x1b[2Jb: a designator has six letters or digits'
+answers 2 'a word that is wrong' board b "$odd"
+err_has 'eskelvor: a\x1b[2Jb: no such thing to do with a board'
+answers 1 'reports in such a file' report "$odd"
+err_has 'eskelvor: a\x1b[2Jb, report 1 from byte 0 on: refused'
+rm -f "$odd" "$latin" "$utf" "$c1"
+
 head -c 5000000 /dev/zero >zeros
 answers 1 'one line of 5 MB' check zeros
 err_has 'code 1 at byte 0: a command has at most 835 bytes, this one 5000000'

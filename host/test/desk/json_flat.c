@@ -68,16 +68,39 @@ static void escape(void)
             wrong("a hex digit is due");
 }
 
+/* A letter of UTF-8 that has more than one byte: its bytes are those that RFC 3629 lists, and no others. */
+static void wide_letter(void)
+{
+    static const unsigned char rows[][4] = {
+        /* first byte from, to; second byte from, to; the rest are 80 to bf */
+        {0xc2, 0xdf, 0x80, 0xbf}, {0xe0, 0xe0, 0xa0, 0xbf}, {0xe1, 0xec, 0x80, 0xbf}, {0xed, 0xed, 0x80, 0x9f},
+        {0xee, 0xef, 0x80, 0xbf}, {0xf0, 0xf0, 0x90, 0xbf}, {0xf1, 0xf3, 0x80, 0xbf}, {0xf4, 0xf4, 0x80, 0x8f},
+    };
+    int first = here(), row = 0, more = first >= 0xf0 ? 3 : first >= 0xe0 ? 2 : 1;
+    while (row < 8 && (first < rows[row][0] || first > rows[row][1]))
+        row++;
+    if (row == 8)
+        wrong("no letter begins with this byte");
+    at++;
+    if (here() < rows[row][2] || here() > rows[row][3])
+        wrong("no letter goes on with this byte");
+    for (; more > 0; more--, at++)
+        if (here() < 0x80 || here() > 0xbf)
+            wrong("a letter is cut");
+}
+
 /* Gives where the string's bytes begin; `at` is then behind its closing quote. */
 static size_t string(void)
 {
     size_t from = at + 1;
     expect('"');
     while (here() != '"') {
-        if (here() < 0x20 || here() > 0x7e)
+        if (here() < 0x20 || here() == 0x7f)
             wrong("a byte that must be escaped");
         if (here() == '\\')
             escape();
+        else if (here() > 0x7f)
+            wide_letter();
         else
             at++;
     }

@@ -24,16 +24,16 @@ END
 answers 1 'more digits than the figure needs' packed read K5
 err_is 'eskelvor: field: refused: code 6 at byte 0: a number in a spelling other than its one spelling' '  K5' '  ^'
 answers 1 'a solidus among others' packed read --json /5
-json_has results.0.code=4 results.0.text=/5 status=1
+json_has results.0.code=4 results.0.text=/5 results.0.field=null status=1
 answers 1 'no field, and six bytes' packed read --json '' KKKKKK
 json_has results.0.code=1 results.0.length=0 \
     results.1.code=1 results.1.length=6 'results.1.meaning=a packed field has 1 to 5 bytes'
 answers 1 'one refused, one read' packed read K5 KK
 out_is 20
 answers 0 'for a machine: missing is null' packed read --json /// ' U'
-json_has results.0.number=null results.1.number=10 'results.1.field= U'
+json_has results.0.number=null results.1.number=10 'results.1.text= U'
 answers 0 'written for a machine' packed write --json -2245 4
-json_has 'results.0.field= INZ' results.0.number=-2245
+json_has 'results.0.text= INZ' results.0.number=-2245
 answers 1 'a figure that does not fit' packed write 800 2
 err_is 'eskelvor: 800: refused: code 5 at byte 0: a number outside its range'
 answers 1 'one that fits nowhere' packed write 99999999999999999999 5
