@@ -11,6 +11,7 @@ static struct {
     int depth;
     char closer[DEEPEST]; /* of what is open at each depth */
     int filled[DEEPEST];  /* whether it holds something already */
+    int line_ended;       /* nothing stands behind the last line end */
 } open;
 
 static void quoted_byte(uint8_t byte)
@@ -50,6 +51,7 @@ static void quoted(const void *bytes, size_t length, int is_word)
 /* The comma that is due, and the key. Each item of the outermost list has a line of its own. */
 static void begin(const char *key)
 {
+    open.line_ended = 0;
     if (open.depth > 0 && open.filled[open.depth - 1]++)
         putchar(',');
     if (open.depth == 2 && key == NULL)
@@ -81,6 +83,13 @@ void json_list(const char *key)
 void json_close(void)
 {
     putchar(open.closer[--open.depth]);
+}
+
+void json_line(void)
+{
+    if (!open.line_ended)
+        putchar('\n');
+    open.line_ended = 1;
 }
 
 void json_text(const char *key, const void *bytes, size_t length)

@@ -13,6 +13,7 @@
 void json_object(const char *key);
 void json_list(const char *key);
 void json_close(void); /* the object or list that was opened last */
+void json_line(void);  /* ends the line, where that is not done */
 
 void json_text(const char *key, const void *bytes, size_t length);
 void json_word(const char *key, const char *word); /* NULL is written as null */

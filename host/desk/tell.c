@@ -7,17 +7,44 @@
 #include <errno.h>
 #include <stdarg.h>
 #include <stdio.h>
+#include <stdlib.h>
 #include <string.h>
 
 int as_json;
 
-static int document; /* the document is begun, and not ended yet */
+static int document;    /* the document is begun */
+static int last_status; /* the one told last */
+
+/* All that was told is out of this program; TROUBLE, told once, where it could not be written. */
+static int flush_told(void)
+{
+    static int told;
+    errno = 0;
+    if (fflush(stdout) == 0 && !ferror(stdout))
+        return FINE;
+    if (!told)
+        fprintf(stderr, "eskelvor: standard output: cannot write: %s\n", errno ? strerror(errno) : "a write failed");
+    told = 1;
+    return TROUBLE;
+}
+
+/* The document's end is the last thing that the program does: only then is the status certain. */
+static void end_document(void)
+{
+    json_close();
+    json_number("status", last_status);
+    json_close();
+    putchar('\n');
+    if (flush_told() != FINE)
+        _Exit(TROUBLE);
+}
 
 void tell_begin(const char *subcommand)
 {
     if (!as_json)
         return;
     document = 1;
+    atexit(end_document);
     json_object(NULL);
     json_word("subcommand", subcommand);
     json_list("results");
@@ -25,21 +52,12 @@ void tell_begin(const char *subcommand)
 
 int tell_end(int status)
 {
-    static int told;
-    if (document) {
-        json_close();
-        json_number("status", status);
-        json_close();
-        putchar('\n');
-        document = 0;
-    }
-    errno = 0;
-    if (fflush(stdout) == 0 && !ferror(stdout))
-        return status;
-    if (!told)
-        fprintf(stderr, "eskelvor: standard output: cannot write: %s\n", errno ? strerror(errno) : "a write failed");
-    told = 1;
-    return TROUBLE;
+    last_status = status;
+    if (document)
+        json_line();
+    if (flush_told() != FINE)
+        last_status = TROUBLE;
+    return last_status;
 }
 
 int trouble(const char *about, const char *format, ...)
@@ -49,7 +67,7 @@ int trouble(const char *about, const char *format, ...)
     va_start(values, format);
     vsnprintf(message, sizeof message, format, values);
     va_end(values);
-    if (document) {
+    if (document && !ferror(stdout)) {
         json_object(NULL);
         json_word("about", about);
         json_word("error", message);

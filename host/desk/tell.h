@@ -23,8 +23,9 @@ typedef struct origin {
     unsigned long long offset; /* of its first byte in the file */
 } origin;
 
-/* The document's begin and end; the end is written once, whoever calls first, and then flushed. Neither does anything
- * but flush without --json. The end gives TROUBLE where standard output could not be written. */
+/* The document's begin, and all that was told up to here handed out: flushed, with the results each on a whole line. The
+ * document's own end, with the status told last, is written when the program exits, so that it is the exit status also
+ * where something fails after results were handed out. TROUBLE is given where standard output could not be written. */
 void tell_begin(const char *subcommand);
 int tell_end(int status);
 

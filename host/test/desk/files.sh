@@ -167,6 +167,48 @@ limited 2 board b take XY0001 >out 2>err || got=$?
 [ ! -s out ] || fail 'it was handed out before there was room for the new board'
 cmp -s b sound || fail 'the board is another'
 
+# Something fails once the command is handed out: standard output is a pipe without room, and while the program waits for
+# some, the new board is taken away.
+takes() { # FILE WORD..: takes with these words, what is handed out goes to FILE; the status is in $got
+    to=$1
+    shift
+    mkfifo pipe
+    exec 3<>pipe
+    dd if=/dev/zero of=pipe bs=4096 oflag=nonblock 2>/dev/null || true
+    eskelvor "$@" >pipe 2>err 3>&- &
+    taker=$!
+    tries=0
+    until [ -e .b.eskelvor-new ] || [ $tries = 500 ]; do
+        tries=$((tries + 1))
+        sleep 0.02
+    done
+    rm -f .b.eskelvor-new
+    cat pipe >handed 3>&- &
+    reader=$!
+    exec 3>&-
+    got=0
+    wait $taker || got=$?
+    wait $reader
+    tr -d '\000' <handed >"$to"
+    rm -f pipe handed
+    cases=$((cases + 1))
+}
+why='a board that cannot be put in place' words='board b take XY0001'
+takes out board b take XY0001
+[ "$got" = 2 ] || fail "status $got, not 2"
+out_is $none
+err_has 'eskelvor: XY0001: handed out, and may still wait: take it again'
+words='board b take XY0001 --json'
+takes out board b take XY0001 --json
+[ "$got" = 2 ] || fail "status $got, not 2"
+json_has results.0.accepted=true results.0.text=$none results.1.about=b results.2.about=XY0001 \
+    'results.2.error=handed out, and may still wait: take it again' status=2
+cmp -s b sound || fail 'the board is another'
+answers 0 'the line of a result is whole before the end of the document' board b take XY0001 --json
+json_has results.0.text=$none status=0
+[ "$(tail -n 1 out)" = '],"status":0}' ] || fail 'the end is not a line of its own'
+cp sound b
+
 # A disk that is full, where one may be made
 if [ "$(id -u)" = 0 ] && mkdir disk && mount -t tmpfs -o size=16k eskelvor-test disk 2>/dev/null; then
     answers 0 'a board on a small disk' board disk/b create 8
