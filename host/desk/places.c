@@ -6,25 +6,45 @@
 
 enum { LINE_END = 2, LATER_BYTES = 23 }; /* the bytes of a CR LF, and of a later observation */
 
-/* A field and the bytes it has. */
+/* A field of a report: the bytes it has, and what may stand there. */
 typedef struct field {
     size_t bytes;
-    const char *name;
+    const char *name, *range; /* no range: nothing but the field's own bytes, or any figure that they hold */
+    int packed;               /* the range is that of a packed figure */
 } field;
 
+#define AIRFIELD "four letters A to Z or digits"
+
 static const field report_head[] = {
-    {4, "departure"}, {4, "arrival"}, {2, "line end"}, {6, "AMDAR3"}, {6, "designator"}, {2, "line end"},
+    {4, "departure", AIRFIELD, 0},
+    {4, "arrival", AIRFIELD, 0},
+    {2, "line end", NULL, 0},
+    {6, "AMDAR3", NULL, 0},
+    {6, "designator", "six letters A to Z or digits", 0},
+    {2, "line end", NULL, 0},
 };
 
+/* What every observation ends with. */
+#define FIGURES                                                                                               \
+    {3, "altitude", "-100 to 6000 tens of feet", 1}, {2, "temperature", NULL, 1},                             \
+        {2, "wind direction", "0 to 360 degrees", 1}, {2, "wind speed", "0 to 799 knots", 1},                 \
+        {2, "gust", "0 to 799 tenths of a metre a second", 1},                                                \
+        {3, "vapour", "0 to 31999 thousandths of a gram a kilogram", 1}, {1, "quality", "0 to 9 or /", 0}
+
 static const field first_fields[] = {
-    {1, "kind"},           {3, "latitude"},   {3, "longitude"}, {5, "time"},   {3, "altitude"}, {2, "temperature"},
-    {2, "wind direction"}, {2, "wind speed"}, {2, "gust"},      {3, "vapour"}, {1, "quality"},
+    {1, "kind", "A, D, R, W, U or E", 0},
+    {3, "latitude", "-5400 to 5400 minutes", 1},
+    {3, "longitude", "-10800 to 10800 minutes", 1},
+    {5, "time", "0 to 2678399 seconds", 1},
+    FIGURES,
 };
 
 static const field later_fields[] = {
-    {1, "kind"},        {2, "latitude change"}, {2, "longitude change"}, {3, "time since"}, {3, "altitude"},
-    {2, "temperature"}, {2, "wind direction"},  {2, "wind speed"},       {2, "gust"},       {3, "vapour"},
-    {1, "quality"},
+    {1, "kind", "A, D, R, W, U, E or /", 0},
+    {2, "latitude change", NULL, 1},
+    {2, "longitude change", NULL, 1},
+    {3, "time since", "0 to 31999 seconds", 1},
+    FIGURES,
 };
 
 /* A figure of a command: where its bytes stand in its section (0 is the head), and what may stand there. */
@@ -82,7 +102,7 @@ static const figure box_figures[] = {
     {2, 10, 4, "east edge", "000 to 180 and E or W"},
 };
 
-static const figure airfield_figures[] = {{3, 0, 4, "airfield", "four letters A to Z or digits"}};
+static const figure airfield_figures[] = {{3, 0, 4, "airfield", AIRFIELD}};
 
 /* The lists of a section, in their order, with the counts' range, and what stands behind them. */
 static const figure lists[] = {
@@ -235,14 +255,36 @@ void name_place(subject kind, const uint8_t *text, size_t length, size_t place, 
         name_command_place(text, place, to, room);
 }
 
+static void word_command_figure(const uint8_t *text, size_t length, size_t place, char *to, size_t room)
+{
+    const figure *f = find_spot(text, place).figure;
+    if (f == NULL || f->range == NULL || f->width > length - place)
+        return;
+    size_t at = name_bytes(text + place, f->width, to, room);
+    snprintf(to + at, room - at, " is not %s", f->range);
+}
+
+/* A packed figure is told as the number that it is too; one that is no number has the code's words. */
+static void word_report_field(const uint8_t *text, size_t length, esk_answer a, char *to, size_t room)
+{
+    size_t number, bytes;
+    const field *f = report_field(a.place, &number, &bytes);
+    if (f == NULL || f->range == NULL || bytes > length - a.place || f->packed != (a.code == ESK_RANGE))
+        return;
+    size_t at = name_bytes(text + a.place, bytes, to, room);
+    if (f->packed)
+        snprintf(to + at, room - at, " is %ld, not %s", (long)esk_packed_read(text + a.place, bytes).number, f->range);
+    else
+        snprintf(to + at, room - at, " is not %s", f->range);
+}
+
 void word_figure(subject kind, const uint8_t *text, size_t length, esk_answer a, char *to, size_t room)
 {
     *to = 0;
-    if (kind != A_COMMAND || (a.code != ESK_BYTE && a.code != ESK_RANGE) || a.place > length)
+    if ((a.code != ESK_BYTE && a.code != ESK_RANGE) || a.place > length)
         return;
-    const figure *f = find_spot(text, a.place).figure;
-    if (f == NULL || f->range == NULL || f->width > length - a.place)
-        return;
-    size_t at = name_bytes(text + a.place, f->width, to, room);
-    snprintf(to + at, room - at, " is not %s", f->range);
+    if (kind == A_COMMAND)
+        word_command_figure(text, length, a.place, to, room);
+    else if (kind == A_REPORT)
+        word_report_field(text, length, a, to, room);
 }

@@ -61,7 +61,7 @@ json_has results.0.offset=3 results.1.offset=227 results.1.report=2 status=0
 answers 1 'a damaged file: the bad ones are told, the others shown' report "$examples/damaged.reports"
 out_has 'report 1 from byte 0 on: YMML' 'report 3 from byte 440 on: ABCD' 'report 5 from byte 873 on: YMML'
 damaged="eskelvor: $examples/damaged.reports, report"
-outside='latitude of observation 1: a number outside its range'
+outside='latitude of observation 1: ZZZ is 25435, not -5400 to 5400 minutes'
 err_is "$damaged 2 from byte 220 on: refused: code 5 at byte 25, $outside" \
     '  RZZZPF: YZ9FLAED5RT U L///9R .IM UKM335UQEKQ M///9\x0d\x0a' \
     '   ^' \
@@ -110,7 +110,7 @@ json_has 'results.0.text=ABCDEFGH\u000d\u000aAMDAR3XY\u0000\u001b[2J01\u000d\u00
 
 { head -c 18 "$examples/one.report"; printf '\033'; tail -c +20 "$examples/one.report"; } >"$scratch/mark"
 answers 1 'the mark lines up where a byte before it is not printable' report "$scratch/mark"
-refused='refused: code 4 at byte 16, designator: a byte that is not allowed there'
+refused='refused: code 4 at byte 16, designator: AU\x1b137 is not six letters A to Z or digits'
 err_is "eskelvor: $scratch/mark, report 1 from byte 0 on: $refused" \
     '  AMDAR3AU\x1b137\x0d\x0a' \
     '        ^'
@@ -123,5 +123,22 @@ for place in 0:departure 4:arrival 8:'line end' 10:AMDAR3 22:'line end' 24:'kind
     answers 1 "a wrong byte $at names its field" report --json "$scratch/field"
     json_has "results.0.place=$at" "results.0.field=${place#*:}"
 done
+
+# A figure, what stood there, and its range; where the bytes are no figure, what the code means
+while IFS='|' read -r at bytes said; do
+    { head -c "$at" "$one" && printf %s "$bytes" && tail -c +$((at + ${#bytes} + 1)) "$one"; } >"$scratch/figure"
+    answers 1 "a figure in words: $said" report "$scratch/figure"
+    err_has "at byte $at, $said"
+done <<'END'
+0|ymml|departure: ymml is not four letters A to Z or digits
+24|Q|kind of observation 1: Q is not A, D, R, W, U or E
+25|ZZZ|latitude of observation 1: ZZZ is 25435, not -5400 to 5400 minutes
+25|Z/Z|latitude of observation 1: a byte that is not allowed there
+25| K5|latitude of observation 1: a number in a spelling other than its one spelling
+31|  J|time of observation 1:   J9F is -1225, not 0 to 2678399 seconds
+50|x|quality of observation 1: x is not 0 to 9 or /
+51|Q|kind of observation 2: Q is not A, D, R, W, U, E or /
+56|  J|time since of observation 2:   J is -1, not 0 to 31999 seconds
+END
 
 done_with 'reports shown, cut and refused'
