@@ -5,7 +5,8 @@
 #   out_has TEXT..              each of these texts stands somewhere in a line of it
 #   err_is LINE..               the same for standard error
 #   err_has TEXT..
-#   json_has PATH=VALUE..       standard output is one JSON document that has these values, and standard error is empty
+#   json_has PATH=VALUE..       standard output is one JSON document that has these values and the exit status, and
+#                               standard error is empty
 #
 # The first case that does not hold is told, and ends the tests with status 1. Standard input is empty, or the file
 # $input where that is set.
@@ -61,6 +62,7 @@ err_has() { has err "$@"; }
 json_has() {
     "$root/target/host/json_flat" <"$scratch/out" >"$scratch/flat" || fail "not JSON"
     [ ! -s "$scratch/err" ] || fail "something on standard error too"
+    grep -qxF "status=$got" "$scratch/flat" || fail "its status is not the exit status, $got"
     for line in "$@"; do
         grep -qxF -e "$line" "$scratch/flat" || fail "not there: $line"
     done
