@@ -76,14 +76,26 @@ static int is_cut(const piece *p, size_t length, esk_answer first)
     return length < ESK_REPORT_BYTES && report_field_end(first.place, solidi == length) > length;
 }
 
+/* The bytes of a short piece, without the line ends behind it that are none of a report's own. */
+static size_t own_length(const piece *p, size_t length)
+{
+    size_t own = length, departs = first_departure(p, length).place;
+    if (length == 0 || length == ESK_REPORT_BYTES || p->bytes[length - 1] != '\n')
+        return length;
+    while (own > departs && (p->bytes[own - 1] == '\n' || p->bytes[own - 1] == '\r'))
+        own--;
+    return own;
+}
+
 /* A piece that is refused for its length: cut short, or where its bytes first depart from a report's. */
 static int refuse_length(const origin *from, const piece *p, esk_answer a)
 {
     size_t length = p->length < ESK_REPORT_BYTES ? p->length : ESK_REPORT_BYTES;
-    esk_answer first = first_departure(p, length);
-    int cut = is_cut(p, length, first);
+    size_t own = own_length(p, length);
+    esk_answer first = first_departure(p, own);
+    int cut = is_cut(p, own, first);
     char because[80];
-    snprintf(because, sizeof because, "cut short: %lu bytes of %d are there", (unsigned long)length, ESK_REPORT_BYTES);
+    snprintf(because, sizeof because, "cut short: %lu bytes of %d are there", (unsigned long)own, ESK_REPORT_BYTES);
     int status = refuse_because(from, A_REPORT, a, p->bytes, p->length, p->whole, cut ? because : NULL);
     if (as_json || cut)
         return status;

@@ -93,6 +93,12 @@ for bytes in 1 9 15 16 23 24 26 50 52 74 75 76 77 98 100 122 123 124 170 219; do
     err_has "report 1 from byte 0 on: refused: code 1 at byte 0: cut short: $bytes bytes of 220 are there"
     ! grep -q depart "$scratch/err" || fail 'it departs from nothing'
 done
+for bytes in 16 50 76 98 100; do
+    { head -c $bytes "$one" && printf '\r\n\n' && cat "$one"; } >"$scratch/cut"
+    answers 1 "cut behind byte $bytes, and another behind a line end" report "$scratch/cut"
+    err_has "report 1 from byte 0 on: refused: code 1 at byte 0: cut short: $bytes bytes of 220 are there"
+    out_has 'report 2 from byte'
+done
 { head -c 90 "$one"; printf '//x///'; } >"$scratch/cut"
 answers 1 'a wrong byte before the cut still counts' report "$scratch/cut"
 err_has 'a report has 220 bytes, this one 96' "  its bytes first depart from a report's at byte 76"
