@@ -50,10 +50,10 @@ static void json_report(const piece *p, const char *file, const esk_report *r)
 }
 
 /* Whether line ends have lost their CR, as they do on the way through a text editor. */
-static int lacks_cr(const piece *p)
+static int lacks_cr(const piece *p, size_t length)
 {
     int lost = 0;
-    for (size_t i = 0; i < p->length; i++)
+    for (size_t i = 0; i < length; i++)
         lost |= p->bytes[i] == '\n' && (i == 0 || p->bytes[i - 1] != '\r');
     return lost;
 }
@@ -99,7 +99,7 @@ static int refuse_length(const origin *from, const piece *p, esk_answer a)
     int status = refuse_because(from, A_REPORT, a, p->bytes, p->length, p->whole, cut ? because : NULL);
     if (as_json || cut)
         return status;
-    if (lacks_cr(p))
+    if (lacks_cr(p, own))
         fputs("  its line ends are not CR LF\n", stderr);
     else if (first.code != ESK_ACCEPTED && first.place < length)
         fprintf(stderr, "  its bytes first depart from a report's at byte %lu\n", (unsigned long)first.place);

@@ -99,6 +99,9 @@ for bytes in 16 50 76 98 100; do
     err_has "report 1 from byte 0 on: refused: code 1 at byte 0: cut short: $bytes bytes of 220 are there"
     out_has 'report 2 from byte'
 done
+{ head -c 40 "$one" && tail -c +44 "$one" && printf '\n' && cat "$one"; } >"$scratch/cut"
+answers 1 'three bytes are lost, and an LF stands behind the report: its own line ends are sound' report "$scratch/cut"
+err_has "  its bytes first depart from a report's at byte "
 { head -c 90 "$one"; printf '//x///'; } >"$scratch/cut"
 answers 1 'a wrong byte before the cut still counts' report "$scratch/cut"
 err_has 'a report has 220 bytes, this one 96' "  its bytes first depart from a report's at byte 76"
