@@ -3,6 +3,7 @@
 #include "board.h"
 #include "joining.h"
 #include "json.h"
+#include "mark.h"
 #include "options.h"
 
 #include <errno.h>
@@ -20,13 +21,14 @@ typedef struct call {
 
 static int create(const call *c, int count, char **words)
 {
+    char name[NAME_ROOM];
     long slots = count == 1 ? whole_number(words[0], 0, ESK_BOARD_SLOTS) : -1;
     if (slots < 0)
         return trouble("create", "give the number of slots, 0 to 64");
     if (board_create(c->file, slots, c->wait) != FINE)
         return TROUBLE;
     if (!as_json) {
-        printf("%s: a board of %ld slots\n", c->file, slots);
+        printf("%s: a board of %ld slots\n", name_safely(c->file, name, sizeof name), slots);
         return FINE;
     }
     json_object(NULL);
@@ -82,7 +84,9 @@ static int put(call *c, putter onto, int count, char **words)
 static void tell_taken(const char *designator, const uint8_t *text, size_t length, const char *to)
 {
     if (!as_json && to != NULL) {
-        printf("taken: the %lu bytes that waited for %s are in %s\n", (unsigned long)length, designator, to);
+        char name[NAME_ROOM];
+        printf("taken: the %lu bytes that waited for %s are in %s\n", (unsigned long)length, designator,
+               name_safely(to, name, sizeof name));
         return;
     }
     if (!as_json) {
@@ -191,6 +195,7 @@ static void json_slots(const board *b)
 static int look(const call *c, int lists)
 {
     static board b;
+    char name[NAME_ROOM];
     int status = board_read(c->file, &b);
     if (status != FINE)
         return status;
@@ -205,7 +210,8 @@ static int look(const call *c, int lists)
         json_close();
         return FINE;
     }
-    printf("%s: valid, %lu of %lu slots used\n", c->file, (unsigned long)board_used(&b), (unsigned long)b.n);
+    printf("%s: valid, %lu of %lu slots used\n", name_safely(c->file, name, sizeof name), (unsigned long)board_used(&b),
+           (unsigned long)b.n);
     if (lists)
         list_slots(&b);
     return FINE;

@@ -230,4 +230,14 @@ err_is 'eskelvor: damaged: refused: code 10 at byte 0: the board is not valid: t
 answers 1 'a byte more' board damaged check
 err_has 'the file goes on behind its 6764 bytes'
 
+# A board's name cannot move the cursor, and its letters stay
+odd=$(printf 'b\033[2Jé')
+answers 0 'a board of an odd name' board "$odd" create 2
+out_is 'b\x1b[2Jé: a board of 2 slots'
+answers 0 'and what waits on it' board "$odd" check
+out_is 'b\x1b[2Jé: valid, 0 of 2 slots used'
+answers 0 'a command to take' board "$odd" add XY0001 AWR049999199000000000/
+answers 0 'taken into a file of an odd name' board "$odd" take --to "t$odd" XY0001
+out_is 'taken: the 22 bytes that waited for XY0001 are in tb\x1b[2Jé'
+
 done_with 'boards kept in files'
