@@ -25,7 +25,7 @@ x86_64 := $(filter x86_64,$(shell uname -m))
 native := $(if $(x86_64),$(archive),target/native/libdesk.a)
 
 # Those that make the proved calls for the comparison, one for each group of calls that it compares.
-programs := answer answer_command answer_config answer_decide answer_explain answer_join answer_board
+programs := answer answer_command answer_config answer_decide answer_join answer_board
 
 .PHONY: all demo install uninstall test test-desk compare bench growth fuzz replay coverage clean
 

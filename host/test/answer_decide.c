@@ -1,8 +1,8 @@
 /*
- * answer_decide: decisions for the comparison run; answer.h has how it talks.
+ * answer_decide: decisions and their reasons for the comparison run; answer.h has how it talks.
  *
  *   question                                        reply
- *   esk_settings, how many (2), and for each        esk_decided each
+ *   esk_settings, how many (2), and for each        esk_explained and esk_decided each
  *     phase, hour, latitude (4), longitude (4), length (1), airfield (6)
  */
 #include "answer.h"
@@ -25,7 +25,10 @@ static const uint8_t *question(const uint8_t *q)
     q += 2;
     for (size_t i = 0; i < n; i++, q += ASKED) {
         const uint8_t *airfield = q[10] == 0 ? NULL : q + 11;
-        esk_decided decided = esk_decide(&settings, q[0], minutes(q + 2), minutes(q + 6), q[1], airfield, q[10]);
+        int32_t latitude = minutes(q + 2), longitude = minutes(q + 6);
+        esk_explained explained = esk_explain(&settings, q[0], latitude, longitude, q[1], airfield, q[10]);
+        esk_decided decided = esk_decide(&settings, q[0], latitude, longitude, q[1], airfield, q[10]);
+        give(&explained, sizeof explained);
         give(&decided, sizeof decided);
     }
     return q;

@@ -4,7 +4,7 @@ use super::{short, Held};
 use crate::asked::Replies;
 use crate::meet::uplink as meet;
 use crate::ours::bytes_of;
-use crate::ours::uplink::Settings;
+use crate::ours::uplink::{Decided, Explained, Settings};
 use crate::second::decide::{self, decide, Decision};
 use crate::second::Refusal;
 use crate::tally::{Outcome, Tally};
@@ -66,7 +66,8 @@ impl super::Case for Case {
         let held = meet::meant_settings(&self.settings);
         for question in &self.questions {
             let second = decide(&held, &question.meant());
-            let (got, want) = (replies.one(), meet::decided(second));
+            let (_why, got): (Explained, Decided) = (replies.one(), replies.one());
+            let want = meet::decided(second);
             if got != want {
                 return self.alone(question).answered("esk_decide", got, want);
             }

@@ -18,7 +18,7 @@ impl From<decide::Case> for Case {
 }
 
 impl super::Case for Case {
-    const PROGRAM: &'static str = "answer_explain";
+    const PROGRAM: &'static str = <decide::Case as super::Case>::PROGRAM;
 
     fn question(&self, into: &mut Vec<u8>) {
         self.of.question(into);
