@@ -10,7 +10,10 @@ ghost use Rattle.field.specs.Steps.{numberOr};
 pub fn is_digit(b: u8) -> bool
     ensures { λ r. ⌜ r ≡ isDigit b ⌝ }
 {
-    (b'0' <= b) & (b <= b'9')
+    match b {
+        b'0'..=b'9' => true,
+        _ => false,
+    }
 }
 
 // What a digit is worth.
@@ -31,10 +34,7 @@ pub fn number_at(s: &[u8], at: usize, w: usize) -> usize
     let mut i = 0;
     while i < w {
         let b = s[at + i];
-        if b < b'0' {
-            return 1000;
-        }
-        if b'9' < b {
+        if !is_digit(b) {
             return 1000;
         }
         n = n * 10 + worth(b);

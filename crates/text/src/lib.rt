@@ -16,7 +16,11 @@ pub enum Seen {
 pub fn is_allowed(b: u8) -> bool
     ensures { λ r. ⌜ r ≡ allowed b ⌝ }
 {
-    (b'A' <= b) & (b <= b'Z') | (b'0' <= b) & (b <= b'9')
+    match b {
+        b'A'..=b'Z' => true,
+        b'0'..=b'9' => true,
+        _ => false,
+    }
 }
 
 // Whether every byte is one that a name may have. The answers are gathered and the loop has one way out, so it runs many bytes at a time.
