@@ -2,7 +2,6 @@
 use crate::Command;
 use crate::check::is_named;
 use section::numbers::numbers_at;
-use section::table::layout_of;
 use settings::Airports;
 use settings::Fixed;
 use settings::Regions;
@@ -64,7 +63,7 @@ fn numbers_over(s: &[u8], k: usize, at: usize, old: Fixed) -> [u16; 8]
     ensures { λ r. ⌜ (r ≡ numbersOf (heldOver (now (s .entry)) k (fixedHold old k))) × Fit (tableOf k) r ⌝ }
 {
     if is_named(s, k) {
-        return numbers_at(s, at, layout_of(k));
+        return numbers_at(s, at, k);
     }
     numbers_of(old, k)
 }

@@ -19,13 +19,13 @@ use Rattle.field.specs.declared.Step.{Step}
 use Rattle.field.specs.declared.Step.the-variants.{Next, Stop}
 use Rattle.field.proofs.Decimal.{decimal-length}
 use Rattle.section.specs.declared.Row.{Row}
-use Rattle.section.specs.Layout.{Item, Digits, checkItem, checkItems, itemsSize}
+use Rattle.section.specs.Layout.{Item, Digits, noRow, checkItem, checkItems, itemsSize}
 use Rattle.section.specs.Contents.{Content, Amount, amountOf, contentAt, contentText, contentsAt, contentsText, contentAllowed, contentsAllowed}
-use Rattle.section.specs.Inner.{noRow, numbersOf, goesOn, passContents}
+use Rattle.section.specs.Inner.{numbersOf, goesOn, passContents}
 use Rattle.text.specs.Parts.{part}
 use Rattle.field.proofs.Accepted.{number as accepted-number}
 use Rattle.lists.proofs.Fill.{fill-turn}
-use Rattle.section.proofs.Rows.{rowsFrom, rows-all, rows-turn, rows-end}
+use Rattle.section.proofs.Rows.{rowsFrom, rows-turn, rows-end}
 use Rattle.section.proofs.Walk.{Left, left-all, left-item, left-on}
 
 -- ---- Passing: one content after the other
@@ -139,18 +139,18 @@ set-within (y ∷ v) (suc i) x zero h k = k
 set-within (y ∷ v) (suc i) x (suc j) h k = set-within v i x j (λ e. h (ap suc e)) k
 
 -- the first i numbers are read, zeros stand behind them, and the text goes on at p
-pub record Taken (rows : List Row) (n : ℕ) (s : List ℕ) (at : ℕ) (v : List ℕ) (p i : ℕ) : Type 0 where
-  pub few : i ≤ n
-  pub left : Left (map Digits (take n rows)) s at (rowsFrom rows n i) p
+pub record Taken (rows : List Row) (s : List ℕ) (at : ℕ) (v : List ℕ) (p i : ℕ) : Type 0 where
+  pub few : i ≤ length rows
+  pub left : Left (map Digits rows) s at (rowsFrom rows i) p
   pub front : List ℕ
   pub long : length front ≡ i
   pub filled : v ≡ front ++ replicate (8 - i) 0
-  pub same : amountsAt (map Digits (take n rows)) s at ≡ front ++ amountsAt (rowsFrom rows n i) s p
+  pub same : amountsAt (map Digits rows) s at ≡ front ++ amountsAt (rowsFrom rows i) s p
   pub fit : (j : ℕ) → getD rows j noRow .most ≤ 255 → getD v j 0 ≤ 255
 
-module _ (rows : List Row) (n : ℕ) (s : List ℕ) (at : ℕ) where
+module _ (rows : List Row) (s : List ℕ) (at : ℕ) where
   abbrev all : List Item
-  all = map Digits (take n rows)
+  all = map Digits rows
 
   zeros-within : (k j : ℕ) → getD (replicate k 0) j 0 ≤ 255
   zeros-within zero j = omega arith
@@ -158,31 +158,31 @@ module _ (rows : List Row) (n : ℕ) (s : List ℕ) (at : ℕ) where
   zeros-within (suc k) (suc j) = zeros-within k j
 
   -- before the first
-  pub taken-none : checkItems all s at ≡ Next (at + itemsSize all s at) → Taken rows n s at (replicate 8 0) at 0
+  pub taken-none : checkItems all s at ≡ Next (at + itemsSize all s at) → Taken rows s at (replicate 8 0) at 0
   taken-none e =
       record {
         few = omega arith;
-        left = rw (rows-all rows n) (left-all e);
+        left = left-all e;
         front = [];
         long = refl;
         filled = refl;
-        same = rw (rows-all rows n);
+        same = refl;
         fit = λ j h. zeros-within 8 j;
       }
 
-  module _ (v : List ℕ) (p i : ℕ) (t : Taken rows n s at v p i) (more : i < n) (there : n ≤ length rows) (few8 : n ≤ 8) where
+  module _ (v : List ℕ) (p i : ℕ) (t : Taken rows s at v p i) (more : i < length rows) (few8 : length rows ≤ 8) where
     abbrev pub row : Row
     row = getD rows i noRow
 
     -- the next one was accepted
-    next : Left all s at (Digits row ∷ rowsFrom rows n (i + 1)) p
-    next = rw (← rows-turn rows n i noRow more there) (t .left)
+    next : Left all s at (Digits row ∷ rowsFrom rows (i + 1)) p
+    next = rw (← rows-turn rows i noRow more) (t .left)
 
     pub taken-item : checkItem (Digits row) s p ≡ Next (p + row .width)
     taken-item = left-item next
 
     -- one more
-    pub taken-on : Taken rows n s at (set v i (value (part p (row .width) s))) (p + row .width) (i + 1)
+    pub taken-on : Taken rows s at (set v i (value (part p (row .width) s))) (p + row .width) (i + 1)
     taken-on =
         let x = value (part p (row .width) s) in
         let ok = accepted-number (row .code) (row .width) (row .least) (row .most) s p (p + row .width) taken-item in
@@ -195,7 +195,7 @@ module _ (rows : List Row) (n : ℕ) (s : List ℕ) (at : ℕ) where
           same =
               t .same
               ∙ ap (λ (l : List ℕ). t .front ++ l)
-              (ap (λ (is : List Item). amountsAt is s p) (rows-turn rows n i noRow more there) ∙ amounts-next row (rowsFrom rows n (i + 1)) s p)
-              ∙ sym (append-assoc (t .front) (x ∷ []) (amountsAt (rowsFrom rows n (i + 1)) s (p + row .width)));
+              (ap (λ (is : List Item). amountsAt is s p) (rows-turn rows i noRow more) ∙ amounts-next row (rowsFrom rows (i + 1)) s p)
+              ∙ sym (append-assoc (t .front) (x ∷ []) (amountsAt (rowsFrom rows (i + 1)) s (p + row .width)));
           fit = λ j h. set-within v i x j (λ e. omega (arith, ok .high, rw e at h)) (t .fit j h);
         }

@@ -1,25 +1,22 @@
 -- The rows of a section, one after the other.
-use mathlib.Core.Path.{_≡_, refl, sym}
+use mathlib.Core.Path.{_≡_, refl, sym, ap, _∙_}
 use mathlib.Core.Bool.{Bool, true, false, cond, not, _&&_, _||_}
 use mathlib.Core.List.{List, [], _∷_, map}
-use Prim.Native.Nat.{ℕ, zero, suc, _+_, _-_, _≤_, _<_}
+use Prim.Native.Nat.{ℕ, zero, suc, _+_, _≤_, _<_}
 use native.Mathlib.Omega.{arith}
 use lib.Dec.{leb, eqb}
-use lib.ListN.{length, getD, take, drop}
+use lib.ListN.{length, getD, drop}
+use lib.Seq.{drop-nil, getD-take, getD-drop}
 use borrow.Author.Tests.{leb-true, eqb-true}
 use Rattle.text.proofs.Cases.{by-test, both-left, both-right}
 use Rattle.section.specs.declared.Row.{Row}
 use Rattle.section.specs.declared.Layout.{Layout}
-use Rattle.section.specs.Layout.{Item, Digits, AirfieldList, BoxList, isEmpty, itemsOf, tableOf, layoutOf}
-use Rattle.section.specs.Inner.{allSmall, isSmall, Small}
+use Rattle.section.specs.Layout.{Item, Digits, AirfieldList, BoxList, Section, noRow, isEmpty, itemsOf, tableOf, layoutOf}
+use Rattle.section.specs.Inner.{allSmall, allRows, Laid}
 
--- of the first n rows those from the i-th on
-abbrev pub rowsFrom : List Row → ℕ → ℕ → List Item
-rowsFrom rows n i = map Digits (take (n - i) (drop i rows))
-
--- all of them
-pub rows-all : (rows : List Row) (n : ℕ) → rowsFrom rows n 0 ≡ map Digits (take n rows)
-rows-all rows n = let all : n - 0 ≡ n = omega arith in rw all
+-- the rows from the i-th on
+abbrev pub rowsFrom : List Row → ℕ → List Item
+rowsFrom rows i = map Digits (drop i rows)
 
 drop-row : (rows : List Row) (i : ℕ) (d : Row) → i < length rows → drop i rows ≡ getD rows i d ∷ drop (suc i) rows
 drop-row [] i d h = absurd (omega arith)
@@ -27,16 +24,14 @@ drop-row (r ∷ rows) zero d h = refl
 drop-row (r ∷ rows) (suc i) d h = drop-row rows i d (omega arith)
 
 -- one row more
-pub rows-turn : (rows : List Row) (n i : ℕ) (d : Row) → i < n → n ≤ length rows
-    → rowsFrom rows n i ≡ Digits (getD rows i d) ∷ rowsFrom rows n (i + 1)
-rows-turn rows n i d h k =
-    let left : n - i ≡ suc (n - (i + 1)) = omega arith in
-    let next : i + 1 ≡ suc i = omega arith in
-    rw (left, drop-row rows i d (omega arith), next)
+pub rows-turn : (rows : List Row) (i : ℕ) (d : Row) → i < length rows → rowsFrom rows i ≡ Digits (getD rows i d) ∷ rowsFrom rows (i + 1)
+rows-turn rows i d h = let next : i + 1 ≡ suc i = omega arith in rw (drop-row rows i d h, next)
 
 -- none is left
-pub rows-end : (rows : List Row) (n i : ℕ) → n ≤ i → rowsFrom rows n i ≡ []
-rows-end rows n i h = let none : n - i ≡ 0 = omega arith in rw none
+pub rows-end : (rows : List Row) (i : ℕ) → length rows ≤ i → rowsFrom rows i ≡ []
+rows-end [] i h = rw (drop-nil i)
+rows-end (r ∷ rows) zero h = absurd (omega arith)
+rows-end (r ∷ rows) (suc i) h = rows-end rows i (omega arith)
 
 -- each is small
 pub small-row : (rows : List Row) (i : ℕ) (d : Row) → i < length rows → allSmall rows ≡ true
@@ -50,22 +45,17 @@ small-row (r ∷ rows) zero d h s =
     (leb-true (r .width) 3 (both-left w m both), leb-true (r .most) 999 (both-right w m both))
 small-row (r ∷ rows) (suc i) d h s = small-row rows i d (omega arith) (both-right (leb (r .width) 3 && leb (r .most) 999) (allSmall rows) s)
 
--- what a small layout says
-pub small-is : (l : Layout) → Small l → (l .count ≤ 8) × (length (l .rows) ≡ 8) × (allSmall (l .rows) ≡ true)
-small-is l s =
-    let few = leb (l .count) 8 in
-    let full = eqb (length (l .rows)) 8 in
-    let rest = both-right few (full && allSmall (l .rows)) s in
-    (leb-true (l .count) 8 (both-left few (full && allSmall (l .rows)) s), eqb-true (length (l .rows)) 8 (both-left full (allSmall (l .rows)) rest), both-right full (allSmall (l .rows)) rest)
+-- no more than eight rows, each small
+abbrev isSmall : Section → Bool
+isSmall x = leb (length (x .rows)) 8 && allSmall (x .rows)
 
 either : {A : Type 0} (test : A → Bool) (t : Bool) (a b : A) → test a ≡ true → test b ≡ true → test (cond t a b) ≡ true
 either test true a b x y = x
 either test false a b x y = y
 
--- every layout is small
-pub table-small : (k : ℕ) → Small (tableOf k)
+is-small : (k : ℕ) → isSmall (tableOf k) ≡ true
 unfolding tableOf allSmall
-table-small k =
+is-small k =
     either isSmall (eqb k 2) _ _ refl
     (either isSmall (eqb k 3) _ _ refl
     (either isSmall (eqb k 4) _ _ refl
@@ -74,12 +64,26 @@ table-small k =
     (either isSmall (eqb k 8) _ _ refl
     (either isSmall (eqb k 9) _ _ refl refl))))))
 
--- whether a layout has an item
-abbrev hasSome : Layout → Bool
-hasSome l = not (eqb (l .boxes) 0) || not (eqb (l .airfields) 0) || not (eqb (l .count) 0)
+-- every section's are
+pub table-small : (k : ℕ) → (length (tableOf k .rows) ≤ 8) × (allSmall (tableOf k .rows) ≡ true)
+table-small k =
+    let few = leb (length (tableOf k .rows)) 8 in
+    let small = allSmall (tableOf k .rows) in
+    (leb-true (length (tableOf k .rows)) 8 (both-left few small (is-small k)), both-right few small (is-small k))
 
-abbrev saysSome : Layout → Bool
-saysSome l = cond (hasSome l) (not (isEmpty (itemsOf l))) (isEmpty (itemsOf l))
+-- the rows of a section stand one behind the other
+pub laid-row : {x : Section} {l : Layout} → Laid x l → (i : ℕ) → i < length (x .rows) → getD allRows (l .first + i) noRow ≡ getD (x .rows) i noRow
+laid-row {x} {l} e i h =
+    sym (getD-drop (l .first) allRows i noRow)
+    ∙ sym (getD-take (l .count) (drop (l .first) allRows) i noRow (omega (arith, e .count)))
+    ∙ ap (λ (rows : List Row). getD rows i noRow) (e .rows)
+
+-- whether a section has an item
+abbrev hasSome : Section → Bool
+hasSome x = not (eqb (x .boxes) 0) || not (eqb (x .airfields) 0) || not (eqb (length (x .rows)) 0)
+
+abbrev saysSome : Section → Bool
+saysSome x = cond (hasSome x) (not (isEmpty (itemsOf x))) (isEmpty (itemsOf x))
 
 same-some : (s t : Bool) → cond s (not t) t ≡ true → s ≡ not t
 same-some true t e = sym e
@@ -88,7 +92,7 @@ same-some false false e = e
 
 -- a layout without lists and digits has no items, any other has some
 pub table-some : (k : ℕ)
-    → (not (eqb (tableOf k .boxes) 0) || not (eqb (tableOf k .airfields) 0) || not (eqb (tableOf k .count) 0)) ≡ not (isEmpty (itemsOf (tableOf k)))
+    → (not (eqb (tableOf k .boxes) 0) || not (eqb (tableOf k .airfields) 0) || not (eqb (length (tableOf k .rows)) 0)) ≡ not (isEmpty (itemsOf (tableOf k)))
 unfolding tableOf
 table-some k =
     same-some (hasSome (tableOf k)) (isEmpty (itemsOf (tableOf k)))

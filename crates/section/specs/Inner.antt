@@ -3,15 +3,15 @@ use mathlib.Core.Path.{_≡_}
 use mathlib.Core.Bool.{Bool, true, _&&_}
 use mathlib.Core.List.{List, [], _∷_, _++_, map}
 use Prim.Native.Nat.{ℕ, _+_, _-_, _≤_}
-use lib.Dec.{leb, eqb}
-use lib.ListN.{length, getD, replicate}
+use lib.Dec.{leb}
+use lib.ListN.{length, getD, take, drop, replicate}
 use Rattle.text.specs.declared.Seen.{Seen}
 use Rattle.text.specs.declared.Seen.the-variants.{Fine, Bad}
 use Rattle.field.specs.declared.Step.{Step}
 use Rattle.field.specs.declared.Step.the-variants.{Next, Stop}
 use Rattle.section.specs.declared.Row.{Row}
 use Rattle.section.specs.declared.Layout.{Layout}
-use Rattle.section.specs.Layout.{Item}
+use Rattle.section.specs.Layout.{Item, Section, noRow, tableOf}
 use Rattle.section.specs.Contents.{Content, amountOf, contentsText, contentsAllowed}
 
 -- ---- Rows
@@ -21,23 +21,26 @@ unfoldable pub allSmall : List Row → Bool
 allSmall [] = true
 allSmall (r ∷ rs) = (leb (r .width) 3 && leb (r .most) 999) && allSmall rs
 
-abbrev pub isSmall : Layout → Bool
-isSmall l = leb (l .count) 8 && (eqb (length (l .rows)) 8 && allSmall (l .rows))
+-- every row that there is, those of a section one behind the other
+unfoldable pub allRows : List Row
+allRows = tableOf 4 .rows ++ (tableOf 5 .rows ++ tableOf 9 .rows)
 
-abbrev pub Small : Layout → Type 0
-Small l = isSmall l ≡ true
+-- a section's lists, and where its rows stand among all
+pub record Laid (x : Section) (l : Layout) : Type 0 where
+  pub boxes : l .boxes ≡ x .boxes
+  pub airfields : l .airfields ≡ x .airfields
+  pub count : l .count ≡ length (x .rows)
+  pub inside : l .first + l .count ≤ 12
+  pub rows : take (l .count) (drop (l .first) allRows) ≡ x .rows
 
 -- ---- A section's numbers, eight of them, those without a row zero
 
 unfoldable pub numbersOf : List Content → List ℕ
 numbersOf cs = map amountOf cs ++ replicate (8 - length cs) 0
 
-abbrev pub noRow : Row
-noRow = record { code = 0; width = 0; least = 0; most = 0 }
-
 -- each is a byte where its row's most is
-abbrev pub Fit : Layout → List ℕ → Type 0
-Fit l v = (i : ℕ) → getD (l .rows) i noRow .most ≤ 255 → getD v i 0 ≤ 255
+abbrev pub Fit : Section → List ℕ → Type 0
+Fit x v = (i : ℕ) → getD (x .rows) i noRow .most ≤ 255 → getD v i 0 ≤ 255
 
 -- ---- A record's section: where what follows it would begin, or the refusal
 

@@ -1,16 +1,14 @@
 -- Document 01, "The command": each section number has its own length and its own limits.
 use mathlib.Core.Path.{_≡_}
 use mathlib.Core.Bool.{Bool, true, false, cond}
-use mathlib.Core.List.{List, [], _∷_, _++_, map}
-use Prim.Native.Nat.{ℕ, zero, suc, _+_, _-_, _*_}
+use mathlib.Core.List.{List, [], _∷_, map}
+use Prim.Native.Nat.{ℕ, zero, suc, _+_, _*_}
 use lib.Dec.{eqb}
-use lib.ListN.{length, take, replicate}
 use Rattle.field.specs.Fields.{after, checkDigits, checkDelimiter}
 use Rattle.field.specs.declared.Step.{Step}
 use Rattle.field.specs.declared.Step.the-variants.{Next}
 use Rattle.lists.specs.Lists.{checkAirfields, checkBoxes, countAt}
 use Rattle.section.specs.declared.Row.{Row}
-use Rattle.section.specs.declared.Layout.{Layout}
 
 -- what a section is made of
 pub data Item : Type 0 where
@@ -26,13 +24,17 @@ number w least most = record { code = 5; width = w; least = least; most = most }
 abbrev pub mark : ℕ → ℕ → Row
 mark least most = record { code = 4; width = 1; least = least; most = most }
 
--- eight rows, the last ones unused
-abbrev pub padded : List Row → List Row
-padded rs = rs ++ replicate (8 - length rs) (number 0 0 0)
+abbrev pub noRow : Row
+noRow = number 0 0 0
 
 -- so many lists of boxes, so many of airfields, then digits
-abbrev pub layout : ℕ → ℕ → List Row → Layout
-layout boxes airfields rs = record { boxes = boxes; airfields = airfields; count = length rs; rows = padded rs }
+pub record Section : Type 0 where
+  pub boxes : ℕ
+  pub airfields : ℕ
+  pub rows : List Row
+
+abbrev pub layout : ℕ → ℕ → List Row → Section
+layout boxes airfields rows = record { boxes = boxes; airfields = airfields; rows = rows }
 
 -- the section numbers, in rising order
 abbrev pub numbers : List ℕ
@@ -44,7 +46,7 @@ look k [] other = other
 look k ((j, a) ∷ rows) other = cond (eqb k j) a (look k rows other)
 
 -- the sections, each ended by `/`
-unfoldable pub tableOf : ℕ → Layout
+unfoldable pub tableOf : ℕ → Section
 tableOf k =
     look k
     ((2, layout 2 0 [])
@@ -74,14 +76,14 @@ abbrev pub several : Item → ℕ → List Item → List Item
 several i zero js = js
 several i (suc n) js = i ∷ several i n js
 
-abbrev pub digitsOf : Layout → List Item
-digitsOf l = map Digits (take (l .count) (l .rows))
+abbrev pub digitsOf : Section → List Item
+digitsOf x = map Digits (x .rows)
 
-abbrev pub listsAndDigits : Layout → List Item
-listsAndDigits l = several AirfieldList (l .airfields) (digitsOf l)
+abbrev pub listsAndDigits : Section → List Item
+listsAndDigits x = several AirfieldList (x .airfields) (digitsOf x)
 
-abbrev pub itemsOf : Layout → List Item
-itemsOf l = several BoxList (l .boxes) (listsAndDigits l)
+abbrev pub itemsOf : Section → List Item
+itemsOf x = several BoxList (x .boxes) (listsAndDigits x)
 
 -- a section's items, in their order
 unfoldable pub layoutOf : ℕ → List Item

@@ -1,6 +1,6 @@
 // The sections of a command in a text, from a place on: each number's own length, limits and refusals.
-use crate::Layout;
 use crate::table::layout_of;
+use crate::table::row_at;
 use field::Step;
 use field::check::delimiter;
 use field::check::digits;
@@ -13,8 +13,7 @@ ghost use Prim.Native.Nat.{_≤_};
 ghost use lib.ListN.{length};
 ghost use Rattle.field.specs.Fields.{repeat};
 ghost use Rattle.lists.specs.Lists.{checkAirfields, checkBoxes};
-ghost use Rattle.section.specs.Layout.{checkItems, checkSection, digitsOf, listsAndDigits};
-ghost use Rattle.section.specs.Inner.{Small};
+ghost use Rattle.section.specs.Layout.{tableOf, checkItems, checkSection, digitsOf, listsAndDigits};
 
 // n lists of boxes.
 fn box_lists(s: &[u8], at: usize, n: usize) -> Step
@@ -57,16 +56,17 @@ fn airfield_lists(s: &[u8], at: usize, n: usize) -> Step
 }
 
 // The digits of a section, row by row, and `/`.
-fn all_digits(s: &[u8], at: usize, l: Layout) -> Step
-    requires { ⌜ (at ≤ length (now s)) × Small l ⌝ }
-    ensures { λ r. ⌜ r ≡ checkItems (digitsOf l) (now (s .entry)) at ⌝ }
+fn all_digits(s: &[u8], at: usize, k: usize) -> Step
+    requires { ⌜ at ≤ length (now s) ⌝ }
+    ensures { λ r. ⌜ r ≡ checkItems (digitsOf (tableOf k)) (now (s .entry)) at ⌝ }
 {
+    let l = layout_of(k);
     let n = l.count;
-    let rows = l.rows;
+    let first = l.first;
     let mut p = at;
     let mut i: usize = 0;
     while i < n {
-        let row = rows[i];
+        let row = row_at(first + i);
         let q = match digits(
             s,
             p,
@@ -87,13 +87,13 @@ fn all_digits(s: &[u8], at: usize, l: Layout) -> Step
 }
 
 // Lists of airfields, and then digits.
-fn behind_boxes(s: &[u8], at: usize, l: Layout) -> Step
-    requires { ⌜ (at ≤ length (now s)) × Small l ⌝ }
-    ensures { λ r. ⌜ r ≡ checkItems (listsAndDigits l) (now (s .entry)) at ⌝ }
+fn behind_boxes(s: &[u8], at: usize, k: usize) -> Step
+    requires { ⌜ at ≤ length (now s) ⌝ }
+    ensures { λ r. ⌜ r ≡ checkItems (listsAndDigits (tableOf k)) (now (s .entry)) at ⌝ }
 {
-    match airfield_lists(s, at, l.airfields) {
+    match airfield_lists(s, at, layout_of(k).airfields) {
         Step::Stop(code, place) => Step::Stop(code, place),
-        Step::Next(p) => all_digits(s, p, l),
+        Step::Next(p) => all_digits(s, p, k),
     }
 }
 
@@ -102,9 +102,8 @@ pub fn check_section(s: &[u8], at: usize, k: usize) -> Step
     requires { ⌜ at ≤ length (now s) ⌝ }
     ensures { λ r. ⌜ r ≡ checkSection k (now (s .entry)) at ⌝ }
 {
-    let l = layout_of(k);
-    match box_lists(s, at, l.boxes) {
+    match box_lists(s, at, layout_of(k).boxes) {
         Step::Stop(code, place) => Step::Stop(code, place),
-        Step::Next(p) => behind_boxes(s, p, l),
+        Step::Next(p) => behind_boxes(s, p, k),
     }
 }

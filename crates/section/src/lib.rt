@@ -11,10 +11,11 @@ pub struct Row {
     pub most: u16,
 }
 
-// A section: so many lists of boxes, so many of airfields, then the first rows, as many as `count` says, and `/`.
+// A section: so many lists of boxes, so many of airfields, then digits, as the rows of the table say from `first` on, `count` of them,
+// and `/`.
 pub struct Layout {
     pub boxes: usize,
     pub airfields: usize,
+    pub first: usize,
     pub count: usize,
-    pub rows: [Row; 8],
 }

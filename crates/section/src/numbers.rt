@@ -1,5 +1,6 @@
 // The numbers of a section, by the rows of its layout: out of a text, checked as a record, into a text.
-use crate::Layout;
+use crate::table::layout_of;
+use crate::table::row_at;
 use field::Step;
 use field::digits::value_at;
 use field::record::middle;
@@ -12,22 +13,23 @@ ghost use lib.ListN.{length};
 ghost use Rattle.text.specs.Over.{over};
 ghost use Rattle.lists.specs.Lists.{allZero};
 ghost use Rattle.field.specs.declared.Step.the-variants.{Next};
-ghost use Rattle.section.specs.Layout.{digitsOf, checkItems, itemsSize};
+ghost use Rattle.section.specs.Layout.{tableOf, digitsOf, checkItems, itemsSize};
 ghost use Rattle.section.specs.Contents.{Amount, contentsAt, contentsText};
-ghost use Rattle.section.specs.Inner.{Small, Fit, numbersOf, passContents, Reaches};
+ghost use Rattle.section.specs.Inner.{Fit, numbersOf, passContents, Reaches};
 
 // What the digits of an accepted section spell, and zeros behind them. They stand at a place, behind the section's lists.
-pub fn numbers_at(s: &[u8], at: usize, l: Layout) -> [u16; 8]
-    requires { ⌜ Small l × (checkItems (digitsOf l) (now s) at ≡ Next (at + itemsSize (digitsOf l) (now s) at)) ⌝ }
-    ensures { λ r. ⌜ (r ≡ numbersOf (contentsAt (digitsOf l) (now (s .entry)) at)) × Fit l r ⌝ }
+pub fn numbers_at(s: &[u8], at: usize, k: usize) -> [u16; 8]
+    requires { ⌜ checkItems (digitsOf (tableOf k)) (now s) at ≡ Next (at + itemsSize (digitsOf (tableOf k)) (now s) at) ⌝ }
+    ensures { λ r. ⌜ (r ≡ numbersOf (contentsAt (digitsOf (tableOf k)) (now (s .entry)) at)) × Fit (tableOf k) r ⌝ }
 {
+    let l = layout_of(k);
     let n = l.count;
-    let rows = l.rows;
+    let first = l.first;
     let mut numbers: [u16; 8] = [0; 8];
     let mut p = at;
     let mut i: usize = 0;
     while i < n {
-        let row = rows[i];
+        let row = row_at(first + i);
         let w = wide(row.width);
         numbers[i] = value_at(s, p, w) as u16;
         p += w;
@@ -37,16 +39,17 @@ pub fn numbers_at(s: &[u8], at: usize, l: Layout) -> [u16; 8]
 }
 
 // Each number within its row's limits, else the row's code where it would stand; else where the text would go on behind them and `/`.
-pub fn pass_numbers(v: [u16; 8], l: Layout, at: usize) -> Step
-    requires { ⌜ Small l × (at ≤ 1000) ⌝ }
-    ensures { λ r. ⌜ (r ≡ passContents (digitsOf l) at (map Amount v)) × Reaches (at + 25) r ⌝ }
+pub fn pass_numbers(v: [u16; 8], k: usize, at: usize) -> Step
+    requires { ⌜ at ≤ 1000 ⌝ }
+    ensures { λ r. ⌜ (r ≡ passContents (digitsOf (tableOf k)) at (map Amount v)) × Reaches (at + 25) r ⌝ }
 {
+    let l = layout_of(k);
     let n = l.count;
-    let rows = l.rows;
+    let first = l.first;
     let mut p = at;
     let mut i: usize = 0;
     while i < n {
-        let row = rows[i];
+        let row = row_at(first + i);
         let x = v[i];
         if !((row.least <= x) & (x <= row.most)) {
             return Step::Stop(row.code, p);
@@ -71,19 +74,20 @@ pub fn are_zero(v: [u16; 8]) -> bool
 }
 
 // The numbers and `/` over the start of `d`; the answer is how many bytes that is.
-pub fn put_numbers(v: [u16; 8], l: Layout, d: &mut [u8]) -> usize
-    requires { ⌜ Small l × (length (contentsText (digitsOf l) (map Amount v)) ≤ length (now d)) ⌝ }
+pub fn put_numbers(v: [u16; 8], k: usize, d: &mut [u8]) -> usize
+    requires { ⌜ length (contentsText (digitsOf (tableOf k)) (map Amount v)) ≤ length (now d) ⌝ }
     ensures { λ r. ⌜
-        (r ≡ length (contentsText (digitsOf l) (map Amount v)))
-        × (now (d .exit) ≡ over (now (d .entry)) 0 (contentsText (digitsOf l) (map Amount v)))
+        (r ≡ length (contentsText (digitsOf (tableOf k)) (map Amount v)))
+        × (now (d .exit) ≡ over (now (d .entry)) 0 (contentsText (digitsOf (tableOf k)) (map Amount v)))
         ⌝ }
 {
+    let l = layout_of(k);
     let n = l.count;
-    let rows = l.rows;
+    let first = l.first;
     let mut p = 0;
     let mut i: usize = 0;
     while i < n {
-        let row = rows[i];
+        let row = row_at(first + i);
         let end = p + wide(row.width);
         put_decimal(&mut d[p..end], middle(v[i]));
         p = end;

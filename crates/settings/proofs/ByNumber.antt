@@ -9,8 +9,7 @@ use lib.ListN.{length, getD, replicate}
 use borrow.Author.Tests.{ne-eqb}
 use Rattle.text.proofs.Cases.{by-test}
 use Rattle.lists.specs.Lists.{allZero}
-use Rattle.section.specs.declared.Layout.{Layout}
-use Rattle.section.specs.Layout.{Item, tableOf, layoutOf, digitsOf}
+use Rattle.section.specs.Layout.{Section, Item, tableOf, layoutOf, digitsOf}
 use Rattle.section.specs.Contents.{Content, Amount, amountOf, contentsText, contentsAllowed}
 use Rattle.section.specs.Inner.{numbersOf, Fit, passContents}
 use Rattle.settings.specs.Settings.{ascentHold, amountIn, enrouteFrom, ascentFrom, hoursFrom, fixedOf, fixedHold, contentsOf}
@@ -67,7 +66,7 @@ hours-same cs = rw (number-in cs 0, number-in cs 1)
 
 -- ---- Numbers that members hold
 
-pub same-fit : (l : Layout) (v w : List ℕ) → v ≡ w → Fit l w → (v ≡ w) × Fit l v
+pub same-fit : (l : Section) (v w : List ℕ) → v ≡ w → Fit l w → (v ≡ w) × Fit l v
 same-fit l v w e f = (e, rw e f)
 
 pub same-bytes : (v w : List ℕ) → v ≡ w → Bytes w → (v ≡ w) × Bytes v

@@ -10,7 +10,6 @@ use field::record::short;
 use section::numbers::are_zero;
 use section::numbers::pass_numbers;
 use section::numbers::put_numbers;
-use section::table::layout_of;
 ghost use mathlib.Core.Path.{_≡_};
 ghost use mathlib.Core.List.{_∷_, [], map};
 ghost use Prim.Native.Nat.{_+_, _≤_};
@@ -145,7 +144,7 @@ pub fn pass_fixed(named: bool, x: Fixed, k: usize, at: usize) -> Step
 {
     let v = numbers_of(x, k);
     if named {
-        return pass_numbers(v, layout_of(k), at);
+        return pass_numbers(v, k, at);
     }
     pass_zero(are_zero(v), at)
 }
@@ -158,7 +157,7 @@ pub fn put_fixed(named: bool, x: Fixed, k: usize, d: &mut [u8]) -> usize
         ⌝ }
 {
     if named {
-        return put_numbers(numbers_of(x, k), layout_of(k), d);
+        return put_numbers(numbers_of(x, k), k, d);
     }
     0
 }

@@ -7,7 +7,6 @@ use crate::section2::regions_fine;
 use crate::section3::airports_fine;
 use field::Step;
 use section::numbers::pass_numbers;
-use section::table::layout_of;
 ghost use mathlib.Core.Path.{_≡_};
 ghost use Rattle.settings.specs.Valid.{flagsValid, valid};
 ghost use Rattle.settings.specs.Inner.{isNext, fixedValid};
@@ -41,7 +40,7 @@ fn fixed_valid(x: Fixed) -> bool
     let mut fine = true;
     let mut k: usize = 4;
     while k < 10 {
-        fine = fine & is_passed(pass_numbers(numbers_of(x, k), layout_of(k), 0));
+        fine = fine & is_passed(pass_numbers(numbers_of(x, k), k, 0));
         k += 1;
     }
     fine

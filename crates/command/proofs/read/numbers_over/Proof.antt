@@ -5,10 +5,9 @@ use Rattle.command.proofs.read.numbers_over.Tie as tie
 use mathlib.Core.Path.{_≡_, sym, ap, _∙_}
 use mathlib.Core.List.{List}
 use denote.Ref.{now}
-use Rattle.section.specs.Layout.{Item, layoutOf, tableOf, digitsOf, checkItems, itemsSize}
+use Rattle.section.specs.Layout.{Item}
 use Rattle.section.specs.Contents.{contentsAt}
 use Rattle.section.specs.Inner.{numbersOf}
-use Rattle.section.proofs.Rows.{table-small}
 use Rattle.settings.proofs.ByNumber.{only-digits}
 use Rattle.field.specs.declared.Step.the-variants.{Next}
 use Rattle.command.proofs.Placed.{stands-inside, stands-accepted, stands-held}
@@ -16,31 +15,21 @@ use Rattle.command.proofs.Placed.{stands-inside, stands-accepted, stand
 is-named-requires : tie.Need-is-named-requires
 is-named-requires c κs = stands-inside (c .before .pre .0)
 
-layout-of-requires : tie.Need-layout-of-requires
-layout-of-requires c κs = search needs
-
--- the layout is the section's items
-digits : (c : tie.After-layout-of) → digitsOf (c .layout-of .result) ≡ layoutOf (c .before .before .before .before .args .k)
-digits c =
-    let start = c .before .before .before .before in
-    ap digitsOf (c .layout-of .ensures) ∙ sym (only-digits (start .args .k) (start .pre .1))
-
 numbers-at-requires : tie.Need-numbers-at-requires
 numbers-at-requires c κs =
-    let start = c .before .before .before .before in
-    let named = sym (c .before .before .is-named .ensures) ∙ c .before .if1 .taken in
-    (rw (c .layout-of .ensures) (table-small (start .args .k)), rw (digits c) (stands-accepted (start .pre .0) named))
+    let start = c .before .before .before in
+    let named = sym (c .before .is-named .ensures) ∙ c .if1 .taken in
+    rw (← only-digits (start .args .k) (start .pre .1)) (stands-accepted (start .pre .0) named)
 
 returns : tie.Need-returns
 returns c =
-    let l = c .before in
-    let start = l .before .before .before .before in
+    let start = c .before .before .before .before in
     let a = start .args in
-    let named = sym (l .before .before .is-named .ensures) ∙ l .before .if1 .taken in (
+    let named = sym (c .before .before .is-named .ensures) ∙ c .before .if1 .taken in (
       c .numbers-at .ensures .0
-          ∙ ap (λ (is : List Item). numbersOf (contentsAt is (now (a .s)) (a .at))) (digits l)
+          ∙ ap (λ (is : List Item). numbersOf (contentsAt is (now (a .s)) (a .at))) (sym (only-digits (a .k) (start .pre .1)))
           ∙ rw named (ap numbersOf (stands-held (start .pre .0))),
-      rw (l .layout-of .ensures) at (c .numbers-at .ensures .1),
+      c .numbers-at .ensures .1,
     )
 
 numbers-of-requires : tie.Need-numbers-of-requires
@@ -56,7 +45,6 @@ numbers-over-spec =
     tie.close
     (tie.spec
     is-named-requires
-    layout-of-requires
     numbers-at-requires
     returns
     numbers-of-requires

@@ -3,47 +3,55 @@ use Rattle.section.proofs.check.all_digits.Statement.{statement}
 use Rattle.section.proofs.check.all_digits.Tie as tie
 use borrow.Author.Needs.{needs}
 use native.Mathlib.Omega.{arith}
-use mathlib.Core.Path.{_≡_, sym, _∙_}
-use mathlib.Core.List.{_∷_, map}
-use Prim.Native.Nat.{_+_, _≤_, _-_}
-use lib.ListN.{length, take, getD}
+use mathlib.Core.Path.{_≡_, sym, ap, _∙_}
+use mathlib.Core.List.{_∷_}
+use Prim.Native.Nat.{_+_, _≤_, _<_, _-_}
+use lib.ListN.{length, getD}
 use denote.Ref.{now}
-use Rattle.section.specs.Layout.{Digits, checkItem, checkItems}
-use Rattle.section.specs.Inner.{noRow}
+use Rattle.section.specs.declared.Row.{Row}
+use Rattle.section.specs.Layout.{Digits, noRow, tableOf, digitsOf, checkItem, checkItems}
 use Rattle.section.proofs.Come.{Come, come-none, come-on, come-stop, come-rest}
-use Rattle.section.proofs.Rows.{rowsFrom, rows-all, rows-turn, rows-end, small-row, small-is}
+use Rattle.section.proofs.Rows.{rowsFrom, rows-turn, rows-end, small-row, table-small, laid-row}
 
 abbrev Inv-loop : tie.InvT-loop
-Inv-loop s at n rows p₀ i₀ p i = (i ≤ n) × Come (map Digits (take n rows)) s at (rowsFrom rows n i) p
+Inv-loop s at k n first p₀ i₀ p i =
+    (n ≡ length (tableOf k .rows)) × ((i ≤ n) × Come (digitsOf (tableOf k)) s at (rowsFrom (tableOf k .rows) i) p)
 
 abbrev μ-loop : tie.MeasureT-loop
-μ-loop s at n rows p₀ i₀ p i = n - i
+μ-loop s at k n first p₀ i₀ p i = n - i
+
+layout-of-requires : tie.Need-layout-of-requires Inv-loop μ-loop
+layout-of-requires c κs = search needs
 
 loop-holds : tie.Need-loop-holds Inv-loop μ-loop
-loop-holds c =
-    let a = c .before .before .args in
-    (omega arith, rw (rows-all (a .l .rows) (a .l .count)) (come-none (c .before .before .pre .0)))
+loop-holds c = (c .layout-of .ensures .count, (omega arith, come-none (c .before .before .pre)))
 
-mul-row : tie.Need-mul-row Inv-loop μ-loop
-mul-row c =
-    let start = c .before .before .before .before in
-    omega (arith, small-is (start .args .l) (start .pre .1) .0, c .loop-test .taken)
+-- there is a row more
+more : (c : tie.In-loop Inv-loop μ-loop) → c .before .loop .i < length (tableOf (c .before .before .before .before .args .k) .rows)
+more c = omega (arith, c .before .loop .inv .0, c .loop-test .taken)
 
-array-copy-out-row : tie.Need-array-copy-out-row Inv-loop μ-loop
-array-copy-out-row c = let start = c .before .before .before .before in omega (arith, small-is (start .args .l) (start .pre .1) .0, c .loop-test .taken)
+add-row-at : tie.Need-add-row-at Inv-loop μ-loop
+add-row-at c = let e = c .before .before .layout-of .ensures in omega (arith, e .inside, e .count, more c)
+
+row-at-requires : tie.Need-row-at-requires Inv-loop μ-loop
+row-at-requires c κs = search needs
+
+-- the row
+row-is : (c : tie.After-row-at Inv-loop μ-loop)
+    → let l = c .before .before in
+    c .row-at .result ≡ getD (tableOf (l .before .before .before .args .k) .rows) (l .loop .i) noRow
+row-is c = c .row-at .ensures ∙ laid-row (c .before .before .before .layout-of .ensures) (c .before .before .loop .i) (more (c .before))
 
 -- up to a row
-here : (c : tie.After-row Inv-loop μ-loop)
-    → let l = c .before .before in
+here : (c : tie.In-loop Inv-loop μ-loop)
+    → let l = c .before in
     let a = l .before .before .before .args in
-    Come (map Digits (take (a .l .count) (a .l .rows))) (now (a .s)) (a .at)
-    (Digits (getD (a .l .rows) (l .loop .i) noRow) ∷ rowsFrom (a .l .rows) (a .l .count) (l .loop .i + 1)) (l .loop .p)
+    Come (digitsOf (tableOf (a .k))) (now (a .s)) (a .at)
+    (Digits (getD (tableOf (a .k) .rows) (l .loop .i) noRow) ∷ rowsFrom (tableOf (a .k) .rows) (l .loop .i + 1)) (l .loop .p)
 here c =
-    let l = c .before .before in
-    let start = l .before .before .before in
-    let a = start .args in
-    let small = small-is (a .l) (start .pre .1) in
-    rw (← rows-turn (a .l .rows) (a .l .count) (l .loop .i) noRow (c .before .loop-test .taken) (omega (arith, small .0, small .1))) (l .loop .inv .1)
+    let l = c .before in
+    let a = l .before .before .before .args in
+    rw (← rows-turn (tableOf (a .k) .rows) (l .loop .i) noRow (more c)) (l .loop .inv .1 .1)
 
 wide-requires : tie.Need-wide-requires Inv-loop μ-loop
 wide-requires c κs = search needs
@@ -56,23 +64,28 @@ middle-requires-2 c κs = search needs
 
 digits-requires : tie.Need-digits-requires Inv-loop μ-loop
 digits-requires c κs =
-    let most = c in
-    let least = most .before in
-    let width = least .before in
+    let width = c .before .before in
     let row = width .before in
-    let l = row .before .before in
-    let start = l .before .before .before in
-    let small = small-is (start .args .l) (start .pre .1) in
-    let few = small-row (start .args .l .rows) (l .loop .i) noRow (omega (arith, small .0, small .1, row .before .loop-test .taken)) (small .2) in
-    (l .loop .inv .1 .inside, (omega (arith, width .wide .ensures, few .0), omega (arith, most .middle2 .ensures, few .1)))
+    let turn = row .before in
+    let l = turn .before in
+    let k = l .before .before .before .args .k in
+    let few = small-row (tableOf k .rows) (l .loop .i) noRow (more turn) (table-small k .1) in
+    let is = row-is row in (
+      l .loop .inv .1 .1 .inside,
+      (
+        omega (arith, width .wide .ensures, few .0, ap (λ (r : Row). r .width) is),
+        omega (arith, c .middle2 .ensures, few .1, ap (λ (r : Row). r .most) is),
+      ),
+    )
 
 -- the row's own check
 checked : (c : tie.After-digits Inv-loop μ-loop)
-    → let row = c .before .before .before .before in
-    let l = row .before .before in
+    → let l = c .before .before .before .before .before .before in
     let a = l .before .before .before .args in
-    c .digits .result ≡ checkItem (Digits (getD (a .l .rows) (l .loop .i) noRow)) (now (a .s)) (l .loop .p)
-checked c = c .digits .ensures ∙ rw (c .before .middle2 .ensures, c .before .before .middle .ensures, c .before .before .before .wide .ensures)
+    c .digits .result ≡ checkItem (Digits (getD (tableOf (a .k) .rows) (l .loop .i) noRow)) (now (a .s)) (l .loop .p)
+checked c =
+    c .digits .ensures
+    ∙ rw (c .before .middle2 .ensures, c .before .before .middle .ensures, c .before .before .before .wide .ensures, row-is (c .before .before .before .before))
 
 enum-known-code : tie.Need-enum-known-code Inv-loop μ-loop
 enum-known-code c = search needs
@@ -80,31 +93,33 @@ enum-known-code c = search needs
 returns : tie.Need-returns Inv-loop μ-loop
 returns c =
     let d = c .before .before .before in
-    come-stop (here (d .before .before .before .before)) (sym (checked d) ∙ c .before .code .given .1)
+    come-stop (here (d .before .before .before .before .before)) (sym (checked d) ∙ c .before .code .given .1)
 
 enum-known-q : tie.Need-enum-known-q Inv-loop μ-loop
 enum-known-q c = search needs
 
 add-i : tie.Need-add-i Inv-loop μ-loop
-add-i c = omega arith
+add-i c = let turn = c .before .before .before .before .before .before .before .before in omega (arith, turn .loop-test .taken)
 
 loop-less : tie.Need-loop-less Inv-loop μ-loop
-loop-less c = omega arith
+loop-less c = let turn = c .before .before .before .before .before .before .before .before in omega (arith, turn .loop-test .taken)
 
 loop-again : tie.Need-loop-again Inv-loop μ-loop
 loop-again c =
     let d = c .before .before .before in
-    (omega arith, come-on (here (d .before .before .before .before)) (sym (checked d) ∙ c .before .q .given .1))
+    let turn = d .before .before .before .before .before in
+    (turn .before .loop .inv .0, (omega (arith, turn .loop-test .taken), come-on (here turn) (sym (checked d) ∙ c .before .q .given .1)))
 
 delimiter-requires : tie.Need-delimiter-requires Inv-loop μ-loop
-delimiter-requires c κs = c .before .loop .inv .1 .inside
+delimiter-requires c κs = c .before .loop .inv .1 .1 .inside
 
 returns-2 : tie.Need-returns-2 Inv-loop μ-loop
 unfolding checkItems
 returns-2 c =
     let l = c .before .before in
     let a = l .before .before .before .args in
-    come-rest (l .loop .inv .1) (rw (rows-end (a .l .rows) (a .l .count) (l .loop .i) (c .before .loop-test .left)) (c .delimiter .ensures))
+    come-rest (l .loop .inv .1 .1)
+    (rw (rows-end (tableOf (a .k) .rows) (l .loop .i) (omega (arith, l .loop .inv .0, c .before .loop-test .left))) (c .delimiter .ensures))
 
 pub all-digits-spec : {M : Type 1} → statement M
 all-digits-spec =
@@ -112,9 +127,10 @@ all-digits-spec =
     (tie.spec
     Inv-loop
     μ-loop
+    layout-of-requires
     loop-holds
-    mul-row
-    array-copy-out-row
+    add-row-at
+    row-at-requires
     wide-requires
     middle-requires
     middle-requires-2

@@ -2,24 +2,31 @@
 use borrow.Author.Needs.{needs}
 use Rattle.section.proofs.check.check_section.Statement.{statement}
 use Rattle.section.proofs.check.check_section.Tie as tie
-use mathlib.Core.Path.{sym, _∙_}
+use mathlib.Core.Path.{_≡_, sym, ap, _∙_}
+use Prim.Native.Nat.{ℕ}
 use denote.Ref.{now}
+use Rattle.field.specs.Fields.{repeat}
+use Rattle.lists.specs.Lists.{checkBoxes}
 use Rattle.lists.proofs.Within.{boxes-within}
-use Rattle.section.specs.Layout.{BoxList, itemsOf, listsAndDigits, layoutOf, tableOf}
+use Rattle.section.specs.Layout.{BoxList, tableOf, layoutOf, listsAndDigits, itemsOf}
 use Rattle.section.proofs.Come.{Come, come-rest, lists-on, lists-stop}
-use Rattle.section.proofs.Rows.{table-small}
+
+-- what the lists say
+lists : (c : tie.After-box-lists)
+    → let a = c .before .before .before .args in
+    c .box-lists .result ≡ repeat (checkBoxes (now (a .s))) (tableOf (a .k) .boxes) (a .at)
+lists c =
+    let a = c .before .before .before .args in
+    c .box-lists .ensures ∙ ap (λ (n : ℕ). repeat (checkBoxes (now (a .s))) n (a .at)) (c .before .layout-of .ensures .boxes)
 
 come : (c : tie.After-known-told2)
-    → let layout = c .before .before .before .before in
-    let a = layout .before .before .args in
-    Come (itemsOf (layout .layout-of .result)) (now (a .s)) (a .at) (listsAndDigits (layout .layout-of .result)) (c .before .p .given .0 .0)
+    → let a = c .before .before .before .before .before .before .args in
+    Come (itemsOf (tableOf (a .k))) (now (a .s)) (a .at) (listsAndDigits (tableOf (a .k))) (c .before .p .given .0 .0)
 come c =
-    let layout = c .before .before .before .before in
-    let start = layout .before .before in
+    let start = c .before .before .before .before .before .before in
     let a = start .args in
-    let l = layout .layout-of .result in
-    lists-on BoxList (l .boxes) (listsAndDigits l) (now (a .s)) (a .at) (boxes-within (now (a .s))) (start .pre)
-    (sym (c .before .before .before .box-lists .ensures) ∙ c .before .p .given .1)
+    lists-on BoxList (tableOf (a .k) .boxes) (listsAndDigits (tableOf (a .k))) (now (a .s)) (a .at) (boxes-within (now (a .s))) (start .pre)
+    (sym (lists (c .before .before .before)) ∙ c .before .p .given .1)
 
 layout-of-requires : tie.Need-layout-of-requires
 layout-of-requires c κs = search needs
@@ -34,24 +41,18 @@ enum-known-p : tie.Need-enum-known-p
 enum-known-p c = search needs
 
 behind-boxes-requires : tie.Need-behind-boxes-requires
-behind-boxes-requires c κs =
-    let layout = c .before .before .before .before in
-    (come c .inside, rw (layout .layout-of .ensures) (table-small (layout .before .before .args .k)))
+behind-boxes-requires c κs = come c .inside
 
 returns : tie.Need-returns
-unfolding layoutOf tableOf
+unfolding layoutOf
 returns c =
-    let layout = c .before .before .before .before in
-    let a = layout .before .before .args in
-    let l = layout .layout-of .result in
-    rw (← layout .layout-of .ensures)
-    (lists-stop BoxList (l .boxes) (listsAndDigits l) (now (a .s)) (a .at) (sym (c .before .before .before .box-lists .ensures) ∙ c .before .code .given .1))
+    let a = c .before .before .before .before .before .before .args in
+    lists-stop BoxList (tableOf (a .k) .boxes) (listsAndDigits (tableOf (a .k))) (now (a .s)) (a .at)
+    (sym (lists (c .before .before .before)) ∙ c .before .code .given .1)
 
 returns-2 : tie.Need-returns-2
-unfolding layoutOf tableOf
-returns-2 c =
-    let layout = c .before .before .before .before .before in
-    rw (← layout .layout-of .ensures) (come-rest (come (c .before)) (c .behind-boxes .ensures))
+unfolding layoutOf
+returns-2 c = come-rest (come (c .before)) (c .behind-boxes .ensures)
 
 pub check-section-spec : {M : Type 1} → statement M
 check-section-spec =

@@ -8,77 +8,90 @@ use mathlib.Core.List.{List, _∷_, map}
 use Prim.Native.Nat.{ℕ, _+_, _-_, _*_, _≤_, _<_}
 use mathlib.Core.Bool.{_&&_}
 use lib.Dec.{leb}
-use lib.ListN.{length, getD, take, drop}
+use lib.ListN.{length, getD, drop}
 use borrow.Author.Tests.{not-true, not-false}
 use Rattle.field.proofs.Decimal.{decimal-length}
-use Rattle.section.specs.Layout.{Digits, digitsOf}
+use Rattle.section.specs.declared.Row.{Row}
+use Rattle.section.specs.Layout.{Digits, noRow, tableOf, digitsOf}
 use Rattle.section.specs.Contents.{Amount}
-use Rattle.section.specs.Inner.{noRow, passContents}
-use Rattle.section.proofs.Rows.{rowsFrom, rows-all, rows-turn, rows-end, small-row, small-is}
+use Rattle.section.specs.Inner.{passContents}
+use Rattle.section.proofs.Rows.{rowsFrom, rows-turn, rows-end, small-row, table-small, laid-row}
 use Rattle.section.proofs.ByRow.{pass-on, pass-stop, pass-end, amounts-turn}
 
 abbrev Inv-loop : tie.InvT-loop
-Inv-loop at v n rows p₀ i₀ p i =
-    (i ≤ n)
-    × (p ≤ at + 3 * i)
-    × (passContents (map Digits (take n rows)) at (map Amount v) ≡ passContents (rowsFrom rows n i) p (map Amount (drop i v)))
+Inv-loop k at v n first p₀ i₀ p i =
+    (n ≡ length (tableOf k .rows))
+    × ((i ≤ n)
+    × ((p ≤ at + 3 * i)
+    × (passContents (digitsOf (tableOf k)) at (map Amount v) ≡ passContents (rowsFrom (tableOf k .rows) i) p (map Amount (drop i v)))))
 
 abbrev μ-loop : tie.MeasureT-loop
-μ-loop at v n rows p₀ i₀ p i = n - i
+μ-loop k at v n first p₀ i₀ p i = n - i
 
 eight : (c : tie.Start Inv-loop μ-loop) → length (c .args .t1) ≡ 8
 eight c = search needs
 
-loop-holds : tie.Need-loop-holds Inv-loop μ-loop
-loop-holds c = let a = c .before .args in (omega arith, omega arith, rw (rows-all (a .l .rows) (a .l .count)))
+layout-of-requires : tie.Need-layout-of-requires Inv-loop μ-loop
+layout-of-requires c κs = search needs
 
--- the row of the next number is there, and small
+loop-holds : tie.Need-loop-holds Inv-loop μ-loop
+loop-holds c = (c .layout-of .ensures .count, (omega arith, (omega arith, refl)))
+
+-- there is a row for the next number, one of eight, and it is small
 near : (c : tie.In-loop Inv-loop μ-loop)
     → let l = c .before in
-    let a = l .before .before .args in
-    (l .loop .i < 8) × ((a .l .count ≤ length (a .l .rows)) × (getD (a .l .rows) (l .loop .i) noRow .width ≤ 3))
+    let rows = tableOf (l .before .before .args .k) .rows in
+    (l .loop .i < length rows) × ((l .loop .i < 8) × (getD rows (l .loop .i) noRow .width ≤ 3))
 near c =
     let l = c .before in
-    let start = l .before .before in
-    let small = small-is (start .args .l) (start .pre .0) in
-    let i : l .loop .i < 8 = omega (arith, small .0, c .loop-test .taken) in
-    (i, (omega (arith, small .0, small .1), small-row (start .args .l .rows) (l .loop .i) noRow (omega (arith, small .1)) (small .2) .0))
+    let k = l .before .before .args .k in
+    let there : l .loop .i < length (tableOf k .rows) = omega (arith, l .loop .inv .0, c .loop-test .taken) in
+    (there, (omega (arith, table-small k .0), small-row (tableOf k .rows) (l .loop .i) noRow there (table-small k .1) .0))
 
 -- what decides, from the next number on
 here : (c : tie.In-loop Inv-loop μ-loop)
     → let l = c .before in
     let a = l .before .before .args in
-    passContents (digitsOf (a .l)) (a .at) (map Amount (a .t1))
-    ≡ passContents (Digits (getD (a .l .rows) (l .loop .i) noRow) ∷ rowsFrom (a .l .rows) (a .l .count) (l .loop .i + 1)) (l .loop .p)
+    passContents (digitsOf (tableOf (a .k))) (a .at) (map Amount (a .t1))
+    ≡ passContents (Digits (getD (tableOf (a .k) .rows) (l .loop .i) noRow) ∷ rowsFrom (tableOf (a .k) .rows) (l .loop .i + 1)) (l .loop .p)
     (Amount (getD (a .t1) (l .loop .i) 0) ∷ map Amount (drop (l .loop .i + 1) (a .t1)))
 here c =
     let l = c .before in
-    let a = l .before .before .args in
-    l .loop .inv .2
-    ∙ rw (rows-turn (a .l .rows) (a .l .count) (l .loop .i) noRow (c .loop-test .taken) (near c .1 .0), amounts-turn (a .t1) (l .loop .i) (omega (arith, eight (l .before .before), near c .0)))
+    let start = l .before .before in
+    let a = start .args in
+    l .loop .inv .1 .1 .1
+    ∙ rw (rows-turn (tableOf (a .k) .rows) (l .loop .i) noRow (near c .0), amounts-turn (a .t1) (l .loop .i) (omega (arith, eight start, near c .1 .0)))
 
-mul-row : tie.Need-mul-row Inv-loop μ-loop
-mul-row c = omega (arith, near c .0)
+add-row-at : tie.Need-add-row-at Inv-loop μ-loop
+add-row-at c = let e = c .before .before .layout-of .ensures in omega (arith, e .inside, e .count, near c .0)
 
-array-copy-out-row : tie.Need-array-copy-out-row Inv-loop μ-loop
-array-copy-out-row c = near c .0
+row-at-requires : tie.Need-row-at-requires Inv-loop μ-loop
+row-at-requires c κs = search needs
+
+-- the row
+row-is : (c : tie.After-row-at Inv-loop μ-loop)
+    → let l = c .before .before in
+    c .row-at .result ≡ getD (tableOf (l .before .before .args .k) .rows) (l .loop .i) noRow
+row-is c = c .row-at .ensures ∙ laid-row (c .before .before .before .layout-of .ensures) (c .before .before .loop .i) (near (c .before) .0)
 
 mul-x : tie.Need-mul-x Inv-loop μ-loop
-mul-x c = omega (arith, near (c .before) .0)
+mul-x c = omega (arith, near (c .before) .1 .0)
 
 array-read-x : tie.Need-array-read-x Inv-loop μ-loop
-array-read-x c = near (c .before) .0
+array-read-x c = near (c .before) .1 .0
 
 returns : tie.Need-returns Inv-loop μ-loop
 returns c =
-    let turn = c .before .before .before .before in
+    let row = c .before .before .before in
+    let turn = row .before in
     let l = turn .before in
     let a = l .before .before .args in
     let i = l .loop .i in
-    let r = getD (a .l .rows) i noRow in
+    let r = getD (tableOf (a .k) .rows) i noRow in
     let x = getD (a .t1) i 0 in (
-      pass-stop (Digits r) (rowsFrom (a .l .rows) (a .l .count) (i + 1)) (l .loop .p) (r .code) (l .loop .p) (Amount x) (map Amount (drop (i + 1) (a .t1)))
-          (rw (not-true (leb (r .least) x && leb x (r .most)) (c .if1 .taken)))
+      rw (row-is row)
+          (pass-stop (Digits r) (rowsFrom (tableOf (a .k) .rows) (i + 1)) (l .loop .p) (r .code) (l .loop .p) (Amount x) (map Amount (drop (i + 1) (a .t1)))
+          (rw (not-true (leb (r .least) x && leb x (r .most)) (rw (row-is row) at (c .if1 .taken)))))
           ∙ sym (here turn),
       tt,
     )
@@ -86,43 +99,60 @@ returns c =
 wide-requires : tie.Need-wide-requires Inv-loop μ-loop
 wide-requires c κs = search needs
 
+-- how wide the row is
+width : (c : tie.After-wide Inv-loop μ-loop)
+    → let l = c .before .before .before .before .before .before in
+    c .wide .result ≡ getD (tableOf (l .before .before .args .k) .rows) (l .loop .i) noRow .width
+width c = c .wide .ensures ∙ ap (λ (r : Row). r .width) (row-is (c .before .before .before .before))
+
 add-p : tie.Need-add-p Inv-loop μ-loop
-add-p c = let turn = c .before .before .before .before .before in omega (arith, near turn .0, near turn .1 .1, c .wide .ensures, turn .before .before .before .pre .1, turn .before .loop .inv .1)
+add-p c =
+    let turn = c .before .before .before .before .before in
+    omega (arith, near turn .1 .0, near turn .1 .1, width c, turn .before .before .before .pre, turn .before .loop .inv .1 .1 .0)
 
 add-i : tie.Need-add-i Inv-loop μ-loop
-add-i c = let turn = c .before .before .before .before .before in omega (arith, near turn .0)
+add-i c = let turn = c .before .before .before .before .before in omega (arith, near turn .1 .0)
 
 loop-less : tie.Need-loop-less Inv-loop μ-loop
 loop-less c = let turn = c .before .before .before .before .before in omega (arith, turn .loop-test .taken)
 
 loop-again : tie.Need-loop-again Inv-loop μ-loop
 loop-again c =
-    let turn = c .before .before .before .before .before in
+    let row = c .before .before .before .before in
+    let turn = row .before in
     let l = turn .before in
     let a = l .before .before .args in
     let i = l .loop .i in
-    let r = getD (a .l .rows) i noRow in
+    let r = getD (tableOf (a .k) .rows) i noRow in
     let x = getD (a .t1) i 0 in
     let long = decimal-length (r .width) x in (
-      omega (arith, turn .loop-test .taken),
-      omega (arith, near turn .1 .1, c .wide .ensures, l .loop .inv .1),
-      here turn
-          ∙ pass-on (Digits r) (rowsFrom (a .l .rows) (a .l .count) (i + 1)) (l .loop .p) (Amount x) (map Amount (drop (i + 1) (a .t1)))
-          (rw (not-false (leb (r .least) x && leb x (r .most)) (c .before .if1 .left)))
-          ∙ rw (long, c .wide .ensures),
+      l .loop .inv .0,
+      (
+        omega (arith, turn .loop-test .taken),
+        (
+          omega (arith, near turn .1 .1, width c, l .loop .inv .1 .1 .0),
+          here turn
+              ∙ pass-on (Digits r) (rowsFrom (tableOf (a .k) .rows) (i + 1)) (l .loop .p) (Amount x) (map Amount (drop (i + 1) (a .t1)))
+              (rw (not-false (leb (r .least) x && leb x (r .most)) (rw (row-is row) at (c .before .if1 .left))))
+              ∙ rw (long, width c),
+        ),
+      ),
     )
 
-add-t22 : tie.Need-add-t22 Inv-loop μ-loop
-add-t22 c = omega (arith, small-is (c .before .before .before .args .l) (c .before .before .before .pre .0) .0, c .before .before .before .pre .1)
+add-t20 : tie.Need-add-t20 Inv-loop μ-loop
+add-t20 c =
+    let l = c .before in
+    let start = l .before .before in
+    omega (arith, table-small (start .args .k) .0, l .loop .inv .0, l .loop .inv .1 .0, l .loop .inv .1 .1 .0, start .pre)
 
 returns-2 : tie.Need-returns-2 Inv-loop μ-loop
 returns-2 c =
     let l = c .before .loop in
     let start = c .before .before .before in
     let a = start .args in
-    let none = rows-end (a .l .rows) (a .l .count) (l .i) (c .loop-test .left) in (
-      pass-end (l .p) (map Amount (drop (l .i) (a .t1))) ∙ sym (l .inv .2 ∙ rw none),
-      omega (arith, small-is (a .l) (start .pre .0) .0, l .inv .1),
+    let none = rows-end (tableOf (a .k) .rows) (l .i) (omega (arith, l .inv .0, c .loop-test .left)) in (
+      pass-end (l .p) (map Amount (drop (l .i) (a .t1))) ∙ sym (l .inv .1 .1 .1 ∙ rw none),
+      omega (arith, table-small (a .k) .0, l .inv .0, l .inv .1 .0, l .inv .1 .1 .0),
     )
 
 pub pass-numbers-spec : {M : Type 1} → statement M
@@ -131,9 +161,10 @@ pass-numbers-spec =
     (tie.spec
     Inv-loop
     μ-loop
+    layout-of-requires
     loop-holds
-    mul-row
-    array-copy-out-row
+    add-row-at
+    row-at-requires
     mul-x
     array-read-x
     returns
@@ -142,5 +173,5 @@ pass-numbers-spec =
     add-i
     loop-less
     loop-again
-    add-t22
+    add-t20
     returns-2)

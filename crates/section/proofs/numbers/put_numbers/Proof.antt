@@ -7,26 +7,29 @@ use mathlib.Core.Path.{_≡_, refl, sym, ap, _∙_}
 use mathlib.Core.List.{List, [], _∷_, _++_, map}
 use Prim.Native.Nat.{ℕ, _+_, _-_, _*_, _≤_, _<_}
 use lib.ListN.{length, getD, set, take, length-append}
-use lib.Seq.{length-take-le}
+use lib.Seq.{take-all, take-length}
 use denote.Ref.{now}
 use borrow.Rule.Slice.PartMut.{putMid}
 use Rattle.text.specs.Over.{over}
 use Rattle.text.proofs.Over.{over-none, length-over, then-byte}
 use Rattle.field.specs.Decimal.{decimal}
 use Rattle.field.proofs.Decimal.{decimal-length}
-use Rattle.section.specs.Layout.{digitsOf}
+use Rattle.section.specs.declared.Row.{Row}
+use Rattle.section.specs.Layout.{noRow, tableOf, digitsOf}
 use Rattle.section.specs.Contents.{Amount, contentsText}
-use Rattle.section.specs.Inner.{noRow}
-use Rattle.section.proofs.Rows.{small-row, small-is}
+use Rattle.section.proofs.Rows.{table-small, laid-row}
 use Rattle.section.proofs.Written.{number-written}
 use Rattle.section.proofs.ByRow.{digitsText, text-more, text-within, text-all}
 
 abbrev Inv-loop : tie.InvT-loop
-Inv-loop d₀ v n rows p₀ i₀ d p i =
-    (i ≤ n) × (length d ≡ length d₀) × (p ≡ length (digitsText (take i rows) v)) × (d ≡ over d₀ 0 (digitsText (take i rows) v))
+Inv-loop k d₀ v n first p₀ i₀ d p i =
+    (n ≡ length (tableOf k .rows))
+    × ((i ≤ n)
+    × ((length d ≡ length d₀)
+    × ((p ≡ length (digitsText (take i (tableOf k .rows)) v)) × (d ≡ over d₀ 0 (digitsText (take i (tableOf k .rows)) v)))))
 
 abbrev μ-loop : tie.MeasureT-loop
-μ-loop d₀ v n rows p₀ i₀ d p i = n - i
+μ-loop k d₀ v n first p₀ i₀ d p i = n - i
 
 eight : (c : tie.Start Inv-loop μ-loop) → length (c .args .t1) ≡ 8
 eight c = search needs
@@ -34,50 +37,47 @@ eight c = search needs
 -- the whole text is the numbers' and `/`, and there is room for it
 whole : (c : tie.Start Inv-loop μ-loop)
     → let a = c .args in
-    contentsText (digitsOf (a .l)) (map Amount (a .t1)) ≡ digitsText (take (a .l .count) (a .l .rows)) (a .t1) ++ (47 ∷ [])
-whole c =
-    let a = c .args in
-    let small = small-is (a .l) (c .pre .0) in
-    text-all (take (a .l .count) (a .l .rows)) (a .t1)
-    (omega (arith, length-take-le (a .l .count) (a .l .rows) (omega (arith, small .0, small .1)), small .0, eight c))
+    contentsText (digitsOf (tableOf (a .k))) (map Amount (a .t1)) ≡ digitsText (tableOf (a .k) .rows) (a .t1) ++ (47 ∷ [])
+whole c = let a = c .args in text-all (tableOf (a .k) .rows) (a .t1) (omega (arith, table-small (a .k) .0, eight c))
 
-room : (c : tie.Start Inv-loop μ-loop) → length (digitsText (take (c .args .l .count) (c .args .l .rows)) (c .args .t1)) + 1 ≤ length (now (c .args .d))
-room c =
-    let a = c .args in
-    omega (arith, c .pre .1, ap length (whole c), length-append (digitsText (take (a .l .count) (a .l .rows)) (a .t1)) (47 ∷ []))
+room : (c : tie.Start Inv-loop μ-loop) → length (digitsText (tableOf (c .args .k) .rows) (c .args .t1)) + 1 ≤ length (now (c .args .d))
+room c = let a = c .args in omega (arith, c .pre, ap length (whole c), length-append (digitsText (tableOf (a .k) .rows) (a .t1)) (47 ∷ []))
+
+layout-of-requires : tie.Need-layout-of-requires Inv-loop μ-loop
+layout-of-requires c κs = search needs
 
 loop-holds : tie.Need-loop-holds Inv-loop μ-loop
 unfolding digitsText
-loop-holds c = (omega arith, refl, refl, over-none _ 0)
+loop-holds c = (c .layout-of .ensures .count, (omega arith, (refl, (refl, over-none _ 0))))
 
 -- the row of the next number is there, and there is room for the number
 near : (c : tie.In-loop Inv-loop μ-loop)
     → let l = c .before in
     let a = l .before .before .before .args in
     (l .loop .i < 8)
-    × ((l .loop .i < length (a .l .rows)) × (l .loop .p + getD (a .l .rows) (l .loop .i) noRow .width + 1 ≤ length (now (a .d))))
+    × ((l .loop .i < length (tableOf (a .k) .rows)) × (l .loop .p + getD (tableOf (a .k) .rows) (l .loop .i) noRow .width + 1 ≤ length (now (a .d))))
 near c =
     let l = c .before in
     let start = l .before .before .before in
     let a = start .args in
+    let rows = tableOf (a .k) .rows in
     let i = l .loop .i in
-    let small = small-is (a .l) (start .pre .0) in
-    let there : i < length (a .l .rows) = omega (arith, small .0, small .1, c .loop-test .taken) in
-    let few : i < 8 = omega (arith, small .0, c .loop-test .taken) in
-    let r = getD (a .l .rows) i noRow in
-    let done = digitsText (take i (a .l .rows)) (a .t1) in
-    let more = text-more (a .l .rows) (a .t1) i there (omega (arith, eight start)) in
-    let long = ap length more ∙ length-append done (decimal (r .width) (getD (a .t1) i 0)) in (
+    let there : i < length rows = omega (arith, l .loop .inv .0, c .loop-test .taken) in
+    let few : i < 8 = omega (arith, table-small (a .k) .0) in
+    let r = getD rows i noRow in
+    let more = text-more rows (a .t1) i there (omega (arith, eight start)) in
+    let long = ap length more ∙ length-append (digitsText (take i rows) (a .t1)) (decimal (r .width) (getD (a .t1) i 0)) in
+    let all : take (length rows) rows ≡ rows = take-length rows in (
       few,
       (
         there,
         omega (
           arith,
           room start,
-          text-within (a .l .rows) (a .t1) (i + 1) (a .l .count) (omega (arith, c .loop-test .taken)),
+          rw all at (text-within rows (a .t1) (i + 1) (length rows) (omega arith)),
           long,
           decimal-length (r .width) (getD (a .t1) i 0),
-          l .loop .inv .2,
+          l .loop .inv .1 .1 .1 .0,
         ),
       ),
     )
@@ -86,20 +86,26 @@ near c =
 next-long : (c : tie.In-loop Inv-loop μ-loop)
     → let l = c .before in
     let a = l .before .before .before .args in
-    length (digitsText (take (l .loop .i + 1) (a .l .rows)) (a .t1)) ≡ l .loop .p + getD (a .l .rows) (l .loop .i) noRow .width
+    length (digitsText (take (l .loop .i + 1) (tableOf (a .k) .rows)) (a .t1)) ≡ l .loop .p + getD (tableOf (a .k) .rows) (l .loop .i) noRow .width
 next-long c =
     let l = c .before in
     let start = l .before .before .before in
     let a = start .args in
     let i = l .loop .i in
-    let r = getD (a .l .rows) i noRow in
-    let more = text-more (a .l .rows) (a .t1) i (near c .1 .0) (omega (arith, eight start, near c .0)) in
+    let r = getD (tableOf (a .k) .rows) i noRow in
+    let more = text-more (tableOf (a .k) .rows) (a .t1) i (near c .1 .0) (omega (arith, eight start, near c .0)) in
     omega (
       arith,
-      ap length more ∙ length-append (digitsText (take i (a .l .rows)) (a .t1)) (decimal (r .width) (getD (a .t1) i 0)),
+      ap length more ∙ length-append (digitsText (take i (tableOf (a .k) .rows)) (a .t1)) (decimal (r .width) (getD (a .t1) i 0)),
       decimal-length (r .width) (getD (a .t1) i 0),
-      l .loop .inv .2,
+      l .loop .inv .1 .1 .1 .0,
     )
+
+-- how wide the row is
+width-is : (c : tie.After-wide Inv-loop μ-loop)
+    → let l = c .before .before .before in
+    c .wide .result ≡ getD (tableOf (l .before .before .before .args .k) .rows) (l .loop .i) noRow .width
+width-is c = c .wide .ensures ∙ ap (λ (r : Row). r .width) (c .before .row-at .ensures ∙ laid-row (c .before .before .before .before .layout-of .ensures) (c .before .before .before .loop .i) (near (c .before .before) .1 .0))
 
 -- the buffer after one number more
 written : (c : tie.After-put-decimal Inv-loop μ-loop)
@@ -107,7 +113,7 @@ written : (c : tie.After-put-decimal Inv-loop μ-loop)
     let l = width .before .before .before in
     let a = l .before .before .before .args in
     putMid (l .loop .p) (l .loop .p + width .wide .result - l .loop .p) (l .loop .d) (c .put-decimal .last .0)
-    ≡ over (now (a .d)) 0 (digitsText (take (l .loop .i + 1) (a .l .rows)) (a .t1))
+    ≡ over (now (a .d)) 0 (digitsText (take (l .loop .i + 1) (tableOf (a .k) .rows)) (a .t1))
 written c =
     let width = c .before .before .before in
     let turn = width .before .before in
@@ -116,32 +122,32 @@ written c =
     let a = start .args in
     let i = l .loop .i in
     let p = l .loop .p in
-    let r = getD (a .l .rows) i noRow in
+    let r = getD (tableOf (a .k) .rows) i noRow in
     let n = near turn in
-    number-written (now (a .d)) (l .loop .d) (c .put-decimal .last .0) (digitsText (take i (a .l .rows)) (a .t1)) (c .before .middle .result) (width .wide .result) p
-    (p + width .wide .result) (l .loop .inv .3) (l .loop .inv .2) refl (omega (arith, n .1 .1, width .wide .ensures)) (c .put-decimal .ensures)
-    ∙ rw (c .before .middle .ensures, width .wide .ensures, ← text-more (a .l .rows) (a .t1) i (n .1 .0) (omega (arith, eight start, n .0)))
+    number-written (now (a .d)) (l .loop .d) (c .put-decimal .last .0) (digitsText (take i (tableOf (a .k) .rows)) (a .t1)) (c .before .middle .result) (width .wide .result) p
+    (p + width .wide .result) (l .loop .inv .1 .1 .1 .1) (l .loop .inv .1 .1 .1 .0) refl (omega (arith, n .1 .1, width-is width)) (c .put-decimal .ensures)
+    ∙ rw (c .before .middle .ensures, width-is width, ← text-more (tableOf (a .k) .rows) (a .t1) i (n .1 .0) (omega (arith, eight start, n .0)))
 
-mul-row : tie.Need-mul-row Inv-loop μ-loop
-mul-row c = omega (arith, near c .0)
+add-row-at : tie.Need-add-row-at Inv-loop μ-loop
+add-row-at c = let e = c .before .before .layout-of .ensures in omega (arith, e .inside, e .count, near c .1 .0)
 
-array-copy-out-row : tie.Need-array-copy-out-row Inv-loop μ-loop
-array-copy-out-row c = near c .0
+row-at-requires : tie.Need-row-at-requires Inv-loop μ-loop
+row-at-requires c κs = search needs
 
 wide-requires : tie.Need-wide-requires Inv-loop μ-loop
 wide-requires c κs = search needs
 
 add-end : tie.Need-add-end Inv-loop μ-loop
-add-end c = omega (arith, near (c .before .before) .1 .1, c .wide .ensures)
+add-end c = omega (arith, near (c .before .before) .1 .1, width-is c)
 
 sub-put-decimal : tie.Need-sub-put-decimal Inv-loop μ-loop
 sub-put-decimal c = omega arith
 
 part-put-decimal-start : tie.Need-part-put-decimal-start Inv-loop μ-loop
-part-put-decimal-start c = omega (arith, near (c .before .before) .1 .1, c .wide .ensures, c .before .before .before .loop .inv .1)
+part-put-decimal-start c = omega (arith, near (c .before .before) .1 .1, width-is c, c .before .before .before .loop .inv .1 .1 .0)
 
 part-put-decimal-end : tie.Need-part-put-decimal-end Inv-loop μ-loop
-part-put-decimal-end c = omega (arith, near (c .before .before) .1 .1, c .wide .ensures, c .before .before .before .loop .inv .1)
+part-put-decimal-end c = omega (arith, near (c .before .before) .1 .1, width-is c, c .before .before .before .loop .inv .1 .1 .0)
 
 mul-middle : tie.Need-mul-middle Inv-loop μ-loop
 mul-middle c = omega (arith, near (c .before .before .before) .0)
@@ -169,50 +175,50 @@ loop-again c =
     let start = l .before .before .before in
     let a = start .args in
     let e = written k in
-    let t = digitsText (take (l .loop .i + 1) (a .l .rows)) (a .t1) in
+    let t = digitsText (take (l .loop .i + 1) (tableOf (a .k) .rows)) (a .t1) in
     let n = near turn in
     let long = next-long turn in
-    (omega (arith, turn .loop-test .taken), ap length e ∙ length-over (now (a .d)) 0 t (omega (arith, n .1 .1, long)), omega (arith, long, k .before .before .before .wide .ensures), e)
+    (l .loop .inv .0, (omega (arith, turn .loop-test .taken), (ap length e ∙ length-over (now (a .d)) 0 t (omega (arith, n .1 .1, long)), (omega (arith, long, width-is (k .before .before .before)), e))))
 
 -- behind the last number
 ended : (c : tie.After-loop Inv-loop μ-loop)
     → let a = c .before .before .before .before .args in
-    (c .before .loop .p ≡ length (digitsText (take (a .l .count) (a .l .rows)) (a .t1)))
-    × (c .before .loop .d ≡ over (now (a .d)) 0 (digitsText (take (a .l .count) (a .l .rows)) (a .t1)))
+    (c .before .loop .p ≡ length (digitsText (tableOf (a .k) .rows) (a .t1)))
+    × (c .before .loop .d ≡ over (now (a .d)) 0 (digitsText (tableOf (a .k) .rows) (a .t1)))
 ended c =
     let l = c .before .loop in
     let a = c .before .before .before .before .args in
-    let all : l .i ≡ a .l .count = omega (arith, l .inv .0, c .loop-test .left) in
-    (l .inv .2 ∙ rw all, l .inv .3 ∙ rw all)
+    let all = take-all (l .i) (tableOf (a .k) .rows) (omega (arith, l .inv .0, c .loop-test .left)) in
+    (l .inv .1 .1 .1 .0 ∙ rw all, l .inv .1 .1 .1 .1 ∙ rw all)
 
 slice-write-d : tie.Need-slice-write-d Inv-loop μ-loop
-slice-write-d c = let l = c .before .loop in omega (arith, ended c .0, l .inv .1, room (c .before .before .before .before))
+slice-write-d c = let l = c .before .loop in omega (arith, ended c .0, l .inv .1 .1 .0, room (c .before .before .before .before))
 
 add-result : tie.Need-add-result Inv-loop μ-loop
 add-result c = omega (arith, ended c .0, room (c .before .before .before .before))
 
 finished : (c : tie.After-loop Inv-loop μ-loop)
     → let a = c .before .before .before .before .args in
-    set (c .before .loop .d) (c .before .loop .p) 47 ≡ over (now (a .d)) 0 (contentsText (digitsOf (a .l)) (map Amount (a .t1)))
+    set (c .before .loop .d) (c .before .loop .p) 47 ≡ over (now (a .d)) 0 (contentsText (digitsOf (tableOf (a .k))) (map Amount (a .t1)))
 finished c =
     let l = c .before .loop in
     let start = c .before .before .before .before in
     let a = start .args in
     let e = ended c in
-    then-byte (now (a .d)) (l .d) (digitsText (take (a .l .count) (a .l .rows)) (a .t1)) 47 0 (l .p) (e .1) (omega (arith, e .0)) (omega (arith, room start, e .0))
+    then-byte (now (a .d)) (l .d) (digitsText (tableOf (a .k) .rows) (a .t1)) 47 0 (l .p) (e .1) (omega (arith, e .0)) (omega (arith, room start, e .0))
     ∙ rw (← whole start)
 
 same-length : tie.Need-same-length Inv-loop μ-loop
 same-length c =
     let start = c .before .before .before .before in
     let a = start .args in
-    ap length (finished c) ∙ length-over (now (a .d)) 0 (contentsText (digitsOf (a .l)) (map Amount (a .t1))) (omega (arith, start .pre .1))
+    ap length (finished c) ∙ length-over (now (a .d)) 0 (contentsText (digitsOf (tableOf (a .k))) (map Amount (a .t1))) (omega (arith, start .pre))
 
 returns : tie.Need-returns Inv-loop μ-loop
 returns c =
     let start = c .before .before .before .before in
     let a = start .args in
-    let t = digitsText (take (a .l .count) (a .l .rows)) (a .t1) in
+    let t = digitsText (tableOf (a .k) .rows) (a .t1) in
     let e = ended c in
     (omega (arith, e .0, ap length (whole start), length-append t (47 ∷ [])), finished c)
 
@@ -222,9 +228,10 @@ put-numbers-spec =
     (tie.spec
     Inv-loop
     μ-loop
+    layout-of-requires
     loop-holds
-    mul-row
-    array-copy-out-row
+    add-row-at
+    row-at-requires
     wide-requires
     add-end
     sub-put-decimal

@@ -4,7 +4,6 @@ use Rattle.settings.proofs.numbers.pass_fixed.Statement.{statement}
 use Rattle.settings.proofs.numbers.pass_fixed.Tie as tie
 use native.Mathlib.Omega.{arith}
 use mathlib.Core.Path.{_∙_}
-use Rattle.section.proofs.Rows.{table-small}
 use Rattle.settings.proofs.Pieces.{pass-named, pass-unnamed}
 use Rattle.settings.proofs.ByNumber.{pass-eight, zero-eight}
 use Rattle.settings.specs.Settings.{fixedHold}
@@ -12,19 +11,15 @@ use Rattle.settings.specs.Settings.{fixedHold}
 numbers-of-requires : tie.Need-numbers-of-requires
 numbers-of-requires c κs = search needs
 
-layout-of-requires : tie.Need-layout-of-requires
-layout-of-requires c κs = search needs
-
 pass-numbers-requires : tie.Need-pass-numbers-requires
-pass-numbers-requires c κs = (rw (c .layout-of .ensures) (table-small (c .before .before .before .args .k)), c .before .before .before .pre .1)
+pass-numbers-requires c κs = c .before .before .pre .1
 
 returns : tie.Need-returns
 returns c =
-    let layout = c .before in
-    let start = layout .before .before .before in
+    let start = c .before .before .before in
     let a = start .args in
-    let p = rw (layout .layout-of .ensures, layout .before .before .numbers-of .ensures .0) at (c .pass-numbers .ensures .0) in
-    pass-named (a .k) 25 (a .at) (fixedHold (a .x) (a .k)) (c .pass-numbers .result) (a .named) (layout .before .if1 .taken)
+    let p = rw (c .before .before .numbers-of .ensures .0) at (c .pass-numbers .ensures .0) in
+    pass-named (a .k) 25 (a .at) (fixedHold (a .x) (a .k)) (c .pass-numbers .result) (a .named) (c .before .if1 .taken)
     (p ∙ pass-eight (a .x) (a .at) (a .k) (start .pre .0), c .pass-numbers .ensures .1)
 
 are-zero-requires : tie.Need-are-zero-requires
@@ -46,7 +41,6 @@ pass-fixed-spec =
     tie.close
     (tie.spec
     numbers-of-requires
-    layout-of-requires
     pass-numbers-requires
     returns
     are-zero-requires

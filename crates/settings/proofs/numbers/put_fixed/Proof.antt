@@ -7,31 +7,26 @@ use mathlib.Core.Path.{_≡_, _∙_, ap}
 use mathlib.Core.List.{map}
 use denote.Ref.{now}
 use Rattle.text.proofs.Over.{over-none}
-use Rattle.section.specs.Layout.{layoutOf, digitsOf}
+use Rattle.section.specs.Layout.{tableOf, layoutOf, digitsOf}
 use Rattle.section.specs.Contents.{Amount, contentsText}
-use Rattle.section.proofs.Rows.{table-small}
 use Rattle.settings.specs.Settings.{fixedHold}
 use Rattle.settings.proofs.ByNumber.{text-eight}
 
 -- what is written is the section's text
-text : (c : tie.After-layout-of)
-    → let a = c .before .before .before .before .args in
-    contentsText (digitsOf (c .layout-of .result)) (map Amount (c .before .numbers-of .result)) ≡ contentsText (layoutOf (a .k)) (fixedHold (a .x) (a .k))
+text : (c : tie.After-numbers-of)
+    → let a = c .before .before .before .args in
+    contentsText (digitsOf (tableOf (a .k))) (map Amount (c .numbers-of .result)) ≡ contentsText (layoutOf (a .k)) (fixedHold (a .x) (a .k))
 text c =
-    let start = c .before .before .before .before in
-    rw (c .layout-of .ensures, c .before .numbers-of .ensures .0) (text-eight (start .args .x) (start .args .k) (start .pre .0))
+    let start = c .before .before .before in
+    rw (c .numbers-of .ensures .0) (text-eight (start .args .x) (start .args .k) (start .pre .0))
 
 numbers-of-requires : tie.Need-numbers-of-requires
 numbers-of-requires c κs = search needs
 
-layout-of-requires : tie.Need-layout-of-requires
-layout-of-requires c κs = search needs
-
 put-numbers-requires : tie.Need-put-numbers-requires
 put-numbers-requires c κs =
     let l = c .before in
-    let start = l .before .before .before .before in
-    (rw (l .layout-of .ensures) (table-small (start .args .k)), rw (text l) (rw (l .before .before .if1 .taken) at (start .pre .1)))
+    rw (text l) (rw (l .before .if1 .taken) at (l .before .before .before .pre .1))
 
 same-length : tie.Need-same-length
 same-length c = search needs
@@ -39,7 +34,7 @@ same-length c = search needs
 returns : tie.Need-returns
 returns c =
     let l = c .before .before .before .before in
-    let t = l .before .before .if1 .taken in
+    let t = l .before .if1 .taken in
     let w = c .before .before .put-numbers .ensures in
     (rw t (rw (text l) at (w .0)), rw t (rw (text l) at (w .1)))
 
@@ -51,7 +46,6 @@ put-fixed-spec =
     tie.close
     (tie.spec
     numbers-of-requires
-    layout-of-requires
     put-numbers-requires
     same-length
     returns

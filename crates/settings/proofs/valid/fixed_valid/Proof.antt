@@ -7,7 +7,6 @@ use native.Mathlib.Omega.{arith}
 use mathlib.Core.Path.{_≡_, refl, sym, _∙_}
 use mathlib.Core.Bool.{_&&_, and-assoc, and-true}
 use Prim.Native.Nat.{ℕ, suc, _+_, _-_, _≤_}
-use Rattle.section.proofs.Rows.{table-small}
 use Rattle.settings.specs.Settings.{fixedHold}
 use Rattle.settings.specs.Inner.{fixedValid}
 use Rattle.settings.proofs.ByNumber.{pass-eight}
@@ -24,11 +23,8 @@ loop-holds c = (omega arith, omega arith, refl)
 numbers-of-requires : tie.Need-numbers-of-requires Inv-loop μ-loop
 numbers-of-requires c κs = search needs
 
-layout-of-requires : tie.Need-layout-of-requires Inv-loop μ-loop
-layout-of-requires c κs = search needs
-
 pass-numbers-requires : tie.Need-pass-numbers-requires Inv-loop μ-loop
-pass-numbers-requires c κs = (rw (c .layout-of .ensures) (table-small (c .before .before .before .loop .k)), omega arith)
+pass-numbers-requires c κs = omega arith
 
 is-passed-requires : tie.Need-is-passed-requires Inv-loop μ-loop
 is-passed-requires c κs = search needs
@@ -37,21 +33,20 @@ add-k : tie.Need-add-k Inv-loop μ-loop
 add-k c = omega arith
 
 loop-less : tie.Need-loop-less Inv-loop μ-loop
-loop-less c = omega (arith, c .before .before .before .before .loop-test .taken)
+loop-less c = omega (arith, c .before .before .before .loop-test .taken)
 
 loop-again : tie.Need-loop-again Inv-loop μ-loop
 unfolding fixedValid
 loop-again c =
     let passed = c .before in
-    let layout = passed .before in
-    let numbers = layout .before in
+    let numbers = passed .before in
     let turn = numbers .before in
     let l = turn .before .loop in
     let x = turn .before .before .args .x in
     let k = l .k in
     let one : 10 - k ≡ suc (10 - (k + 1)) = omega (arith, turn .loop-test .taken) in
     let next : k + 1 ≡ suc k = omega arith in
-    let p = rw (layout .layout-of .ensures, numbers .numbers-of .ensures .0) at (passed .pass-numbers .ensures .0) in (
+    let p = rw (numbers .numbers-of .ensures .0) at (passed .pass-numbers .ensures .0) in (
       omega (arith, l .inv .0),
       omega (arith, turn .loop-test .taken),
       l .inv .2 ∙ rw (one, c .is-passed .ensures, p ∙ pass-eight x 0 k (l .inv .0), next) (sym (and-assoc (l .fine) _ _)),
@@ -72,7 +67,6 @@ fixed-valid-spec =
     μ-loop
     loop-holds
     numbers-of-requires
-    layout-of-requires
     pass-numbers-requires
     is-passed-requires
     add-k
