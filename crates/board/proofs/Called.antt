@@ -14,7 +14,7 @@ use Rattle.text.specs.declared.Seen.{Seen}
 use Rattle.text.specs.declared.Seen.the-variants.{Fine, Bad}
 use Rattle.text.proofs.Cases.{by-test, by-lt, both-left, both-right}
 use Rattle.command.specs.Text.{longest, checkCommand}
-use Rattle.command.proofs.Accepted.{longest-is, accepted}
+use Rattle.command.proofs.Accepted.{accepted}
 use Rattle.join.specs.Join.{Joined, Joins, Refuses, joinText, join}
 use Rattle.join.proofs.Laws.{join-short}
 use Rattle.board.specs.Board.{isDesignator, WaitingSlot, emptySlot, isFree, isFor, any, lowest, waiting, isValid, Move, Stay, Put, Free, placed, handedOut, add, takeOut}
@@ -51,9 +51,9 @@ shape-false true false f v h = refl
 shape-false false e f v h = refl
 
 -- two accepted texts join in 835 bytes
-join-is : (s t : List ℕ) → checkCommand s ≡ Fine → checkCommand t ≡ Fine → join s t 835 ≡ Joins (joinText s t)
+join-is : (s t : List ℕ) → checkCommand s ≡ Fine → checkCommand t ≡ Fine → join s t longest ≡ Joins (joinText s t)
 unfolding join
-join-is s t e f = rw (e, f, le-leb (length (joinText s t)) 835 (join-short s t e f))
+join-is s t e f = rw (e, f, le-leb (length (joinText s t)) longest (join-short s t e f))
 
 module _ (area : List ℕ) (w : Wanted) (xs : List Slot) where
   abbrev v : Findings
@@ -63,23 +63,22 @@ module _ (area : List ℕ) (w : Wanted) (xs : List Slot) where
   b = boardOf xs area
 
   abbrev sized : Bool
-  sized = leb (length xs) 64 && eqb (length area) (835 * length xs)
+  sized = leb (length xs) 64 && eqb (length area) (longest * length xs)
 
   -- the look says whether the board is valid
   pub valid-is : v .valid ≡ isValidLent xs area
   unfolding isValidLent isShaped startOf
   valid-is =
-      rw longest-is
-      (by-test sized
+      by-test sized
       (λ (t : sized ≡ true).
-      let few = leb-true (length xs) 64 (both-left (leb (length xs) 64) (eqb (length area) (835 * length xs)) t) in
-      let bytes = eqb-true (length area) (835 * length xs) (both-right (leb (length xs) 64) (eqb (length area) (835 * length xs)) t) in
+      let few = leb-true (length xs) 64 (both-left (leb (length xs) 64) (eqb (length area) (longest * length xs)) t) in
+      let bytes = eqb-true (length area) (longest * length xs) (both-right (leb (length xs) 64) (eqb (length area) (longest * length xs)) t) in
       valid-all area w xs (startOf (length xs) (length area)) (rw zero-add few) (rw zero-add bytes)
-      ∙ shape-true (leb (length xs) 64) (eqb (length area) (835 * length xs)) (lengthsFit xs) (isValid b) t)
+      ∙ shape-true (leb (length xs) 64) (eqb (length area) (longest * length xs)) (lengthsFit xs) (isValid b) t)
       (λ (t : sized ≡ false).
       ap (λ (z : Findings). z .valid) (stays-bad area w xs (startOf (length xs) (length area)) 0 xs t)
       ∙ t
-      ∙ sym (shape-false (leb (length xs) 64) (eqb (length area) (835 * length xs)) (lengthsFit xs) (isValid b) t)))
+      ∙ sym (shape-false (leb (length xs) 64) (eqb (length area) (longest * length xs)) (lengthsFit xs) (isValid b) t))
 
   pub count-is : v .count ≡ length xs
   unfolding startOf
@@ -101,8 +100,8 @@ module _ (area : List ℕ) (w : Wanted) (xs : List Slot) where
     holds : Shape xs area
     holds = shape xs area shaped
 
-    bytes : length area ≡ 835 * length xs
-    bytes = holds .bytes ∙ rw longest-is refl
+    bytes : length area ≡ longest * length xs
+    bytes = holds .bytes
 
     owns : Owns area w xs v 0 xs
     unfolding startOf
@@ -136,20 +135,20 @@ module _ (area : List ℕ) (w : Wanted) (xs : List Slot) where
       length-is : v .length ≡ getD xs i noSlot .length
       length-is = owns .length k
 
-      length-fits : v .length ≤ 835
-      length-fits = rw (length-is, ← longest-is) (fit-at xs i (holds .fit))
+      length-fits : v .length ≤ longest
+      length-fits = rw length-is (fit-at xs i (holds .fit))
 
       own-fits : fitsAt (v .own) (v .length) (length area) ≡ true
       own-fits =
           let l : v .own < length xs = rw own-is inside in
           let f = holds .few in
-          let m : 835 * v .own + 835 ≤ length area = omega (arith, l, bytes) in
-          rw (lt-ltb (v .own) 64 (omega arith), le-leb (v .length) 835 length-fits, le-leb (835 * v .own + 835) (length area) m)
+          let m : longest * v .own + longest ≤ length area = omega (arith, l, bytes) in
+          rw (lt-ltb (v .own) 64 (omega arith), le-leb (v .length) longest length-fits, le-leb (longest * v .own + longest) (length area) m)
 
       -- it is what waits
       waits-is : waitsAt v area ≡ waiting (w .designator) b
       unfolding waiting
-      waits-is = rw (own-is, length-is) (sym (text-at xs area i (holds .fit) inside ∙ rw longest-is refl))
+      waits-is = rw (own-is, length-is) (sym (text-at xs area i (holds .fit) inside))
 
       -- and the slot's designator is the aircraft's
       who-is : getD xs i noSlot .designator ≡ w .designator
@@ -162,8 +161,8 @@ module _ (area : List ℕ) (w : Wanted) (xs : List Slot) where
       own-move : (t : List ℕ) → checkCommand t ≡ Fine → ownMove v w area t ≡ Put i (w .designator) (joinText (waiting (w .designator) b) t)
       unfolding ownMove
       own-move t e =
-          cond-true (fitsAt (v .own) (v .length) (length area)) (joinsTo (join (waitsAt v area) t 835) (v .own) (w .designator)) (Stay 10 0) own-fits
-          ∙ ap (λ (s : List ℕ). joinsTo (join s t 835) (v .own) (w .designator)) waits-is
+          cond-true (fitsAt (v .own) (v .length) (length area)) (joinsTo (join (waitsAt v area) t longest) (v .own) (w .designator)) (Stay 10 0) own-fits
+          ∙ ap (λ (s : List ℕ). joinsTo (join s t longest) (v .own) (w .designator)) waits-is
           ∙ ap (λ (j : Joined). joinsTo j (v .own) (w .designator)) (join-is (waiting (w .designator) b) t (is-fine _ (waiting-fine (w .designator) b sound k)) e)
           ∙ ap (λ (n : ℕ). Put n (w .designator) (joinText (waiting (w .designator) b) t)) own-is
 
@@ -171,7 +170,7 @@ module _ (area : List ℕ) (w : Wanted) (xs : List Slot) where
       waits-length =
           let f = length-fits in
           let l : v .own < length xs = rw own-is inside in
-          sym (ap length waits-is) ∙ length-take-le (v .length) (drop (835 * v .own) area) (omega (arith, l, bytes, length-drop (835 * v .own) area))
+          sym (ap length waits-is) ∙ length-take-le (v .length) (drop (longest * v .own) area) (omega (arith, l, bytes, length-drop (longest * v .own) area))
 
     -- where none waits and a slot is free
     free-move : (t : List ℕ) → checkCommand t ≡ Fine → any isFree b ≡ true → freeMove v w area t ≡ Put (lowest isFree b) (w .designator) t
@@ -179,10 +178,10 @@ module _ (area : List ℕ) (w : Wanted) (xs : List Slot) where
     free-move t e k =
         let l : v .free < length xs = rw (free-is, ← length-board xs area) (lowest-inside isFree b k) in
         let f = holds .few in
-        let m : 835 * v .free + 835 ≤ length area = omega (arith, l, bytes) in
-        let s : length t ≤ 835 = accepted t e .short in
+        let m : longest * v .free + longest ≤ length area = omega (arith, l, bytes) in
+        let s : length t ≤ longest = accepted t e .short in
         cond-true (fitsAt (v .free) (length t) (length area)) (Put (v .free) (w .designator) t) (Stay 10 0)
-        (rw (lt-ltb (v .free) 64 (omega arith), le-leb (length t) 835 s, le-leb (835 * v .free + 835) (length area) m))
+        (rw (lt-ltb (v .free) 64 (omega arith), le-leb (length t) longest s, le-leb (longest * v .free + longest) (length area) m))
         ∙ ap (λ (n : ℕ). Put n (w .designator) t) free-is
 
     placed-is : (t : List ℕ) → checkCommand t ≡ Fine → placedMove v w area t ≡ placed b (w .designator) t
@@ -278,8 +277,8 @@ module _ (v : Findings) (w : Wanted) (area : List ℕ) (xs : List Slot) where
   own-agrees : (t : List ℕ) → Agrees w xs (ownMove v w area t)
   unfolding ownMove
   own-agrees t =
-      agrees-cond w xs (fitsAt (v .own) (v .length) (length area)) (joinsTo (join (waitsAt v area) t 835) (v .own) (w .designator)) (Stay 10 0)
-      (λ z. joins-agree w xs (join (waitsAt v area) t 835) (v .own)) (λ z. tt)
+      agrees-cond w xs (fitsAt (v .own) (v .length) (length area)) (joinsTo (join (waitsAt v area) t longest) (v .own) (w .designator)) (Stay 10 0)
+      (λ z. joins-agree w xs (join (waitsAt v area) t longest) (v .own)) (λ z. tt)
 
   free-agrees : (t : List ℕ) → Agrees w xs (freeMove v w area t)
   unfolding freeMove

@@ -18,6 +18,7 @@ use Rattle.board.proofs.Scanned.{step-bad, step-free}
 use Rattle.board.specs.declared.Wanted.{Wanted}
 use Rattle.board.specs.declared.Slot.{Slot}
 use Rattle.board.specs.declared.Findings.{Findings}
+use Rattle.command.specs.Text.{longest}
 
 -- a list of six is its six elements
 pub six : (l : List ℕ) → length l ≡ 6
@@ -42,7 +43,7 @@ same-six a b e f =
     ∙ simp (and-assoc, and-true))
 
 -- the area's length is asked for only where there are at most 64 slots
-pub start-bytes : (n bytes : ℕ) → (leb n 64 && eqb bytes (835 * (n % 65))) ≡ (leb n 64 && eqb bytes (835 * n))
+pub start-bytes : (n bytes : ℕ) → (leb n 64 && eqb bytes (longest * (n % 65))) ≡ (leb n 64 && eqb bytes (longest * n))
 start-bytes n bytes =
     by-le n 64
     (λ (h : n ≤ 64). let e : n % 65 ≡ n = omega arith in rw e)

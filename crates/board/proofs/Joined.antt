@@ -9,7 +9,7 @@ use Rattle.text.specs.Checks.{isFine}
 use Rattle.text.proofs.Cases.{by-test, both-left, both-right}
 use Rattle.settings.specs.declared.Settings.{Settings}
 use Rattle.command.specs.Text.{checkCommand, longest}
-use Rattle.command.proofs.Accepted.{accepted, longest-is}
+use Rattle.command.proofs.Accepted.{accepted}
 use Rattle.config.specs.Config.{applyTo}
 use Rattle.join.specs.Join.{joinText}
 use Rattle.join.proofs.Laws.{join-acts}
@@ -23,7 +23,7 @@ use Rattle.board.proofs.Steps.{is-fine, accepted-some, joins}
 
 -- an accepted text has at most 835 bytes
 pub accepted-short : (t : List ℕ) → isFine (checkCommand t) ≡ true → length t ≤ longest
-accepted-short t f = rw longest-is (accepted t (is-fine (checkCommand t) f) .short)
+accepted-short t f = accepted t (is-fine (checkCommand t) f) .short
 
 -- so has what waits on a valid board
 pub waiting-short : (d : List ℕ) (b : List WaitingSlot) → isValid b ≡ true → length (waiting d b) ≤ longest

@@ -4,7 +4,7 @@ use mathlib.Core.Bool.{Bool, true, not, _&&_}
 use mathlib.Core.List.{List, [], _∷_, _++_, append-assoc}
 use Prim.Native.Nat.{ℕ, zero, suc, _+_, _-_, _*_, _≤_, _<_}
 use native.Mathlib.Omega.{arith}
-use native.Mathlib.Nat.{mul-zero, zero-add, add-assoc, mul-le-mul-left}
+use native.Mathlib.Nat.{zero-add, add-assoc, mul-le-mul-left}
 use lib.Dec.{leb, eqb}
 use lib.ListN.{length, take, drop, getD, set, length-set, length-take, length-drop}
 use lib.Seq.{drop-at, take-append-le, take-append-seam, take-take, take-add, drop-drop, length-take-le, drop-append-add}
@@ -111,7 +111,7 @@ pub slot-at : (xs : List Slot) (area : List ℕ) (i : ℕ) → i < length xs
     }
 unfolding boardOf
 slot-at [] area i l = absurd (omega arith)
-slot-at (x ∷ xs) area zero l = rw mul-zero
+slot-at (x ∷ xs) area zero l = refl
 slot-at (x ∷ xs) area (suc i) l =
     let e : longest + longest * i ≡ longest * suc i = omega arith in
     slot-at xs (drop longest area) i (omega arith) ∙ rw (drop-drop (longest * i) longest area, e)
@@ -167,7 +167,7 @@ pub slot-put : (xs : List Slot) (area : List ℕ) (i : ℕ) (d t : List ℕ) →
     ≡ set (boardOf xs area) i (record { who = d; text = t })
 unfolding boardOf
 slot-put [] area i d t e l h = absurd (omega arith)
-slot-put (x ∷ xs) area zero d t e l h = rw (mul-zero, take-here area longest t h, drop-here area longest t h)
+slot-put (x ∷ xs) area zero d t e l h = rw (take-here area longest t h, drop-here area longest t h)
 slot-put (x ∷ xs) area (suc i) d t e l h =
     let k : longest * suc i ≡ longest + longest * i = omega arith in
     let f : length area ≡ longest + longest * length xs = e ∙ omega arith in

@@ -16,7 +16,6 @@ use Rattle.text.proofs.Bytes.{all-allowed-is}
 use Rattle.text.proofs.Cases.{by-test, by-eq, both-left, both-right}
 use Rattle.text.proofs.Equal.{same-equal, equal-same}
 use Rattle.command.specs.Text.{longest, checkCommand}
-use Rattle.command.proofs.Accepted.{longest-is}
 use Rattle.join.specs.Join.{joinText}
 use Rattle.board.specs.Board.{isDesignator, WaitingSlot, emptySlot, isNone, isFree, isFor, any, lowest, waiting, isValid, Stay, Put, pastRefusals, placing, add}
 use Rattle.board.specs.History.{Add}
@@ -52,7 +51,7 @@ module _ (xs : List Slot) (area : List ℕ) where
 
   -- and holds its text
   text-is : (i : ℕ) → InUse xs i → getD (boardOf xs area) i emptySlot .text ≡ textIn xs area i
-  text-is i u = ap (λ (p : WaitingSlot). p .text) (slot-at xs area i (used-there xs i u)) ∙ rw longest-is
+  text-is i u = ap (λ (p : WaitingSlot). p .text) (slot-at xs area i (used-there xs i u))
 
   module _ (h : Shape xs area) where
     -- a place is free where its slot's length is 0
@@ -93,7 +92,7 @@ valid-said xs area e =
     let p : Proper b = valid-proper b (both-right (isShaped xs area) (isValid b) e) in
     record {
       few = h .few;
-      bytes = h .bytes ∙ ap (λ (n : ℕ). n * length xs) longest-is;
+      bytes = h .bytes;
       named = λ i u. formed (slotAt xs i .designator) (ap isDesignator (sym (who-is xs area i u)) ∙ p .named i (place-used xs area h i u));
       different = λ i j u v s.
           by-eq i j (λ k. k)
@@ -101,7 +100,7 @@ valid-said xs area e =
           (equal-same (getD b i emptySlot .who) (getD b j emptySlot .who) (who-is xs area i u ∙ s ∙ sym (who-is xs area j v)))
           (p .different i j (λ k. n (sym k)) (place-used xs area h i u) (place-used xs area h j v)));
       texts = λ i u. (
-        rw longest-is at (fit-at xs i (h .fit)),
+        fit-at xs i (h .fit),
         ap checkCommand (sym (text-is xs area i u)) ∙ is-fine (checkCommand (getD b i emptySlot .text)) (p .fine i (place-used xs area h i u)),
       );
     }
@@ -138,13 +137,13 @@ said-valid xs area v =
     short i =
         by-eq (slotAt xs i .length) 0
         (λ (z : slotAt xs i .length ≡ 0). omega arith)
-        (λ u. rw longest-is (v .texts i u .0))
+        (λ u. v .texts i u .0)
 
     shapely : Shape xs area
     shapely =
         record {
           few = v .few;
-          bytes = v .bytes ∙ ap (λ (n : ℕ). n * length xs) (sym longest-is);
+          bytes = v .bytes;
           fit = lengths-fit xs short;
         }
 

@@ -23,12 +23,12 @@ use Rattle.board.specs.declared.Findings.{Findings}
 use Rattle.board.specs.declared.Wanted.{Wanted}
 
 -- what a slot's lying in the area says
-pub fits : (i n bytes : ℕ) → fitsAt i n bytes ≡ true → (i < 64) × (n ≤ 835) × (835 * i + 835 ≤ bytes)
+pub fits : (i n bytes : ℕ) → fitsAt i n bytes ≡ true → (i < 64) × (n ≤ longest) × (longest * i + longest ≤ bytes)
 fits i n bytes e =
-    let two = both-left (ltb i 64 && leb n 835) (leb (835 * i + 835) bytes) e in (
-      ltb-true i 64 (both-left (ltb i 64) (leb n 835) two),
-      leb-true n 835 (both-right (ltb i 64) (leb n 835) two),
-      leb-true (835 * i + 835) bytes (both-right (ltb i 64 && leb n 835) (leb (835 * i + 835) bytes) e),
+    let two = both-left (ltb i 64 && leb n longest) (leb (longest * i + longest) bytes) e in (
+      ltb-true i 64 (both-left (ltb i 64) (leb n longest) two),
+      leb-true n longest (both-right (ltb i 64) (leb n longest) two),
+      leb-true (longest * i + longest) bytes (both-right (ltb i 64 && leb n longest) (leb (longest * i + longest) bytes) e),
     )
 
 -- ---- What was told of a join
@@ -60,11 +60,11 @@ pub record Onto (j : Joined) (m : ℕ) (l : List ℕ) : Type 0 where
   pub text : List ℕ
   pub is : j ≡ Joins text
   pub long : length text ≡ m
-  pub short : m ≤ 835
+  pub short : m ≤ longest
   pub room : m ≤ length l
   pub found : take m l ≡ text
 
-pub onto : (a b d l : List ℕ) (j : Joined) (m : ℕ) → length d ≡ 835 → j ≡ join a b (length d) → told j ≡ Text m
+pub onto : (a b d l : List ℕ) (j : Joined) (m : ℕ) → length d ≡ longest → j ≡ join a b (length d) → told j ≡ Text m
     → l ≡ joinedOver j d → Onto j m l
 onto a b d l j m n e f w =
     let k = told-text j m f in

@@ -51,12 +51,12 @@ night =
 
 -- no board is named here
 night-called : calledFor 1 [] (asked night) ≡ night
-unfolding calledFor sinceFrom joined member callers busyAmong sameBytes allowed allAllowed first second both checkCommand longest sectionsMost layoutOf tableOf itemsMost itemsSize checkHead checkAwr04 checkEach checkDelimiter checkFrom checkItems checkDigits allDigits valueFrom joinText choose joinSections placeFrom
+unfolding calledFor sinceFrom joined member callers busyAmong sameBytes allowed allAllowed first second both checkCommand sectionsMost layoutOf tableOf itemsMost itemsSize checkHead checkAwr04 checkEach checkDelimiter checkFrom checkItems checkDigits allDigits valueFrom joinText choose joinSections placeFrom
 night-called = refl
 
 -- a slot that is free, with an old designator in it
 night-logged : logged (record { who = zz; text = [] } ∷ []) (asked night) ≡ night
-unfolding logged add takeOut isValid any lowest isFor isFree waiting sameBytes allowed allAllowed first second both checkCommand longest sectionsMost layoutOf tableOf itemsMost itemsSize checkHead checkAwr04 checkEach checkDelimiter checkFrom checkItems checkDigits allDigits valueFrom joinText choose joinSections placeFrom
+unfolding logged add takeOut isValid any lowest isFor isFree waiting sameBytes allowed allAllowed first second both checkCommand sectionsMost layoutOf tableOf itemsMost itemsSize checkHead checkAwr04 checkEach checkDelimiter checkFrom checkItems checkDigits allDigits valueFrom joinText choose joinSections placeFrom
 night-logged = refl
 
 -- ---- Two slots: two aircraft, the second taken first
@@ -70,11 +70,11 @@ pair =
     ∷ []
 
 pair-called : calledFor 2 [] (asked pair) ≡ pair
-unfolding calledFor sinceFrom joined member callers busyAmong sameBytes allowed allAllowed first second checkCommand longest sectionsMost layoutOf tableOf itemsMost checkHead checkAwr04 checkEach checkDelimiter checkFrom checkItems checkDigits allDigits valueFrom
+unfolding calledFor sinceFrom joined member callers busyAmong sameBytes allowed allAllowed first second checkCommand sectionsMost layoutOf tableOf itemsMost checkHead checkAwr04 checkEach checkDelimiter checkFrom checkItems checkDigits allDigits valueFrom
 pair-called = refl
 
 pair-logged : logged (record { who = []; text = [] } ∷ record { who = []; text = [] } ∷ []) (asked pair) ≡ pair
-unfolding logged add takeOut isValid any lowest isFor isFree waiting sameBytes allowed allAllowed first second checkCommand longest sectionsMost layoutOf tableOf itemsMost checkHead checkAwr04 checkEach checkDelimiter checkFrom checkItems checkDigits allDigits valueFrom
+unfolding logged add takeOut isValid any lowest isFor isFree waiting sameBytes allowed allAllowed first second checkCommand sectionsMost layoutOf tableOf itemsMost checkHead checkAwr04 checkEach checkDelimiter checkFrom checkItems checkDigits allDigits valueFrom
 pair-logged = refl
 
 -- ---- Which slots are used: the lowest free one, the freed one again
@@ -84,7 +84,7 @@ refilled = Add xy first ∷ Add zz second ∷ Take xy 31 ∷ Add zy second ∷ [
 
 slots-used : after (emptySlot ∷ emptySlot ∷ emptySlot ∷ []) refilled
     ≡ record { who = zy; text = second } ∷ record { who = zz; text = second } ∷ emptySlot ∷ []
-unfolding after add takeOut isValid any lowest isFor isFree waiting sameBytes allowed allAllowed first second checkCommand longest sectionsMost layoutOf tableOf itemsMost checkHead checkAwr04 checkEach checkDelimiter checkFrom checkItems checkDigits allDigits valueFrom
+unfolding after add takeOut isValid any lowest isFor isFree waiting sameBytes allowed allAllowed first second checkCommand sectionsMost layoutOf tableOf itemsMost checkHead checkAwr04 checkEach checkDelimiter checkFrom checkItems checkDigits allDigits valueFrom
 slots-used = refl
 
 -- ---- And on what is lent: two slots of 835 bytes
@@ -97,5 +97,5 @@ lent-holds : afterCalls lent (Add xy first ∷ Add zz second ∷ Take xy 31 ∷ 
       slots = record { designator = xy; length = 0 } ∷ record { designator = zz; length = 31 } ∷ [];
       area = first ++ (replicate 809 0 ++ (second ++ replicate 804 0));
     }
-unfolding afterCalls addLent takeLent isShaped lengthsFit boardOf over add takeOut isValid any lowest isFor isFree waiting sameBytes allowed allAllowed first second checkCommand longest sectionsMost layoutOf tableOf itemsMost checkHead checkAwr04 checkEach checkDelimiter checkFrom checkItems checkDigits allDigits valueFrom
+unfolding afterCalls addLent takeLent isShaped lengthsFit boardOf over add takeOut isValid any lowest isFor isFree waiting sameBytes allowed allAllowed first second checkCommand sectionsMost layoutOf tableOf itemsMost checkHead checkAwr04 checkEach checkDelimiter checkFrom checkItems checkDigits allDigits valueFrom
 lent-holds = refl

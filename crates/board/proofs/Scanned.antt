@@ -15,7 +15,6 @@ use Rattle.text.specs.Equal.{sameBytes}
 use Rattle.text.proofs.Equal.{same-equal, equal-same}
 use Rattle.text.proofs.Cases.{by-test, by-lt, by-le, by-eq, both-left, both-right}
 use Rattle.command.specs.Text.{longest, checkCommand}
-use Rattle.command.proofs.Accepted.{longest-is}
 use Rattle.board.specs.Board.{isDesignator, WaitingSlot, emptySlot, isNone, isFree, isFor, any, lowest, waiting, isSound, isValid}
 use Rattle.board.specs.Lent.{boardOf, lengthsFit, noSlot}
 use Rattle.board.specs.Inner.{isUsed, usedFor, noneFor, aloneIn, soundAt, firstOf, withFree, withUsed, stepOf, scanFrom}
@@ -35,9 +34,9 @@ take-none zero l h = refl
 take-none (suc n) [] h = absurd (omega arith)
 take-none (suc n) (b ∷ l) h = sym (ne-eqb (suc n) 0 (λ (e : suc n ≡ 0). omega arith))
 
-module _ (x : Slot) (area : List ℕ) (h : 835 ≤ length area) where
+module _ (x : Slot) (area : List ℕ) (h : longest ≤ length area) where
   some : 1 ≤ length (take longest area)
-  some = rw (longest-is, length-take-le 835 area h) (omega arith)
+  some = rw (length-take-le longest area h) (omega arith)
 
   -- it is free where the slot's length is 0
   pub place-free : isFree (placeOf x area) ≡ eqb (x .length) 0
@@ -50,21 +49,21 @@ module _ (x : Slot) (area : List ℕ) (h : 835 ≤ length area) where
   place-for d = rw place-free
 
 -- the area of the slots from i on
-module _ (area : List ℕ) (i n : ℕ) (e : length area ≡ 835 * (i + suc n)) where
-  pub here-long : 835 ≤ length (drop (835 * i) area)
-  here-long = rw (length-drop (835 * i) area, e) (omega arith)
+module _ (area : List ℕ) (i n : ℕ) (e : length area ≡ longest * (i + suc n)) where
+  pub here-long : longest ≤ length (drop (longest * i) area)
+  here-long = rw (length-drop (longest * i) area, e) (omega arith)
 
-  pub next-area : drop longest (drop (835 * i) area) ≡ drop (835 * suc i) area
+  pub next-area : drop longest (drop (longest * i) area) ≡ drop (longest * suc i) area
   next-area =
-      let k : 835 * i + 835 ≡ 835 * suc i = omega arith in
-      rw longest-is (drop-drop 835 (835 * i) area ∙ ap (λ (j : ℕ). drop j area) k)
+      let k : longest * i + longest ≡ longest * suc i = omega arith in
+      drop-drop longest (longest * i) area ∙ ap (λ (j : ℕ). drop j area) k
 
-  pub next-bytes : length area ≡ 835 * (suc i + n)
+  pub next-bytes : length area ≡ longest * (suc i + n)
   next-bytes = e ∙ omega arith
 
 -- the board of the slots from i on
 abbrev pub boardFrom : List ℕ → ℕ → List Slot → List WaitingSlot
-boardFrom area i xs = boardOf xs (drop (835 * i) area)
+boardFrom area i xs = boardOf xs (drop (longest * i) area)
 
 -- ---- No slot behind is for an aircraft
 
@@ -72,14 +71,14 @@ not-or : (s t : Bool) → (not s && not t) ≡ not (s || t)
 not-or true t = refl
 not-or false t = refl
 
-pub none-any : (d area : List ℕ) (i : ℕ) (xs : List Slot) → length area ≡ 835 * (i + length xs)
+pub none-any : (d area : List ℕ) (i : ℕ) (xs : List Slot) → length area ≡ longest * (i + length xs)
     → noneFor d xs ≡ not (any (isFor d) (boardFrom area i xs))
 unfolding noneFor any boardOf
 none-any d area i [] e = refl
 none-any d area i (x ∷ xs) e =
     rw (
       next-area area i (length xs) e,
-      place-for x (drop (835 * i) area) (here-long area i (length xs) e) d,
+      place-for x (drop (longest * i) area) (here-long area i (length xs) e) d,
       none-any d area (suc i) xs (next-bytes area i (length xs) e),
     )
     (not-or (usedFor d x) (any (isFor d) (boardFrom area (suc i) xs)))
@@ -112,9 +111,9 @@ agree n d f true v = shuffle n d f v
 agree n d f false v = and-false (n && (d && f))
 
 -- a slot that is longer than its bytes is not sound
-long-unsound : (x : Slot) (area : List ℕ) (i : ℕ) → 835 < x .length → soundAt x area i ≡ false
+long-unsound : (x : Slot) (area : List ℕ) (i : ℕ) → longest < x .length → soundAt x area i ≡ false
 unfolding soundAt
-long-unsound x area i l = rw (lt-leb (x .length) 835 l, and-false (ltb i 64))
+long-unsound x area i l = rw (lt-leb (x .length) longest l, and-false (ltb i 64))
 
 -- a test's two ways
 pub cond-true {ℓ} : {A : Type ℓ} (t : Bool) (p q : A) → t ≡ true → cond t p q ≡ p
@@ -225,24 +224,24 @@ module _ (area : List ℕ) (w : Wanted) (ys : List Slot) where
       ap (λ (z : Findings). scanFrom area w ys z (suc i) xs) (step-bad area w a x (aloneIn a x (take i ys)) i e) ∙ stays-bad a (suc i) xs e
 
   -- designator and text of a used slot, against the place's own soundness
-  module _ (x : Slot) (xs : List Slot) (i : ℕ) (e : length area ≡ 835 * (i + suc (length xs))) (few : i + suc (length xs) ≤ 64) (u : isUsed x ≡ true) (fit : x .length ≤ 835) where
+  module _ (x : Slot) (xs : List Slot) (i : ℕ) (e : length area ≡ longest * (i + suc (length xs))) (few : i + suc (length xs) ≤ 64) (u : isUsed x ≡ true) (fit : x .length ≤ longest) where
     abbrev here : List ℕ
-    here = drop (835 * i) area
+    here = drop (longest * i) area
 
-    text-is : take (x .length) (take longest here) ≡ part (835 * i) (x .length) area
-    text-is = rw longest-is (take-take (x .length) 835 (drop (835 * i) area) fit)
+    text-is : take (x .length) (take longest here) ≡ part (longest * i) (x .length) area
+    text-is = take-take (x .length) longest (drop (longest * i) area) fit
 
-    sound-is : soundAt x area i ≡ (isDesignator (x .designator) && isFine (checkCommand (part (835 * i) (x .length) area)))
+    sound-is : soundAt x area i ≡ (isDesignator (x .designator) && isFine (checkCommand (part (longest * i) (x .length) area)))
     unfolding soundAt
     sound-is =
-        let l : 835 * i + x .length ≤ length area = rw e (omega arith) in
-        rw (lt-ltb i 64 (omega arith), le-leb (x .length) 835 fit, le-leb (835 * i + x .length) (length area) l)
+        let l : longest * i + x .length ≤ length area = rw e (omega arith) in
+        rw (lt-ltb i 64 (omega arith), le-leb (x .length) longest fit, le-leb (longest * i + x .length) (length area) l)
 
     used-sound : isSound (placeOf x here) (boardFrom area (suc i) xs)
-        ≡ (isDesignator (x .designator) && (isFine (checkCommand (part (835 * i) (x .length) area)) && noneFor (x .designator) xs))
+        ≡ (isDesignator (x .designator) && (isFine (checkCommand (part (longest * i) (x .length) area)) && noneFor (x .designator) xs))
     used-sound =
         rw (
-          place-free x (drop (835 * i) area) (here-long area i (length xs) e),
+          place-free x (drop (longest * i) area) (here-long area i (length xs) e),
           not-true (eqb (x .length) 0) u,
           text-is,
           waiting-any (x .designator) (boardFrom area (suc i) xs),
@@ -250,28 +249,28 @@ module _ (area : List ℕ) (w : Wanted) (ys : List Slot) where
         )
 
   -- what the look says of validity, from slot i on
-  module _ (a : Findings) (i : ℕ) (x : Slot) (xs : List Slot) (few : i + suc (length xs) ≤ 64) (e : length area ≡ 835 * (i + suc (length xs))) where
+  module _ (a : Findings) (i : ℕ) (x : Slot) (xs : List Slot) (few : i + suc (length xs) ≤ 64) (e : length area ≡ longest * (i + suc (length xs))) where
     abbrev rest : List WaitingSlot
     rest = boardFrom area (suc i) xs
 
     abbrev asked : Bool
-    asked = leb (x .length) longest && lengthsFit xs && (isSound (placeOf x (drop (835 * i) area)) rest && isValid rest)
+    asked = leb (x .length) longest && lengthsFit xs && (isSound (placeOf x (drop (longest * i) area)) rest && isValid rest)
 
     valid-used : isUsed x ≡ true → (noneFor (x .designator) xs && soundAt x area i && (lengthsFit xs && isValid rest)) ≡ asked
     valid-used u =
-        by-le (x .length) 835
-        (λ (l : x .length ≤ 835).
-        rw (sound-is x xs i e few u l, used-sound x xs i e few u l, longest-is, le-leb (x .length) 835 l)
-        (agree (noneFor (x .designator) xs) (isDesignator (x .designator)) (isFine (checkCommand (part (835 * i) (x .length) area))) (lengthsFit xs) (isValid rest)))
-        (λ (l : 835 < x .length).
+        by-le (x .length) longest
+        (λ (l : x .length ≤ longest).
+        rw (sound-is x xs i e few u l, used-sound x xs i e few u l, le-leb (x .length) longest l)
+        (agree (noneFor (x .designator) xs) (isDesignator (x .designator)) (isFine (checkCommand (part (longest * i) (x .length) area))) (lengthsFit xs) (isValid rest)))
+        (λ (l : longest < x .length).
         let s : soundAt x area i ≡ false = long-unsound x area i l in
-        rw (s, and-false (noneFor (x .designator) xs), longest-is, lt-leb (x .length) 835 l))
+        rw (s, and-false (noneFor (x .designator) xs), lt-leb (x .length) longest l))
 
     valid-free : isUsed x ≡ false → (lengthsFit xs && isValid rest) ≡ asked
     valid-free u =
         let z : eqb (x .length) 0 ≡ true = not-false (eqb (x .length) 0) u in
         let n : x .length ≡ 0 = eqb-true (x .length) 0 z in
-        rw (place-free x (drop (835 * i) area) (here-long area i (length xs) e), z, le-leb (x .length) longest (rw (n, longest-is) (omega arith)))
+        rw (place-free x (drop (longest * i) area) (here-long area i (length xs) e), z, le-leb (x .length) longest (rw n (omega arith)))
 
   -- the slots before the next one
   module _ (i : ℕ) (x : Slot) (xs : List Slot) (left : drop i ys ≡ x ∷ xs) where
@@ -287,7 +286,7 @@ module _ (area : List ℕ) (w : Wanted) (ys : List Slot) where
     left-next : drop (suc i) ys ≡ xs
     left-next = ap (λ (l : List Slot). drop 1 l) parted
 
-  scan-valid : (a : Findings) (i : ℕ) (xs : List Slot) → drop i ys ≡ xs → i + length xs ≤ 64 → length area ≡ 835 * (i + length xs)
+  scan-valid : (a : Findings) (i : ℕ) (xs : List Slot) → drop i ys ≡ xs → i + length xs ≤ 64 → length area ≡ longest * (i + length xs)
       → scanFrom area w ys a i xs .valid ≡ (a .valid && (clearOf (take i ys) xs && (lengthsFit xs && isValid (boardFrom area i xs))))
   unfolding scanFrom lengthsFit isValid boardOf
   scan-valid a i [] left few e = sym (and-true (a .valid))
@@ -326,7 +325,7 @@ module _ (area : List ℕ) (w : Wanted) (ys : List Slot) where
       ∙ rw t))
 
 -- of all slots
-pub valid-all : (area : List ℕ) (w : Wanted) (xs : List Slot) (a : Findings) → 0 + length xs ≤ 64 → length area ≡ 835 * (0 + length xs)
+pub valid-all : (area : List ℕ) (w : Wanted) (xs : List Slot) (a : Findings) → 0 + length xs ≤ 64 → length area ≡ longest * (0 + length xs)
     → scanFrom area w xs a 0 xs .valid ≡ (a .valid && (lengthsFit xs && isValid (boardFrom area 0 xs)))
 valid-all area w xs a few e = scan-valid area w xs a 0 xs refl few e ∙ rw (clear-none xs)
 
@@ -421,27 +420,27 @@ module _ (area : List ℕ) (w : Wanted) (ys : List Slot) where
       (λ (t : a .valid ≡ false). never (sym (ap (λ z. z .valid) (stays-bad area w ys a i xs t)) ∙ e) t)
 
   -- none found before slot i: the look finds the lowest from there on
-  module _ (i : ℕ) (x : Slot) (xs : List Slot) (e : length area ≡ 835 * (i + suc (length xs))) where
+  module _ (i : ℕ) (x : Slot) (xs : List Slot) (e : length area ≡ longest * (i + suc (length xs))) where
     abbrev place : WaitingSlot
-    place = placeOf x (drop (835 * i) area)
+    place = placeOf x (drop (longest * i) area)
 
     mine-for : isUsed x ≡ true → sameBytes (w .designator) (x .designator) ≡ true → isFor (w .designator) place ≡ true
     unfolding usedFor
-    mine-for u s = place-for x (drop (835 * i) area) (here-long area i (length xs) e) (w .designator) ∙ rw (u, s)
+    mine-for u s = place-for x (drop (longest * i) area) (here-long area i (length xs) e) (w .designator) ∙ rw (u, s)
 
     other-for : sameBytes (w .designator) (x .designator) ≡ false → isFor (w .designator) place ≡ false
     unfolding usedFor
-    other-for s = place-for x (drop (835 * i) area) (here-long area i (length xs) e) (w .designator) ∙ rw s (and-false (isUsed x))
+    other-for s = place-for x (drop (longest * i) area) (here-long area i (length xs) e) (w .designator) ∙ rw s (and-false (isUsed x))
 
     free-for-none : isUsed x ≡ false → isFor (w .designator) place ≡ false
     unfolding usedFor
-    free-for-none u = place-for x (drop (835 * i) area) (here-long area i (length xs) e) (w .designator) ∙ rw u
+    free-for-none u = place-for x (drop (longest * i) area) (here-long area i (length xs) e) (w .designator) ∙ rw u
 
     free-place : isUsed x ≡ false → isFree place ≡ true
-    free-place u = place-free x (drop (835 * i) area) (here-long area i (length xs) e) ∙ not-false (eqb (x .length) 0) u
+    free-place u = place-free x (drop (longest * i) area) (here-long area i (length xs) e) ∙ not-false (eqb (x .length) 0) u
 
     used-place : isUsed x ≡ true → isFree place ≡ false
-    used-place u = place-free x (drop (835 * i) area) (here-long area i (length xs) e) ∙ not-true (eqb (x .length) 0) u
+    used-place u = place-free x (drop (longest * i) area) (here-long area i (length xs) e) ∙ not-true (eqb (x .length) 0) u
 
   -- the aircraft's own slot, and how long its text is
   pub record Owns (v : Findings) (i : ℕ) (xs : List Slot) : Type 0 where
@@ -456,7 +455,7 @@ module _ (area : List ℕ) (w : Wanted) (ys : List Slot) where
   unfolding boardOf lowest
   free-none a i o = o
 
-  module _ (i : ℕ) (x : Slot) (xs : List Slot) (e : length area ≡ 835 * (i + suc (length xs))) (test : WaitingSlot → Bool) where
+  module _ (i : ℕ) (x : Slot) (xs : List Slot) (e : length area ≡ longest * (i + suc (length xs))) (test : WaitingSlot → Bool) where
     abbrev all : List WaitingSlot
     all = boardFrom area i (x ∷ xs)
 
@@ -479,13 +478,13 @@ module _ (area : List ℕ) (w : Wanted) (ys : List Slot) where
     unfolding any
     any-later h = ap (any test) board-cons ∙ rw h
 
-  own-here : (v : Findings) (i : ℕ) (x : Slot) (xs : List Slot) (e : length area ≡ 835 * (i + suc (length xs)))
+  own-here : (v : Findings) (i : ℕ) (x : Slot) (xs : List Slot) (e : length area ≡ longest * (i + suc (length xs)))
       → isFor (w .designator) (place i x xs e) ≡ true → v .own ≡ i → v .length ≡ x .length → Owns v i (x ∷ xs)
   own-here v i x xs e h o n =
       let l = lowest-here i x xs e (isFor (w .designator)) h in
       record { own = omega (arith, o, l); length = λ z. n ∙ sym (ap (λ (k : ℕ). getD (x ∷ xs) k noSlot .length) l) }
 
-  own-later : (v : Findings) (i : ℕ) (x : Slot) (xs : List Slot) (e : length area ≡ 835 * (i + suc (length xs)))
+  own-later : (v : Findings) (i : ℕ) (x : Slot) (xs : List Slot) (e : length area ≡ longest * (i + suc (length xs)))
       → isFor (w .designator) (place i x xs e) ≡ false → Owns v (suc i) xs → Owns v i (x ∷ xs)
   own-later v i x xs e h o =
       let l = lowest-later i x xs e (isFor (w .designator)) h in
@@ -494,7 +493,7 @@ module _ (area : List ℕ) (w : Wanted) (ys : List Slot) where
         length = λ z. o .length (sym (any-later i x xs e (isFor (w .designator)) h) ∙ z) ∙ sym (ap (λ (k : ℕ). getD (x ∷ xs) k noSlot .length) l);
       }
 
-  pub scan-own : (a : Findings) (i : ℕ) (xs : List Slot) → length area ≡ 835 * (i + length xs) → scanFrom area w ys a i xs .valid ≡ true
+  pub scan-own : (a : Findings) (i : ℕ) (xs : List Slot) → length area ≡ longest * (i + length xs) → scanFrom area w ys a i xs .valid ≡ true
       → a .own ≡ i + length xs → Owns (scanFrom area w ys a i xs) i xs
   unfolding scanFrom
   scan-own a i [] e v o = own-none a i v o
@@ -526,7 +525,7 @@ module _ (area : List ℕ) (w : Wanted) (ys : List Slot) where
       (own-later (scanFrom area w ys (withFree a i) (suc i) xs) i x xs e (free-for-none i x xs e u) (scan-own (withFree a i) (suc i) xs e′ n (omega arith))))
 
   -- and the lowest free one
-  pub scan-free : (a : Findings) (i : ℕ) (xs : List Slot) → length area ≡ 835 * (i + length xs) → scanFrom area w ys a i xs .valid ≡ true
+  pub scan-free : (a : Findings) (i : ℕ) (xs : List Slot) → length area ≡ longest * (i + length xs) → scanFrom area w ys a i xs .valid ≡ true
       → a .free ≡ i + length xs → scanFrom area w ys a i xs .free ≡ i + lowest isFree (boardFrom area i xs)
   unfolding scanFrom
   scan-free a i [] e v o = free-none a i o

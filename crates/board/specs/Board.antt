@@ -16,6 +16,10 @@ use Rattle.join.specs.Join.{joinText}
 abbrev pub isDesignator : List ℕ → Bool
 isDesignator d = eqb (length d) 6 && allAllowed d
 
+-- the most slots of a board
+abbrev pub mostSlots : ℕ
+mostSlots = 64
+
 -- ---- A slot by what waits in it: free where no text does; whom it then names is of no account
 
 pub record WaitingSlot : Type 0 where

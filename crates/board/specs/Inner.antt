@@ -8,9 +8,9 @@ use Rattle.text.specs.Checks.{isFine}
 use Rattle.text.specs.Parts.{part}
 use Rattle.text.specs.Equal.{sameBytes}
 use Rattle.text.specs.declared.Seen.the-variants.{Fine}
-use Rattle.command.specs.Text.{checkCommand}
+use Rattle.command.specs.Text.{longest, checkCommand}
 use Rattle.join.specs.Join.{Joined, Joins, Refuses, join}
-use Rattle.board.specs.Board.{isDesignator, Move, Stay, Put, Free, pastRefusals, placing, handing}
+use Rattle.board.specs.Board.{mostSlots, isDesignator, Move, Stay, Put, Free, pastRefusals, placing, handing}
 use Rattle.board.specs.Lent.{noSlot}
 use Rattle.board.specs.declared.Slot.{Slot}
 use Rattle.board.specs.declared.Wanted.{Wanted}
@@ -49,11 +49,11 @@ untilAt a x i n = cond (a .valid && isUsed x) (cond (ltb i n) i n) 0
 -- designator and text of the used slot i
 unfoldable pub soundAt : Slot → List ℕ → ℕ → Bool
 soundAt x area i =
-    ltb i 64
-    && leb (x .length) 835
-    && leb (835 * i + x .length) (length area)
+    ltb i mostSlots
+    && leb (x .length) longest
+    && leb (longest * i + x .length) (length area)
     && isDesignator (x .designator)
-    && isFine (checkCommand (part (835 * i) (x .length) area))
+    && isFine (checkCommand (part (longest * i) (x .length) area))
 
 -- the lower of a slot found before and slot i
 abbrev pub firstOf : ℕ → ℕ → ℕ
@@ -61,7 +61,7 @@ firstOf found i = cond (ltb found i) found i
 
 unfoldable pub startOf : ℕ → ℕ → Findings
 startOf n bytes =
-    record { valid = leb n 64 && eqb bytes (835 * n); length = 0; own = n; free = n; count = n }
+    record { valid = leb n mostSlots && eqb bytes (longest * n); length = 0; own = n; free = n; count = n }
 
 -- a free slot, and a used one
 abbrev pub withFree : Findings → ℕ → Findings
@@ -92,11 +92,11 @@ scanned area w xs = scanFrom area w xs (startOf (length xs) (length area)) 0 xs
 -- ---- What is then done, by what was found
 
 abbrev pub fitsAt : ℕ → ℕ → ℕ → Bool
-fitsAt i n bytes = ltb i 64 && leb n 835 && leb (835 * i + 835) bytes
+fitsAt i n bytes = ltb i mostSlots && leb n longest && leb (longest * i + longest) bytes
 
 -- the text that waits
 abbrev pub waitsAt : Findings → List ℕ → List ℕ
-waitsAt v area = part (835 * v .own) (v .length) area
+waitsAt v area = part (longest * v .own) (v .length) area
 
 abbrev pub joinsTo : Joined → ℕ → List ℕ → Move
 joinsTo (Joins t) i d = Put i d t
@@ -104,7 +104,7 @@ joinsTo (Refuses code place which) i d = Stay 10 0
 
 unfoldable pub ownMove : Findings → Wanted → List ℕ → List ℕ → Move
 ownMove v w area t =
-    cond (fitsAt (v .own) (v .length) (length area)) (joinsTo (join (waitsAt v area) t 835) (v .own) (w .designator)) (Stay 10 0)
+    cond (fitsAt (v .own) (v .length) (length area)) (joinsTo (join (waitsAt v area) t longest) (v .own) (w .designator)) (Stay 10 0)
 
 unfoldable pub freeMove : Findings → Wanted → List ℕ → List ℕ → Move
 freeMove v w area t =

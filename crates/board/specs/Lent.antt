@@ -6,7 +6,7 @@ use lib.Dec.{leb, eqb}
 use lib.ListN.{length, getD, set, take, drop, replicate}
 use Rattle.text.specs.Over.{over}
 use Rattle.command.specs.Text.{longest}
-use Rattle.board.specs.Board.{WaitingSlot, Move, Stay, Put, Free, Reply, Given, Refused, add, takeOut, isValid}
+use Rattle.board.specs.Board.{mostSlots, WaitingSlot, Move, Stay, Put, Free, Reply, Given, Refused, add, takeOut, isValid}
 use Rattle.board.specs.declared.Slot.{Slot}
 
 -- what waits, by slots and area: in each slot the first of its own 835 bytes, as many as its length says
@@ -21,7 +21,7 @@ lengthsFit (x ∷ xs) = leb (x .length) longest && lengthsFit xs
 
 -- at most 64 slots, an area of exactly 835 bytes for each, no length above 835
 unfoldable pub isShaped : List Slot → List ℕ → Bool
-isShaped xs area = leb (length xs) 64 && (eqb (length area) (longest * length xs) && lengthsFit xs)
+isShaped xs area = leb (length xs) mostSlots && (eqb (length area) (longest * length xs) && lengthsFit xs)
 
 -- a board that is not valid is 10
 unfoldable pub addLent : List Slot → List ℕ → List ℕ → List ℕ → Move

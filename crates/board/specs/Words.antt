@@ -6,10 +6,11 @@ use Prim.Native.Nat.{ℕ, _*_, _≤_, _<_}
 use lib.ListN.{length, getD, take, drop}
 use Rattle.text.specs.Bytes.{allOneOf, nameBytes}
 use Rattle.text.specs.declared.Seen.the-variants.{Fine}
-use Rattle.command.specs.Text.{checkCommand}
+use Rattle.command.specs.Text.{longest, checkCommand}
 use Rattle.join.specs.Join.{joinText}
 use Rattle.board.specs.Lent.{noSlot}
 use Rattle.board.specs.declared.Slot.{Slot}
+use Rattle.board.specs.Board.{mostSlots}
 
 -- slot i; where there is none, a free one
 abbrev pub slotAt : List Slot → ℕ → Slot
@@ -21,7 +22,7 @@ InUse slots i = slotAt slots i .length ≡ 0 → ⊥
 
 -- "a text area of 835 bytes a slot": the text of slot i is the first of its bytes, as many as its length says
 abbrev pub textIn : List Slot → List ℕ → ℕ → List ℕ
-textIn slots area i = take (slotAt slots i .length) (take 835 (drop (835 * i) area))
+textIn slots area i = take (slotAt slots i .length) (take longest (drop (longest * i) area))
 
 -- "six allowed bytes", each `A`-`Z` or `0`-`9`
 abbrev pub WellFormed : List ℕ → Type 0
@@ -29,11 +30,11 @@ WellFormed d = (length d ≡ 6) × (allOneOf nameBytes d ≡ true)
 
 -- "Valid: at most 64 slots, an area of exactly 835 bytes for each, used designators well formed and different, used texts accepted."
 pub record ValidBoard (slots : List Slot) (area : List ℕ) : Type 0 where
-  pub few : length slots ≤ 64
-  pub bytes : length area ≡ 835 * length slots
+  pub few : length slots ≤ mostSlots
+  pub bytes : length area ≡ longest * length slots
   pub named : (i : ℕ) → InUse slots i → WellFormed (slotAt slots i .designator)
   pub different : (i j : ℕ) → InUse slots i → InUse slots j → slotAt slots i .designator ≡ slotAt slots j .designator → i ≡ j
-  pub texts : (i : ℕ) → InUse slots i → (slotAt slots i .length ≤ 835) × (checkCommand (textIn slots area i) ≡ Fine)
+  pub texts : (i : ℕ) → InUse slots i → (slotAt slots i .length ≤ longest) × (checkCommand (textIn slots area i) ≡ Fine)
 
 -- slot i is the aircraft's own
 abbrev pub IsOwn : List Slot → List ℕ → ℕ → Type 0

@@ -1,8 +1,10 @@
 // What is handed over, and what is answered.
 use crate::Done;
 use crate::Findings;
+use crate::MOST_SLOTS;
 use crate::Slot;
 use crate::Wanted;
+use command::LONGEST;
 use field::record::middle;
 use text::copy;
 ghost use mathlib.Core.Path.{_≡_};
@@ -10,9 +12,10 @@ ghost use Prim.Native.Nat.{_*_, _+_, _≤_, _<_};
 ghost use lib.ListN.{length};
 ghost use Rattle.text.specs.Parts.{part};
 ghost use Rattle.text.specs.Over.{over};
-ghost use Rattle.board.specs.Board.{Stay};
+ghost use Rattle.board.specs.Board.{mostSlots, Stay};
 ghost use Rattle.board.specs.Lent.{onOut};
 ghost use Rattle.board.specs.Inner.{fitsAt, doneOf, takeMove};
+ghost use Rattle.command.specs.Text.{longest};
 
 // A refusal stores no slot.
 pub fn refused(v: Findings, w: Wanted, code: u8, place: usize) -> Done
@@ -34,21 +37,21 @@ pub fn refused(v: Findings, w: Wanted, code: u8, place: usize) -> Done
 pub fn fits_at(i: usize, n: usize, bytes: usize) -> bool
     ensures { λ r. ⌜ r ≡ fitsAt i n bytes ⌝ }
 {
-    if 63 < i {
+    if MOST_SLOTS <= i {
         return false;
     }
-    if 835 < n {
+    if LONGEST < n {
         return false;
     }
-    835 * i + 835 <= bytes
+    LONGEST * i + LONGEST <= bytes
 }
 
 // A slot's text, copied to the start of `out`.
 fn put_text(i: usize, n: usize, area: &[u8], out: &mut [u8])
-    requires { ⌜ (i < 64) × (n ≤ 835) × (835 * i + 835 ≤ length (now area)) × (n ≤ length (now out)) ⌝ }
-    ensures { λ _. ⌜ now (out .exit) ≡ over (now (out .entry)) 0 (part (835 * i) n (now (area .entry))) ⌝ }
+    requires { ⌜ (i < mostSlots) × (n ≤ longest) × (longest * i + longest ≤ length (now area)) × (n ≤ length (now out)) ⌝ }
+    ensures { λ _. ⌜ now (out .exit) ≡ over (now (out .entry)) 0 (part (longest * i) n (now (area .entry))) ⌝ }
 {
-    let at = 835 * i;
+    let at = LONGEST * i;
     let end = at + n;
     copy(out, &area[at..end]);
 }

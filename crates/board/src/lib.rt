@@ -4,6 +4,11 @@ pub mod look;
 pub mod place;
 pub mod scan;
 
+// The most slots of a board.
+pub const MOST_SLOTS: usize = 64;
+
+pub const TOO_MANY: usize = MOST_SLOTS + 1;
+
 // One slot: for which aircraft, and how long the text is that waits. Length 0 is free.
 #[repr(C)]
 pub struct Slot {

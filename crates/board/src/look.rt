@@ -1,7 +1,10 @@
 // One slot more in a look over the slots.
 use crate::Findings;
+use crate::MOST_SLOTS;
 use crate::Slot;
+use crate::TOO_MANY;
 use crate::Wanted;
+use command::LONGEST;
 use command::check::check;
 use field::record::middle;
 use text::Seen;
@@ -112,13 +115,13 @@ fn sound(s: Slot, area: &[u8], i: usize) -> bool
     ensures { λ r. ⌜ r ≡ soundAt s (now (area .entry)) i ⌝ }
 {
     let n = middle(s.length);
-    if 63 < i {
+    if MOST_SLOTS <= i {
         return false;
     }
-    if 835 < n {
+    if LONGEST < n {
         return false;
     }
-    let at = 835 * i;
+    let at = LONGEST * i;
     let end = at + n;
     if area.len() < end {
         return false;
@@ -134,7 +137,7 @@ fn sound(s: Slot, area: &[u8], i: usize) -> bool
 pub fn start(n: usize, area: &[u8]) -> Findings
     ensures { λ r. ⌜ r ≡ startOf n (length (now (area .entry))) ⌝ }
 {
-    let valid = (n <= 64) & (area.len() == 835 * (n % 65));
+    let valid = (n <= MOST_SLOTS) & (area.len() == LONGEST * (n % TOO_MANY));
     Findings {
         valid,
         length: 0,

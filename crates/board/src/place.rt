@@ -5,6 +5,7 @@ use crate::Slot;
 use crate::Wanted;
 use crate::hand::fits_at;
 use crate::hand::refused;
+use command::LONGEST;
 use command::check::check;
 use field::record::middle;
 use join::Told;
@@ -18,10 +19,12 @@ ghost use Rattle.text.specs.Parts.{part};
 ghost use Rattle.text.specs.Over.{over};
 ghost use Rattle.board.specs.Lent.{onArea};
 ghost use Rattle.board.specs.Inner.{doneOf, ownMove, freeMove, addMove};
+ghost use Rattle.command.specs.Text.{longest};
+ghost use Rattle.board.specs.Board.{mostSlots};
 
 // A text of n bytes then waits in slot i.
 fn stored(i: usize, n: usize, w: Wanted) -> Done
-    requires { ⌜ n ≤ 835 ⌝ }
+    requires { ⌜ n ≤ longest ⌝ }
     ensures { λ r. ⌜ r ≡ record { code = 0; place = 0; length = n; at = i; slot = record { designator = w .designator; length = n } } ⌝ }
 {
     let designator = w.designator;
@@ -37,11 +40,11 @@ fn stored(i: usize, n: usize, w: Wanted) -> Done
 
 // Writes a text over slot i's part of the area.
 fn put_at(i: usize, t: &[u8], area: &mut [u8])
-    requires { ⌜ (i < 64) × (length (now t) ≤ 835) × (835 * i + 835 ≤ length (now area)) ⌝ }
-    ensures { λ _. ⌜ now (area .exit) ≡ over (now (area .entry)) (835 * i) (now (t .entry)) ⌝ }
+    requires { ⌜ (i < mostSlots) × (length (now t) ≤ longest) × (longest * i + longest ≤ length (now area)) ⌝ }
+    ensures { λ _. ⌜ now (area .exit) ≡ over (now (area .entry)) (longest * i) (now (t .entry)) ⌝ }
 {
-    let at = 835 * i;
-    let end = at + 835;
+    let at = LONGEST * i;
+    let end = at + LONGEST;
     copy(&mut area[at..end], t);
 }
 
@@ -57,9 +60,9 @@ fn join_onto(v: Findings, w: Wanted, area: &mut [u8], t: &[u8]) -> Done
     if !fits_at(i, n, area.len()) {
         return refused(v, w, 10, 0);
     }
-    let at = 835 * i;
+    let at = LONGEST * i;
     let end = at + n;
-    let mut joined = [0u8; 835];
+    let mut joined = [0u8; LONGEST];
     match join_texts(&area[at..end], t, &mut joined) {
         Told::Refused(_, _, _) => refused(v, w, 10, 0),
         Told::Text(m) => {

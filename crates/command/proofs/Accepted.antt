@@ -28,19 +28,14 @@ use Rattle.command.proofs.Walk.{Walked, walked, held-body}
 
 -- ---- What the check says
 
--- 22 bytes and every section at its longest are 835
-pub longest-is : longest ≡ 835
-unfolding longest sectionsMost layoutOf tableOf itemsMost
+-- the longest text is 22 bytes and every section at its longest
+pub longest-is : longest ≡ 22 + sectionsMost numbers
+unfolding sectionsMost layoutOf tableOf itemsMost
 longest-is = refl
 
--- so 22 bytes and the longest sections are
-pub most-is : 22 + sectionsMost numbers ≡ 835
-unfolding sectionsMost layoutOf tableOf itemsMost
-most-is = refl
-
--- the 22 bytes, then the named sections up to the end, in at most 835 bytes
+-- the 22 bytes, then the named sections up to the end, and no more bytes than the longest has
 pub record Accepted (s : List ℕ) : Type 0 where
-  pub short : length s ≤ 835
+  pub short : length s ≤ longest
   pub head : Head s
   pub walk : checkFrom numbers s 22 ≡ Next (length s)
 
@@ -58,14 +53,14 @@ accepted s e =
     after-cases (checkHead s) (checkFrom numbers s) (length s) (ended-next s (after (checkHead s) (checkFrom numbers s)) (rw l at e))
     (λ p (h : checkHead s ≡ Next p) (c : checkFrom numbers s p ≡ Next (length s)).
     let k = head-next s p h in
-    record { short = rw longest-is at (leb-true (length s) longest l); head = k .0; walk = rw (k .1) at c }))
+    record { short = leb-true (length s) longest l; head = k .0; walk = rw (k .1) at c }))
     (λ (l : leb (length s) longest ≡ false). bad-fine 1 0 (rw l at e))
 
 -- and nothing else is asked
 pub accepts : (s : List ℕ) → Accepted s → checkCommand s ≡ Fine
 unfolding checkCommand
 accepts s a =
-    rw (longest-is, le-leb (length s) 835 (a .short), head-passes s (a .head), a .walk, eq-eqb (length s) (length s) refl)
+    rw (le-leb (length s) longest (a .short), head-passes s (a .head), a .walk, eq-eqb (length s) (length s) refl)
 
 -- ---- The parts of an accepted command
 

@@ -19,11 +19,11 @@ use Rattle.command.specs.Examples.{longestText, examples, AllReadBack}
 
 -- each example is accepted, reads to an allowed record, and is written back
 pub examples-read : AllReadBack examples
-unfolding examples longestText checkCommand longest sectionsMost itemsMost checkHead checkAwr04 sameBytes checkEach checkDelimiter checkFrom checkItems layoutOf tableOf itemsSize checkDigits allDigits valueFrom checkList repeat checkAirfield allAllowed allowed checkBox checkPair checkEdge edgeAt lineOf readCommand commandOf noCommand noSettings settingsFrom placeFrom contentsAt airfieldsAt boxesAt regionsAt regionAt regionsFrom airportsFrom enrouteFrom ascentFrom hoursFrom allowedCommand every allowedSection zeroSection allowedBox commandText sectionsText sectionText contentsOf fixedHold contentsText digitsBefore airfieldsText boxesText regionsText regionText edgeText
+unfolding examples longestText checkCommand sectionsMost itemsMost checkHead checkAwr04 sameBytes checkEach checkDelimiter checkFrom checkItems layoutOf tableOf itemsSize checkDigits allDigits valueFrom checkList repeat checkAirfield allAllowed allowed checkBox checkPair checkEdge edgeAt lineOf readCommand commandOf noCommand noSettings settingsFrom placeFrom contentsAt airfieldsAt boxesAt regionsAt regionAt regionsFrom airportsFrom enrouteFrom ascentFrom hoursFrom allowedCommand every allowedSection zeroSection allowedBox commandText sectionsText sectionText contentsOf fixedHold contentsText digitsBefore airfieldsText boxesText regionsText regionText edgeText
 examples-read =
     ((refl, refl, refl), ((refl, refl, refl), ((refl, refl, refl), ((refl, refl, refl), ((refl, refl, refl), tt)))))
 
 -- the longest command has 835 bytes
-pub longest-text : length longestText ≡ 835
+pub longest-text : length longestText ≡ longest
 unfolding longestText
 longest-text = refl

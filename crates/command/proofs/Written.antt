@@ -17,7 +17,7 @@ use Rattle.command.proofs.Head.{Head, passes, passes-length, passes-app
 use Rattle.command.proofs.Parts.{Parts, present, marks, bodies, textOf, bodyOf, Place, Absent, Present, flagTests, Sound}
 use Rattle.command.proofs.Marks.{indicators, marks-length, marks-pass, names-from}
 use Rattle.command.proofs.Walk.{Found, finds}
-use Rattle.command.proofs.Accepted.{Accepted, accepts, rising, most-is}
+use Rattle.command.proofs.Accepted.{Accepted, accepts, rising, longest-is}
 
 bodies-most : (f : ℕ → List ℕ) (ks : List ℕ) → Each (λ k. Place k (f k)) ks → length (bodies f ks) ≤ sectionsMost ks
 unfolding bodies sectionsMost
@@ -116,7 +116,7 @@ module _ (p : Parts) (ok : Sound p) where
   text-accepted =
       let l = text-length in
       record {
-        short = omega (arith, bodies-most (p .sections) numbers (ok .sections), most-is);
+        short = omega (arith, bodies-most (p .sections) numbers (ok .sections), longest-is);
         head = text-head;
         walk = text-found .check ∙ ap Next (sym l);
       }

@@ -10,7 +10,7 @@ use lib.ListN.{take, drop, getD}
 use Rattle.text.specs.Names.{between, allowed}
 use Rattle.field.specs.declared.Edge.{Edge}
 use Rattle.field.specs.declared.Region.{Region}
-use Rattle.lists.specs.Lists.{regionZero}
+use Rattle.lists.specs.Lists.{mostAirfields, mostBoxes, regionZero}
 use Rattle.lists.specs.declared.Airfields.{Airfields}
 use Rattle.lists.specs.declared.Boxes.{Boxes}
 use Rattle.section.specs.Layout.{look, numbers}
@@ -48,14 +48,14 @@ allowedBox b =
 
 -- at most 16 boxes; unused entries are zero
 abbrev pub allowedBoxes : Boxes → Bool
-allowedBoxes l = leb (l .count) 16 && every allowedBox (take (l .count) (l .regions)) && every regionZero (drop (l .count) (l .regions))
+allowedBoxes l = leb (l .count) mostBoxes && every allowedBox (take (l .count) (l .regions)) && every regionZero (drop (l .count) (l .regions))
 
 abbrev pub zeroBoxes : Boxes → Bool
 zeroBoxes l = nought (l .count) && every regionZero (l .regions)
 
 -- at most 20 airfields of four bytes, each byte `A`-`Z` or `0`-`9`; unused entries are zero
 abbrev pub allowedAirfields : Airfields → Bool
-allowedAirfields l = leb (l .count) 20 && every allowed (take (4 * l .count) (l .names)) && every nought (drop (4 * l .count) (l .names))
+allowedAirfields l = leb (l .count) mostAirfields && every allowed (take (4 * l .count) (l .names)) && every nought (drop (4 * l .count) (l .names))
 
 abbrev pub zeroAirfields : Airfields → Bool
 zeroAirfields l = nought (l .count) && every nought (l .names)

@@ -1,4 +1,5 @@
 // Checking a command's text: code and place, and no record built.
+use crate::LONGEST;
 use field::Step;
 use field::check::delimiter;
 use field::digits::is_digit;
@@ -235,7 +236,7 @@ pub fn walk(s: &[u8], places: &mut [usize]) -> Seen
         × (r ≡ Fine → Noted (now (s .entry)) (now (places .exit)))
         ⌝ }
 {
-    if 835 < s.len() {
+    if LONGEST < s.len() {
         return Seen::Bad(1, 0);
     }
     match check_head(s) {

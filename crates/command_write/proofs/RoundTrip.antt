@@ -19,7 +19,7 @@ use Rattle.settings.specs.Settings.{contentsOf, fixedHold, settingsFrom, region
 use Rattle.section.proofs.Own.{own-some}
 use Rattle.section.proofs.RoundTrip.{Shaped, written-own}
 use Rattle.settings.proofs.Kept.{regions-kept, airports-kept, enroute-kept, ascent-kept, digit-kept, hours-kept}
-use Rattle.command.specs.Text.{isFlag, isDownlink, checkCommand}
+use Rattle.command.specs.Text.{longest, isFlag, isDownlink, checkCommand}
 use Rattle.command.specs.Record.{digitsOf, commandOf, flagAllowed, flagsAllowed, namedAllowed, marksAllowed, names, sectionText, sectionsAllowed, commandAllowed, digitBytes, commandText}
 use Rattle.settings.specs.Valid.{isZero, areZero}
 use Rattle.command.specs.Sections.{heldIn}
@@ -258,7 +258,7 @@ module _ (c : Command) (full : Filled c) (fine : commandAllowed c ≡ Fine) wher
       all-kept
 
   -- no text is longer than the longest
-  pub written-short : length (commandText c) ≤ 835
+  pub written-short : length (commandText c) ≤ longest
   written-short = accepted (commandText c) written-fine .short
 
   unnamed : Each (λ k. names c k ≡ false → areZero (held k) ≡ true) numbers

@@ -10,6 +10,7 @@ ghost use lib.ListN.{length};
 ghost use Rattle.text.specs.Equal.{sameBytes};
 ghost use Rattle.decide.specs.Tests.{isAirfield, has};
 ghost use Rattle.decide.specs.Reason.{schemeReason};
+ghost use Rattle.lists.specs.Lists.{mostAirfields};
 
 // Four allowed bytes.
 pub fn is_airfield(s: &[u8]) -> bool
@@ -37,7 +38,7 @@ fn is_name(a: u8, b: u8, c: u8, d: u8, name: [u8; 4]) -> bool
 
 // Whether a list has the airfield.
 fn has_name(l: Airfields, name: [u8; 4]) -> bool
-    requires { ⌜ l .count ≤ 20 ⌝ }
+    requires { ⌜ l .count ≤ mostAirfields ⌝ }
     ensures { λ r. ⌜ r ≡ has l name ⌝ }
 {
     let n = wide(l.count);
@@ -62,7 +63,7 @@ pub fn scheme_reason(
     inhibited: Airfields,
     name: [u8; 4],
 ) -> Reason
-    requires { ⌜ (selected .count ≤ 20) × (inhibited .count ≤ 20) ⌝ }
+    requires { ⌜ (selected .count ≤ mostAirfields) × (inhibited .count ≤ mostAirfields) ⌝ }
     ensures { λ r. ⌜ r ≡ schemeReason airports number flag selected inhibited name ⌝ }
 {
     if flag != 1 {

@@ -13,6 +13,7 @@ ghost use lib.Signed.{mag};
 ghost use Rattle.field.specs.Boxes.{lineOf};
 ghost use Rattle.decide.specs.Tests.{minutes, holds, firstHolding};
 ghost use Rattle.decide.specs.Reason.{inhibitingBox, noReportingBox};
+ghost use Rattle.lists.specs.Lists.{mostBoxes};
 
 // Minutes from 1000 degrees below zero, as the lines of edges are.
 pub fn minutes_of(x: i32) -> usize
@@ -41,7 +42,7 @@ fn box_holds(b: Region, north: usize, east: usize) -> bool
 
 // The lowest number, from 1, of the boxes that hold the position; 0 where none does.
 fn first_holding(l: Boxes, north: usize, east: usize) -> u8
-    requires { ⌜ l .count ≤ 16 ⌝ }
+    requires { ⌜ l .count ≤ mostBoxes ⌝ }
     ensures { λ r. ⌜ r ≡ firstHolding l north east ⌝ }
 {
     let regions = l.regions;
@@ -59,7 +60,7 @@ fn first_holding(l: Boxes, north: usize, east: usize) -> u8
 
 // The inhibiting box that silences, by its number; 0 where none does.
 pub fn inhibiting_box(flag: u8, inhibiting: Boxes, north: usize, east: usize) -> u8
-    requires { ⌜ inhibiting .count ≤ 16 ⌝ }
+    requires { ⌜ inhibiting .count ≤ mostBoxes ⌝ }
     ensures { λ r. ⌜ r ≡ inhibitingBox flag inhibiting north east ⌝ }
 {
     if flag != 1 {
@@ -70,7 +71,7 @@ pub fn inhibiting_box(flag: u8, inhibiting: Boxes, north: usize, east: usize) ->
 
 // Reporting boxes exist, and none holds the position.
 pub fn no_reporting_box(flag: u8, reporting: Boxes, north: usize, east: usize) -> bool
-    requires { ⌜ reporting .count ≤ 16 ⌝ }
+    requires { ⌜ reporting .count ≤ mostBoxes ⌝ }
     ensures { λ r. ⌜ r ≡ noReportingBox flag reporting north east ⌝ }
 {
     if flag != 1 {

@@ -10,7 +10,7 @@ use Rattle.text.specs.declared.Seen.{Seen}
 use Rattle.text.specs.declared.Seen.the-variants.{Fine, Bad}
 use Rattle.text.proofs.Checks.{both-fine}
 use Rattle.text.proofs.Cases.{by-test}
-use Rattle.command.specs.Text.{checkCommand}
+use Rattle.command.specs.Text.{longest, checkCommand}
 use Rattle.command.specs.Record.{commandAllowed, commandText, writeSeen}
 use Rattle.command_write.specs.Writing.{wrote}
 use Rattle.command.specs.declared.Command.{Command}
@@ -33,11 +33,11 @@ pub wrote-numbers : (x : Seen) (n : ℕ) → wroteNumbers (wrote x n) ≡ writeN
 wrote-numbers Fine n = refl
 wrote-numbers (Bad c p) n = refl
 
-pub wrote-short : (c : Command) (room : ℕ) → Filled c → wrote (writeSeen c room) (length (commandText c)) .length ≤ 835
+pub wrote-short : (c : Command) (room : ℕ) → Filled c → wrote (writeSeen c room) (length (commandText c)) .length ≤ longest
 unfolding writeSeen
 wrote-short c room full = go (writeSeen c room) refl
   where
-    go : (x : Seen) → writeSeen c room ≡ x → wrote x (length (commandText c)) .length ≤ 835
+    go : (x : Seen) → writeSeen c room ≡ x → wrote x (length (commandText c)) .length ≤ longest
     go Fine e = written-short c full (both-fine (commandAllowed c) (must (leb (length (commandText c)) room) 2 0) e .0)
     go (Bad code place) e = omega arith
 
@@ -47,11 +47,11 @@ pub told-numbers : (j : Joined) → toldNumbers (told j) ≡ joinNumbers j
 told-numbers (Joins t) = refl
 told-numbers (Refuses c p n) = refl
 
-pub told-short : (a b : List ℕ) (room : ℕ) → toldLength (told (join a b room)) ≤ 835
+pub told-short : (a b : List ℕ) (room : ℕ) → toldLength (told (join a b room)) ≤ longest
 unfolding join
 told-short a b room = go (checkCommand a) (checkCommand b) refl refl
   where
-    go : (x y : Seen) → checkCommand a ≡ x → checkCommand b ≡ y → toldLength (told (bySeen x y (joinText a b) room)) ≤ 835
+    go : (x y : Seen) → checkCommand a ≡ x → checkCommand b ≡ y → toldLength (told (bySeen x y (joinText a b) room)) ≤ longest
     go (Bad c p) y e f = omega arith
     go Fine (Bad c p) e f = omega arith
     go Fine Fine e f =

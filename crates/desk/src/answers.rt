@@ -4,6 +4,7 @@ use text::Seen;
 ghost use mathlib.Core.Path.{_≡_};
 ghost use Prim.Native.Nat.{_≤_};
 ghost use Rattle.desk.specs.Numbers.{answerOf, writeNumbers};
+ghost use Rattle.command.specs.Text.{longest};
 
 // A code and a place, and no length.
 pub fn answer_of(code: u8, place: usize) -> Answer
@@ -36,7 +37,7 @@ pub fn numbers(seen: Seen, length: u32) -> Answer
 
 // No command is longer than 835 bytes.
 pub fn length_of(length: usize) -> u32
-    requires { ⌜ length ≤ 835 ⌝ }
+    requires { ⌜ length ≤ longest ⌝ }
     ensures { λ r. ⌜ r ≡ length ⌝ }
 {
     length as u32

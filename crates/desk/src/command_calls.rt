@@ -15,7 +15,7 @@ use text::Seen;
 ghost use mathlib.Core.Path.{_≡_};
 ghost use Prim.Native.Nat.{_≤_};
 ghost use lib.ListN.{length};
-ghost use Rattle.command.specs.Text.{checkCommand};
+ghost use Rattle.command.specs.Text.{longest, checkCommand};
 ghost use Rattle.command.specs.Record.{readCommand, commandText, writeSeen, leftBy};
 ghost use Rattle.desk.specs.Numbers.{checkNumbers, writeNumbers};
 ghost use Rattle.desk.specs.Commands.{commandNumbers};
@@ -47,7 +47,7 @@ pub extern "C" fn esk_command_read(text: &[u8]) -> CommandAnswer
 
 // The length of what was written, or the refusal.
 fn wrote_answer(w: Wrote) -> Answer
-    requires { ⌜ w .length ≤ 835 ⌝ }
+    requires { ⌜ w .length ≤ longest ⌝ }
     ensures { λ r. ⌜ r ≡ wroteNumbers w ⌝ }
 {
     Answer {

@@ -9,10 +9,11 @@ ghost use lib.ListN.{length};
 ghost use Rattle.join.specs.Join.{join, joinedOver};
 ghost use Rattle.desk.specs.Joins.{joinNumbers};
 ghost use Rattle.desk.specs.Steps.{toldNumbers, toldLength};
+ghost use Rattle.command.specs.Text.{longest};
 
 // A join's answer names the text at fault, 1 or 2, else 0.
 fn told_answer(told: Told) -> Answer
-    requires { ⌜ toldLength told ≤ 835 ⌝ }
+    requires { ⌜ toldLength told ≤ longest ⌝ }
     ensures { λ r. ⌜ r ≡ toldNumbers told ⌝ }
 {
     match told {

@@ -12,5 +12,5 @@ use Rattle.field.specs.Decimal.{allDigits as allDecimal, valueFrom}
 use Rattle.figures.specs.Starred.{table, AllHold}
 
 pub starred : AllHold table
-unfolding table worthOf halfOf number allSolidi trim allDigits spelt readPacked sameBytes layoutOf tableOf itemsSize itemsMost checkDelimiter checkEach checkAwr04 checkHead checkFrom sectionsMost longest checkCommand noChange placeFrom choose joinSections joinText join valueFrom checkItems checkDigits allDecimal
+unfolding table worthOf halfOf number allSolidi trim allDigits spelt readPacked sameBytes layoutOf tableOf itemsSize itemsMost checkDelimiter checkEach checkAwr04 checkHead checkFrom sectionsMost checkCommand noChange placeFrom choose joinSections joinText join valueFrom checkItems checkDigits allDecimal
 starred = (refl, (refl, (refl, (refl, (refl, (refl, (refl, (refl, (refl, (refl, (refl, (refl, ((refl, refl), (refl, tt))))))))))))))

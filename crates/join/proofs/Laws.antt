@@ -36,7 +36,7 @@ module _ (a b : List ℕ) (x : checkCommand a ≡ Fine) (y : checkCommand b ≡ 
   join-fine = accepts (joinText a b) ok
 
   -- in at most 835 bytes
-  pub join-short : length (joinText a b) ≤ 835
+  pub join-short : length (joinText a b) ≤ longest
   join-short = ok .short
 
   -- it asks for the larger of their two downlinks
@@ -104,7 +104,7 @@ join-groups a b c x y z =
 
 -- it is accepted
 pub no-change-fine : checkCommand noChange ≡ Fine
-unfolding noChange checkCommand longest sectionsMost layoutOf tableOf itemsMost checkHead checkAwr04 sameBytes checkEach checkDelimiter checkFrom
+unfolding noChange checkCommand sectionsMost layoutOf tableOf itemsMost checkHead checkAwr04 sameBytes checkEach checkDelimiter checkFrom
 no-change-fine = refl
 
 no-change-accepted : Accepted noChange

@@ -25,11 +25,11 @@ both = 65 ∷ 87 ∷ 82 ∷ 48 ∷ 52 ∷ 49 ∷ 49 ∷ 57 ∷ 57 ∷ 57 ∷ 57 
 
 -- the two are accepted
 pub first-fine : checkCommand first ≡ Fine
-unfolding first checkCommand longest sectionsMost layoutOf tableOf itemsMost checkHead checkAwr04 sameBytes checkEach checkDelimiter checkFrom checkItems checkDigits allDigits valueFrom
+unfolding first checkCommand sectionsMost layoutOf tableOf itemsMost checkHead checkAwr04 sameBytes checkEach checkDelimiter checkFrom checkItems checkDigits allDigits valueFrom
 first-fine = refl
 
 pub second-fine : checkCommand second ≡ Fine
-unfolding second checkCommand longest sectionsMost layoutOf tableOf itemsMost checkHead checkAwr04 sameBytes checkEach checkDelimiter checkFrom checkItems checkDigits allDigits valueFrom
+unfolding second checkCommand sectionsMost layoutOf tableOf itemsMost checkHead checkAwr04 sameBytes checkEach checkDelimiter checkFrom checkItems checkDigits allDigits valueFrom
 second-fine = refl
 
 -- and join into the third

@@ -18,6 +18,13 @@ use Rattle.field.specs.declared.Region.{Region}
 use Rattle.lists.specs.declared.Airfields.{Airfields}
 use Rattle.lists.specs.declared.Boxes.{Boxes}
 
+-- the most boxes of a list, and the most airfields
+abbrev pub mostBoxes : ℕ
+mostBoxes = 16
+
+abbrev pub mostAirfields : ℕ
+mostAirfields = 20
+
 -- ---- Any counted list
 
 abbrev pub countAt : List ℕ → ℕ → ℕ
@@ -29,11 +36,11 @@ checkList limit entry s at = after (checkNumber 2 0 limit s at) (repeat (entry s
 -- ---- Airfields
 
 abbrev pub checkAirfields : List ℕ → ℕ → Step
-checkAirfields s at = checkList 20 checkAirfield s at
+checkAirfields s at = checkList mostAirfields checkAirfield s at
 
 unfoldable pub airfieldsAt : List ℕ → ℕ → Airfields
 airfieldsAt s at =
-    record { count = countAt s at; names = part (at + 2) (4 * countAt s at) s ++ replicate (80 - 4 * countAt s at) 0 }
+    record { count = countAt s at; names = part (at + 2) (4 * countAt s at) s ++ replicate (4 * mostAirfields - 4 * countAt s at) 0 }
 
 unfoldable pub allZero : List ℕ → Bool
 allZero [] = true
@@ -47,7 +54,7 @@ namesAllowed (suc n) at names = must (allAllowed (take 4 names)) 4 at andThen na
 -- unused entries that are not zero are 7 at the count, after the count's own range
 unfoldable pub airfieldsAllowed : ℕ → Airfields → Seen
 airfieldsAllowed at l =
-    must (leb (l .count) 20) 5 at
+    must (leb (l .count) mostAirfields) 5 at
     andThen must (allZero (drop (4 * l .count) (l .names))) 7 at
     andThen namesAllowed (l .count) (at + 2) (l .names)
 
@@ -55,12 +62,12 @@ unfoldable pub airfieldsText : Airfields → List ℕ
 airfieldsText l = decimal 2 (l .count) ++ take (4 * l .count) (l .names)
 
 abbrev pub noAirfields : Airfields
-noAirfields = record { count = 0; names = replicate 80 0 }
+noAirfields = record { count = 0; names = replicate (4 * mostAirfields) 0 }
 
 -- ---- Boxes
 
 abbrev pub checkBoxes : List ℕ → ℕ → Step
-checkBoxes s at = checkList 16 checkBox s at
+checkBoxes s at = checkList mostBoxes checkBox s at
 
 unfoldable pub regionsAt : ℕ → List ℕ → ℕ → List Region
 regionsAt zero s at = []
@@ -68,7 +75,7 @@ regionsAt (suc n) s at = regionAt s at ∷ regionsAt n s (at + 14)
 
 unfoldable pub boxesAt : List ℕ → ℕ → Boxes
 boxesAt s at =
-    record { count = countAt s at; regions = regionsAt (countAt s at) s (at + 2) ++ replicate (16 - countAt s at) noRegion }
+    record { count = countAt s at; regions = regionsAt (countAt s at) s (at + 2) ++ replicate (mostBoxes - countAt s at) noRegion }
 
 abbrev pub edgeZero : Edge → Bool
 edgeZero e = eqb (e .degrees) 0 && eqb (e .letter) 0
@@ -88,7 +95,7 @@ regionsAllowed (suc n) at (b ∷ bs) = regionAllowed at b andThen regionsAllowed
 
 unfoldable pub boxesAllowed : ℕ → Boxes → Seen
 boxesAllowed at l =
-    must (leb (l .count) 16) 5 at
+    must (leb (l .count) mostBoxes) 5 at
     andThen must (regionsZero (drop (l .count) (l .regions))) 7 at
     andThen regionsAllowed (l .count) (at + 2) (l .regions)
 
@@ -100,4 +107,4 @@ unfoldable pub boxesText : Boxes → List ℕ
 boxesText l = decimal 2 (l .count) ++ regionsText (take (l .count) (l .regions))
 
 abbrev pub noBoxes : Boxes
-noBoxes = record { count = 0; regions = replicate 16 noRegion }
+noBoxes = record { count = 0; regions = replicate mostBoxes noRegion }

@@ -1,4 +1,6 @@
 // The counted lists in a text: a count of two digits, then that many entries.
+use crate::MOST_AIRFIELDS;
+use crate::MOST_BOXES;
 use field::Step;
 use field::boxes::a_box;
 use field::check::airfield;
@@ -10,7 +12,7 @@ ghost use Prim.Native.Nat.{_≤_};
 ghost use lib.ListN.{length};
 ghost use Rattle.field.specs.Fields.{checkAirfield, repeat};
 ghost use Rattle.field.specs.Boxes.{checkBox};
-ghost use Rattle.lists.specs.Lists.{checkAirfields, checkBoxes};
+ghost use Rattle.lists.specs.Lists.{mostAirfields, checkAirfields, checkBoxes};
 
 // n airfields one by one, up to the first that is refused.
 fn each_name(s: &[u8], at: usize, n: usize) -> Step
@@ -35,7 +37,7 @@ fn each_name(s: &[u8], at: usize, n: usize) -> Step
 // n airfields. Few are gone through one by one; of more, all bytes at once where the text has them and they are allowed, else one
 // by one to the one that is wrong.
 fn each_airfield(s: &[u8], at: usize, n: usize) -> Step
-    requires { ⌜ (at ≤ length (now s)) × (n ≤ 20) ⌝ }
+    requires { ⌜ (at ≤ length (now s)) × (n ≤ mostAirfields) ⌝ }
     ensures { λ r. ⌜ r ≡ repeat (checkAirfield (now (s .entry))) n at ⌝ }
 {
     if n < 4 {
@@ -75,7 +77,7 @@ pub fn airfields(s: &[u8], at: usize) -> Step
     requires { ⌜ at ≤ length (now s) ⌝ }
     ensures { λ r. ⌜ r ≡ checkAirfields (now (s .entry)) at ⌝ }
 {
-    let count = digits(s, at, 2, 0, 20, 5);
+    let count = digits(s, at, 2, 0, MOST_AIRFIELDS, 5);
     match count {
         Step::Stop(code, place) => Step::Stop(code, place),
         Step::Next(first) => each_airfield(s, first, value_at(s, at, 2)),
@@ -87,7 +89,7 @@ pub fn boxes(s: &[u8], at: usize) -> Step
     requires { ⌜ at ≤ length (now s) ⌝ }
     ensures { λ r. ⌜ r ≡ checkBoxes (now (s .entry)) at ⌝ }
 {
-    let count = digits(s, at, 2, 0, 16, 5);
+    let count = digits(s, at, 2, 0, MOST_BOXES, 5);
     match count {
         Step::Stop(code, place) => Step::Stop(code, place),
         Step::Next(first) => each_box(s, first, value_at(s, at, 2)),

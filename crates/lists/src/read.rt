@@ -1,6 +1,8 @@
 // The counted lists as records, from a text whose check went on.
 use crate::Airfields;
 use crate::Boxes;
+use crate::MOST_BOXES;
+use crate::NAME_BYTES;
 use field::Region;
 use field::digits::small_at;
 use field::read::no_region;
@@ -14,14 +16,14 @@ ghost use Rattle.text.specs.Parts.{part};
 ghost use Rattle.field.specs.declared.Step.the-variants.{Next};
 ghost use Rattle.field.specs.Fields.{repeat};
 ghost use Rattle.field.specs.Boxes.{checkBox, noRegion};
-ghost use Rattle.lists.specs.Lists.{countAt, checkAirfields, checkBoxes, airfieldsAt, boxesAt, regionsAt};
+ghost use Rattle.lists.specs.Lists.{mostAirfields, mostBoxes, countAt, checkAirfields, checkBoxes, airfieldsAt, boxesAt, regionsAt};
 
 // k bytes, and zeros behind them.
-fn names_of(s: &[u8], from: usize, k: usize) -> [u8; 80]
-    requires { ⌜ (from + k ≤ length (now s)) × (k ≤ 80) ⌝ }
-    ensures { λ r. ⌜ r ≡ part from k (now (s .entry)) ++ replicate (80 - k) 0 ⌝ }
+fn names_of(s: &[u8], from: usize, k: usize) -> [u8; NAME_BYTES]
+    requires { ⌜ (from + k ≤ length (now s)) × (k ≤ 4 * mostAirfields) ⌝ }
+    ensures { λ r. ⌜ r ≡ part from k (now (s .entry)) ++ replicate (4 * mostAirfields - k) 0 ⌝ }
 {
-    let mut names = [0u8; 80];
+    let mut names = [0u8; NAME_BYTES];
     let mut i = 0;
     while i < k {
         names[i] = s[from + i];
@@ -42,13 +44,13 @@ pub fn airfields_at(s: &[u8], at: usize) -> Airfields
 }
 
 // n boxes, and zeros behind them.
-pub fn regions_of(s: &[u8], from: usize, n: usize) -> [Region; 16]
-    requires { ⌜ n ≤ 16 ⌝ }
+pub fn regions_of(s: &[u8], from: usize, n: usize) -> [Region; MOST_BOXES]
+    requires { ⌜ n ≤ mostBoxes ⌝ }
     requires { ⌜ repeat (checkBox (now s)) n from ≡ Next (from + 14 * n) ⌝ }
-    ensures { λ r. ⌜ r ≡ regionsAt n (now (s .entry)) from ++ replicate (16 - n) noRegion ⌝ }
+    ensures { λ r. ⌜ r ≡ regionsAt n (now (s .entry)) from ++ replicate (mostBoxes - n) noRegion ⌝ }
 {
     let none = no_region();
-    let mut regions = [none; 16];
+    let mut regions = [none; MOST_BOXES];
     let mut p = from;
     let mut i = 0;
     while i < n {

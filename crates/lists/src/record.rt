@@ -1,6 +1,9 @@
 // A list's own check, with the place where its count would stand.
 use crate::Airfields;
 use crate::Boxes;
+use crate::MOST_AIRFIELDS;
+use crate::MOST_BOXES;
+use crate::NAME_BYTES;
 use field::Edge;
 use field::Region;
 use field::record::region_allowed;
@@ -16,16 +19,7 @@ ghost use lib.Dec.{eqb};
 ghost use lib.ListN.{length, take, drop};
 ghost use Rattle.text.specs.Names.{allowed, allAllowed};
 ghost use Rattle.text.specs.Checks.{isFine};
-ghost use Rattle.lists.specs.Lists.{
-  allZero,
-  namesAllowed,
-  airfieldsAllowed,
-  edgeZero,
-  regionZero,
-  regionsZero,
-  regionsAllowed,
-  boxesAllowed,
-};
+ghost use Rattle.lists.specs.Lists.{mostAirfields, mostBoxes, allZero, namesAllowed, airfieldsAllowed, edgeZero, regionZero, regionsZero, regionsAllowed, boxesAllowed};
 
 // Whether every byte from a place on is zero. The answers are gathered and the loop has one way out, so it runs many bytes at a time.
 fn zero_from(s: &[u8], from: usize) -> bool
@@ -43,7 +37,7 @@ fn zero_from(s: &[u8], from: usize) -> bool
 
 // n names, the first of which would stand at a place: a byte that is not allowed is 4 at its name.
 fn each_name_allowed(names: &[u8], n: usize, at: usize) -> Seen
-    requires { ⌜ (4 * n ≤ length (now names)) × (n ≤ 20) × (at ≤ 4096) ⌝ }
+    requires { ⌜ (4 * n ≤ length (now names)) × (n ≤ mostAirfields) × (at ≤ 4096) ⌝ }
     ensures { λ r. ⌜ r ≡ namesAllowed n at (now (names .entry)) ⌝ }
 {
     let mut p = 0;
@@ -63,7 +57,7 @@ fn each_name_allowed(names: &[u8], n: usize, at: usize) -> Seen
 
 // The same: all bytes at once, and one name after the other only where one is wrong.
 fn names_allowed(names: &[u8], n: usize, at: usize) -> Seen
-    requires { ⌜ (4 * n ≤ length (now names)) × (n ≤ 20) × (at ≤ 4096) ⌝ }
+    requires { ⌜ (4 * n ≤ length (now names)) × (n ≤ mostAirfields) × (at ≤ 4096) ⌝ }
     ensures { λ r. ⌜ r ≡ namesAllowed n at (now (names .entry)) ⌝ }
 {
     let all = 4 * n;
@@ -79,7 +73,7 @@ pub fn airfields_allowed(l: Airfields, at: usize) -> Seen
     ensures { λ r. ⌜ r ≡ airfieldsAllowed at l ⌝ }
 {
     let n = wide(l.count);
-    if 20 < n {
+    if MOST_AIRFIELDS < n {
         return Seen::Bad(5, at);
     }
     let names = l.names;
@@ -118,13 +112,13 @@ fn region_word(b: Region) -> usize
 }
 
 // Whether every box from the n-th on is zero. Gathered, as above.
-fn regions_zero(regions: [Region; 16], n: usize) -> bool
-    requires { ⌜ n ≤ 16 ⌝ }
+fn regions_zero(regions: [Region; MOST_BOXES], n: usize) -> bool
+    requires { ⌜ n ≤ mostBoxes ⌝ }
     ensures { λ r. ⌜ r ≡ regionsZero (drop n regions) ⌝ }
 {
     let mut zero = true;
     let mut i = n;
-    while i < 16 {
+    while i < MOST_BOXES {
         zero = zero & (region_word(regions[i]) == 0);
         i += 1;
     }
@@ -132,8 +126,8 @@ fn regions_zero(regions: [Region; 16], n: usize) -> bool
 }
 
 // Whether n boxes would be taken, wherever they stand. Gathered, as above.
-fn regions_are(regions: [Region; 16], n: usize) -> bool
-    requires { ⌜ n ≤ 16 ⌝ }
+fn regions_are(regions: [Region; MOST_BOXES], n: usize) -> bool
+    requires { ⌜ n ≤ mostBoxes ⌝ }
     ensures { λ r. ⌜ ((at : ℕ) → r ≡ isFine (regionsAllowed n at regions)) ⌝ }
 {
     let mut fine = true;
@@ -146,8 +140,8 @@ fn regions_are(regions: [Region; 16], n: usize) -> bool
 }
 
 // n boxes, the first of which would stand at a place.
-fn each_region_allowed(regions: [Region; 16], n: usize, at: usize) -> Seen
-    requires { ⌜ (n ≤ 16) × (at ≤ 2048) ⌝ }
+fn each_region_allowed(regions: [Region; MOST_BOXES], n: usize, at: usize) -> Seen
+    requires { ⌜ (n ≤ mostBoxes) × (at ≤ 2048) ⌝ }
     ensures { λ r. ⌜ r ≡ regionsAllowed n at regions ⌝ }
 {
     let mut q = at;
@@ -166,8 +160,8 @@ fn each_region_allowed(regions: [Region; 16], n: usize, at: usize) -> Seen
 }
 
 // The same: all boxes at once, and one after the other only where one is wrong.
-fn regions_allowed(regions: [Region; 16], n: usize, at: usize) -> Seen
-    requires { ⌜ (n ≤ 16) × (at ≤ 2048) ⌝ }
+fn regions_allowed(regions: [Region; MOST_BOXES], n: usize, at: usize) -> Seen
+    requires { ⌜ (n ≤ mostBoxes) × (at ≤ 2048) ⌝ }
     ensures { λ r. ⌜ r ≡ regionsAllowed n at regions ⌝ }
 {
     if regions_are(regions, n) {
@@ -182,7 +176,7 @@ pub fn boxes_allowed(l: Boxes, at: usize) -> Seen
     ensures { λ r. ⌜ r ≡ boxesAllowed at l ⌝ }
 {
     let n = wide(l.count);
-    if 16 < n {
+    if MOST_BOXES < n {
         return Seen::Bad(5, at);
     }
     let regions = l.regions;
@@ -214,13 +208,13 @@ fn is_entry(used: bool, b: u8) -> bool
 
 // So many bytes of names, and nothing behind them. The place is counted a second time as a byte, so that sixteen are looked at in one step.
 fn names_fine(used: u8, names: &[u8]) -> bool
-    requires { ⌜ length (now names) ≡ 80 ⌝ }
+    requires { ⌜ length (now names) ≡ 4 * mostAirfields ⌝ }
     ensures { λ r. ⌜ r ≡ (allAllowed (take used (now (names .entry))) && allZero (drop used (now (names .entry)))) ⌝ }
 {
     let mut fine = true;
     let mut i: usize = 0;
     let mut k: u8 = 0;
-    while i < 80 {
+    while i < NAME_BYTES {
         fine = fine & is_entry(k < used, names[i]);
         i += 1;
         k += 1;
@@ -229,26 +223,26 @@ fn names_fine(used: u8, names: &[u8]) -> bool
 }
 
 pub fn airfields_fine(count: u8, names: &[u8]) -> bool
-    requires { ⌜ length (now names) ≡ 80 ⌝ }
+    requires { ⌜ length (now names) ≡ 4 * mostAirfields ⌝ }
     ensures { λ r. ⌜ ((at : ℕ) → r ≡ isFine (airfieldsAllowed at (record { count = count; names = now (names .entry) }))) ⌝ }
 {
     if count == 0 {
         return zero_from(names, 0);
     }
-    if 20 < count {
+    if MOST_AIRFIELDS < count as usize {
         return false;
     }
     names_fine(4 * count, names)
 }
 
-pub fn boxes_fine(count: u8, regions: [Region; 16]) -> bool
+pub fn boxes_fine(count: u8, regions: [Region; MOST_BOXES]) -> bool
     ensures { λ r. ⌜ ((at : ℕ) → r ≡ isFine (boxesAllowed at (record { count = count; regions = regions }))) ⌝ }
 {
     let n = wide(count);
     if n == 0 {
         return regions_zero(regions, 0);
     }
-    if 16 < n {
+    if MOST_BOXES < n {
         return false;
     }
     regions_zero(regions, n) & regions_are(regions, n)

@@ -1,6 +1,7 @@
 // The counted lists written over the start of a text.
 use crate::Airfields;
 use crate::Boxes;
+use crate::MOST_BOXES;
 use field::Region;
 use field::record::wide;
 use field::write::put_decimal;
@@ -10,11 +11,11 @@ ghost use mathlib.Core.Path.{_≡_};
 ghost use Prim.Native.Nat.{_+_, _*_, _≤_};
 ghost use lib.ListN.{length, take};
 ghost use Rattle.text.specs.Over.{over};
-ghost use Rattle.lists.specs.Lists.{airfieldsText, regionsText, boxesText};
+ghost use Rattle.lists.specs.Lists.{mostAirfields, mostBoxes, airfieldsText, regionsText, boxesText};
 
 // The count and the names in use; the answer is how many bytes that is.
 pub fn put_airfields(l: Airfields, d: &mut [u8]) -> usize
-    requires { ⌜ (l .count ≤ 20) × (2 + 4 * l .count ≤ length (now d)) ⌝ }
+    requires { ⌜ (l .count ≤ mostAirfields) × (2 + 4 * l .count ≤ length (now d)) ⌝ }
     ensures { λ r. ⌜ (r ≡ length (airfieldsText l)) × (now (d .exit) ≡ over (now (d .entry)) 0 (airfieldsText l)) ⌝ }
 {
     let n = wide(l.count);
@@ -27,8 +28,8 @@ pub fn put_airfields(l: Airfields, d: &mut [u8]) -> usize
 }
 
 // The first n boxes.
-fn put_regions(regions: [Region; 16], n: usize, d: &mut [u8])
-    requires { ⌜ (n ≤ 16) × (14 * n ≤ length (now d)) ⌝ }
+fn put_regions(regions: [Region; MOST_BOXES], n: usize, d: &mut [u8])
+    requires { ⌜ (n ≤ mostBoxes) × (14 * n ≤ length (now d)) ⌝ }
     ensures { λ _. ⌜ now (d .exit) ≡ over (now (d .entry)) 0 (regionsText (take n regions)) ⌝ }
 {
     let mut p = 0;
@@ -43,7 +44,7 @@ fn put_regions(regions: [Region; 16], n: usize, d: &mut [u8])
 
 // The count and the boxes in use; the answer is how many bytes that is.
 pub fn put_boxes(l: Boxes, d: &mut [u8]) -> usize
-    requires { ⌜ (l .count ≤ 16) × (2 + 14 * l .count ≤ length (now d)) ⌝ }
+    requires { ⌜ (l .count ≤ mostBoxes) × (2 + 14 * l .count ≤ length (now d)) ⌝ }
     ensures { λ r. ⌜ (r ≡ length (boxesText l)) × (now (d .exit) ≡ over (now (d .entry)) 0 (boxesText l)) ⌝ }
 {
     let n = wide(l.count);

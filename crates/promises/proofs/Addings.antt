@@ -9,8 +9,7 @@ use Rattle.text.specs.Over.{over}
 use Rattle.text.specs.declared.Seen.the-variants.{Fine}
 use Rattle.text.proofs.Cases.{by-test, by-eq}
 use Rattle.text.proofs.Equal.{same-self}
-use Rattle.command.specs.Text.{checkCommand}
-use Rattle.command.proofs.Accepted.{longest-is}
+use Rattle.command.specs.Text.{longest, checkCommand}
 use Rattle.join.specs.Join.{joinText}
 use Rattle.decide.proofs.Tests.{Says, says-no, reworded, not-said, both-said}
 use Rattle.board.specs.Board.{isDesignator, isNone, isFree, isFor, any, lowest, waiting, placing, Move, Put, add, Given, Refused, replyOf}
@@ -181,5 +180,5 @@ module _ (r : Run) (d t : List ℕ) where
           area =
               ap (λ (y : Lent). y .area) after
               ∙ ap (λ (m : Move). onArea m (x .area)) (p .move)
-              ∙ ap₂ (λ (k : ℕ) (u : List ℕ). over (x .area) (k * i) u) longest-is then-joined;
+              ∙ ap (λ (u : List ℕ). over (x .area) (longest * i) u) then-joined;
         }

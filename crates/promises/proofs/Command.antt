@@ -20,7 +20,7 @@ use Rattle.command.specs.Record.{commandOf, got, readCommand, commandText, writ
 use Rattle.command.specs.Allowed.{allowedCommand}
 use Rattle.command.specs.Examples.{longestText, examples, AllReadBack}
 use Rattle.command.specs.declared.Command.{Command}
-use Rattle.command.proofs.Accepted.{accepted as acceptedParts}
+use Rattle.command.proofs.Accepted.{longest-is, accepted as acceptedParts}
 use Rattle.command.proofs.Examples.{examples-read, longest-text}
 use Rattle.command_write.specs.Filled.{Filled}
 use Rattle.command_write.proofs.RoundTrip as round
@@ -144,7 +144,7 @@ all-read : AllReadBack examples
 all-read = examples-read
 
 empty-refused : check [] ≡ answerOf 8 0
-unfolding checkCommand checkHead checkAwr04 longest sectionsMost itemsMost layoutOf tableOf
+unfolding checkCommand checkHead checkAwr04 sectionsMost itemsMost layoutOf tableOf
 empty-refused = refl
 
 pub command-promises : CommandPromises
@@ -158,6 +158,7 @@ command-promises =
       read-write = read-write;
       write-read = write-read;
       short = λ s e. acceptedParts s (accepted-fine s e) .short;
+      longest-is = longest-is;
       accepts = λ s. (accepts s, accepted-by s);
       writes = λ c out full. (
         λ e. written-allowed.writes-allowed c (length out) full .0 (write-fine c out e),

@@ -10,8 +10,7 @@ use Rattle.text.specs.declared.Seen.{Seen}
 use Rattle.text.specs.declared.Seen.the-variants.{Fine, Bad}
 use Rattle.text.proofs.Cases.{by-test}
 use Rattle.settings.specs.declared.Settings.{Settings}
-use Rattle.command.specs.Text.{checkCommand}
-use Rattle.command.proofs.Accepted.{longest-is}
+use Rattle.command.specs.Text.{longest, checkCommand}
 use Rattle.config.specs.Config.{applyTo, keptBy, kept}
 use Rattle.settings.specs.Valid.{valid}
 use Rattle.config.proofs.Valid.{applies-valid}
@@ -76,11 +75,11 @@ module _ (r : Run) (d : List ℕ) where
           ap checkCommand (sym (joined-is (t ∷ ts) a)) ∙ is-fine (checkCommand (joined (t ∷ ts))) (joined-fine t ts a)
 
   -- in at most 835 bytes
-  pub short : length (joinOf (acceptedFor r d)) ≤ 835
+  pub short : length (joinOf (acceptedFor r d)) ≤ longest
   short =
       by-said (none-said r d)
       (λ e. rw e (omega arith))
-      (λ n. rw longest-is at (accepted-short (joinOf (acceptedFor r d)) (ap isFine (fine n))))
+      (λ n. accepted-short (joinOf (acceptedFor r d)) (ap isFine (fine n)))
 
   -- that leaves every configuration as they would have, one after the other
   pub acts : (x : Settings) → kept x (joinOf (acceptedFor r d)) ≡ foldl kept x (acceptedFor r d)

@@ -12,7 +12,6 @@ use Rattle.text.specs.Equal.{sameBytes}
 use Rattle.text.proofs.Cases.{by-test, by-lt, by-eq, both-left, both-right}
 use Rattle.text.proofs.Equal.{same-equal, equal-same}
 use Rattle.command.specs.Text.{longest}
-use Rattle.command.proofs.Accepted.{longest-is}
 use Rattle.decide.proofs.Tests.{Says}
 use Rattle.board.specs.Board.{WaitingSlot, emptySlot, isNone, isFree, isFor, any, lowest, waiting, isValid}
 use Rattle.board.specs.Lent.{lengthsFit, isShaped, noSlot}
@@ -46,7 +45,7 @@ began-shaped x o =
     shaped (x .slots) (x .area)
     (record {
       few = o .few;
-      bytes = o .bytes ∙ ap (λ (k : ℕ). k * length (x .slots)) (sym longest-is);
+      bytes = o .bytes;
       fit = all-free (x .slots) (o .free) .1;
     })
 
@@ -137,10 +136,9 @@ module _ (x : Lent) (h : isShaped (x .slots) (x .area) ≡ true) where
       }
 
   slot-text : (i : ℕ) → i < length (x .slots)
-      → getD (boardIn x) i emptySlot .text ≡ take (slotAt x i .length) (drop (835 * i) (x .area))
+      → getD (boardIn x) i emptySlot .text ≡ take (slotAt x i .length) (drop (longest * i) (x .area))
   slot-text i l =
       text-at (x .slots) (x .area) i (holds .fit) l
-      ∙ ap (λ (k : ℕ). take (slotAt x i .length) (drop (k * i) (x .area))) longest-is
 
   -- ---- What waits
 
@@ -154,13 +152,13 @@ module _ (x : Lent) (h : isShaped (x .slots) (x .area) ≡ true) where
       let u : UsedFor x d i = place-used d i mine in
       let text = slot-text i (u .inside) in
       let l = u .inside in
-      let f : slotAt x i .length ≤ 835 = rw longest-is at (fit-at (x .slots) i (holds .fit)) in
-      let w : length (x .area) ≡ 835 * length (x .slots) = holds .bytes ∙ ap (λ (k : ℕ). k * length (x .slots)) longest-is in
-      let n = length-drop (835 * i) (x .area) in
+      let f : slotAt x i .length ≤ longest = fit-at (x .slots) i (holds .fit) in
+      let w : length (x .area) ≡ longest * length (x .slots) = holds .bytes in
+      let n = length-drop (longest * i) (x .area) in
       record {
         slot = i;
         used = u;
-        long = ap length text ∙ length-take-le (slotAt x i .length) (drop (835 * i) (x .area)) (omega arith);
+        long = ap length text ∙ length-take-le (slotAt x i .length) (drop (longest * i) (x .area)) (omega arith);
         text = text;
         alone = λ j q.
             by-eq j i (λ e. e) (λ e. never (used-place d j q) (only d (boardIn x) v i j mine e));

@@ -6,7 +6,7 @@ use Prim.Native.Nat.{ℕ, _*_, _≤_, _<_}
 use lib.ListN.{length, set, take, drop}
 use Rattle.text.specs.Over.{over}
 use Rattle.settings.specs.declared.Settings.{Settings}
-use Rattle.command.specs.Text.{checkCommand}
+use Rattle.command.specs.Text.{longest, checkCommand}
 use Rattle.config.specs.Config.{kept}
 use Rattle.board.specs.Board.{Move, Stay, Put, Free}
 use Rattle.board.specs.Lent.{isValidLent}
@@ -90,7 +90,7 @@ pub record Stores (r : Run) (d t : List ℕ) : Type 0 where
   -- every other slot stays, and every other byte of the area
   pub slots : now (next r (Add d t)) .slots
       ≡ set (now r .slots) slot (record { designator = d; length = length (joinOf (acceptedFor (next r (Add d t)) d)) })
-  pub area : now (next r (Add d t)) .area ≡ over (now r .area) (835 * slot) (joinOf (acceptedFor (next r (Add d t)) d))
+  pub area : now (next r (Add d t)) .area ≡ over (now r .area) (longest * slot) (joinOf (acceptedFor (next r (Add d t)) d))
 
 -- ---- A refusal, of any lent board
 
@@ -111,7 +111,7 @@ pub record BoardPromises : Type 0 where
   -- "what waits for an aircraft is always all its accepted commands since the last hand-over, joined in order"
   pub waits : (r : Run) (d : List ℕ) → ¬ (acceptedFor r d ≡ []) → Waits (now r) d (joinOf (acceptedFor r d))
   -- "in at most 835 bytes"
-  pub short : (r : Run) (d : List ℕ) → length (joinOf (acceptedFor r d)) ≤ 835
+  pub short : (r : Run) (d : List ℕ) → length (joinOf (acceptedFor r d)) ≤ longest
   -- one accepted command
   pub fine : (r : Run) (d : List ℕ) → ¬ (acceptedFor r d ≡ []) → IsAccepted (joinOf (acceptedFor r d))
   -- that leaves every configuration as they would have, applied one after the other

@@ -6,10 +6,10 @@ use Prim.Native.Nat.{ℕ, _*_, _≤_, _<_}
 use lib.Dec.{eqb}
 use lib.ListN.{length, getD, take, drop}
 use Rattle.text.specs.Equal.{sameBytes}
-use Rattle.command.specs.Text.{checkCommand}
+use Rattle.command.specs.Text.{longest, checkCommand}
 use Rattle.join.specs.Join.{joinText}
 use Rattle.decide.specs.Words.{AllowedByte}
-use Rattle.board.specs.Board.{Move, replyOf}
+use Rattle.board.specs.Board.{mostSlots, Move, replyOf}
 use Rattle.board.specs.Lent.{addLent, takeLent, noSlot, onSlots, onArea, onOut}
 use Rattle.board.specs.Calls.{Lent}
 use Rattle.board.specs.declared.Slot.{Slot}
@@ -56,8 +56,8 @@ slotAt x i = getD (x .slots) i noSlot
 
 -- at most 64 slots, 835 bytes of area for each, every slot free; designators and area may hold any bytes
 pub record BeganEmpty (x : Lent) : Type 0 where
-  pub few : length (x .slots) ≤ 64
-  pub bytes : length (x .area) ≡ 835 * length (x .slots)
+  pub few : length (x .slots) ≤ mostSlots
+  pub bytes : length (x .area) ≡ longest * length (x .slots)
   pub free : (i : ℕ) → i < length (x .slots) → slotAt x i .length ≡ 0
 
 pub record Run : Type 0 where
@@ -135,7 +135,7 @@ pub record Waits (x : Lent) (d t : List ℕ) : Type 0 where
   pub slot : ℕ
   pub used : UsedFor x d slot
   pub long : length t ≡ slotAt x slot .length
-  pub text : t ≡ take (slotAt x slot .length) (drop (835 * slot) (x .area))
+  pub text : t ≡ take (slotAt x slot .length) (drop (longest * slot) (x .area))
   pub alone : (j : ℕ) → UsedFor x d j → j ≡ slot
 
 abbrev pub NoneFree : Lent → Type 0

@@ -4,10 +4,11 @@ use mathlib.Core.Path.{_≡_}
 use mathlib.Core.Logic.{_↔_}
 use mathlib.Core.Bool.{true}
 use mathlib.Core.List.{List, [], _++_}
-use Prim.Native.Nat.{ℕ, _≤_}
+use Prim.Native.Nat.{ℕ, _+_, _≤_}
 use lib.ListN.{length, take, drop}
 use Rattle.text.specs.Bytes.{bytes}
-use Rattle.command.specs.Text.{checkCommand}
+use Rattle.command.specs.Text.{sectionsMost, longest, checkCommand}
+use Rattle.section.specs.Layout.{numbers}
 use Rattle.command.specs.Record.{readCommand, commandText, writeSeen, leftBy}
 use Rattle.command.specs.Allowed.{allowedCommand}
 use Rattle.command.specs.Examples.{longestText}
@@ -52,8 +53,9 @@ pub record CommandPromises : Type 0 where
       → (write c out ≡ accepted (length (commandText c)))
       × (read (take (length (commandText c)) (written c out)) ≡ record { answer = accepted 0; command = c })
       × (drop (length (commandText c)) (written c out) ≡ drop (length (commandText c)) out)
-  -- in at most 835 bytes
-  pub short : (s : List ℕ) → check s .code ≡ 0 → length s ≤ 835
+  -- in at most 835 bytes: the first 22 and every section at its longest
+  pub short : (s : List ℕ) → check s .code ≡ 0 → length s ≤ longest
+  pub longest-is : longest ≡ 22 + sectionsMost numbers
   -- accepted is code 0: a text is accepted just where it is what an allowed record is written as
   pub accepts : (s : List ℕ) → (check s .code ≡ 0) ↔ ((c : Command) × (Filled c × (allowedCommand c ≡ true) × (s ≡ commandText c)))
   -- a record is written just where it is allowed and there is room
@@ -65,6 +67,6 @@ pub record CommandPromises : Type 0 where
   -- there are accepted texts: the printed ones, and one that is full
   pub no-change : check (bytes "AWR049999999000000000/") ≡ accepted 0
   pub printed : check (bytes "AWR041199999100400009/300/2301/") ≡ accepted 0
-  pub full : (check longestText ≡ accepted 0) × (length longestText ≡ 835)
+  pub full : (check longestText ≡ accepted 0) × (length longestText ≡ longest)
   -- "Empty command: 8 at 0."
   pub empty : check [] ≡ answerOf 8 0

@@ -6,7 +6,7 @@ use mathlib.Core.List.{List}
 use Prim.Native.Nat.{ℕ, _≤_, _<_, max}
 use lib.ListN.{length, take, drop}
 use Rattle.settings.specs.declared.Settings.{Settings}
-use Rattle.command.specs.Text.{checkCommand}
+use Rattle.command.specs.Text.{longest, checkCommand}
 use Rattle.config.specs.Config.{applied, kept}
 use Rattle.settings.specs.Valid.{valid}
 use Rattle.join.specs.Join.{joinText, noChange, join, joinedOver}
@@ -50,7 +50,7 @@ pub record JoinPromises : Type 0 where
   -- "Two accepted commands join into one accepted command"
   pub joins : (a b out : List ℕ) → IsAccepted a → IsAccepted b → length (joinText a b) ≤ length out → JoinedInto a b out
   pub fine : (a b : List ℕ) → IsAccepted a → IsAccepted b → IsAccepted (joinText a b)
-  pub short : (a b : List ℕ) → IsAccepted a → IsAccepted b → length (joinText a b) ≤ 835
+  pub short : (a b : List ℕ) → IsAccepted a → IsAccepted b → length (joinText a b) ≤ longest
   -- code 0 is answered nowhere else
   pub zero : (a b out : List ℕ)
       → (joinAnswer a b out .code ≡ 0) ↔ (IsAccepted a × IsAccepted b × (length (joinText a b) ≤ length out))

@@ -7,7 +7,7 @@ use lib.Dec.{eqb}
 use Rattle.field.specs.Fields.{after, checkDigits, checkDelimiter}
 use Rattle.field.specs.declared.Step.{Step}
 use Rattle.field.specs.declared.Step.the-variants.{Next}
-use Rattle.lists.specs.Lists.{checkAirfields, checkBoxes, countAt}
+use Rattle.lists.specs.Lists.{mostBoxes, mostAirfields, checkAirfields, checkBoxes, countAt}
 use Rattle.section.specs.declared.Row.{Row}
 
 -- what a section is made of
@@ -123,8 +123,8 @@ itemsSize (i ∷ is) s at = itemSize i s at + itemsSize is s (at + itemSize i s 
 -- the longest that each can be
 abbrev pub itemMost : Item → ℕ
 itemMost (Digits r) = r .width
-itemMost AirfieldList = 2 + 4 * 20
-itemMost BoxList = 2 + 14 * 16
+itemMost AirfieldList = 2 + 4 * mostAirfields
+itemMost BoxList = 2 + 14 * mostBoxes
 
 unfoldable pub itemsMost : List Item → ℕ
 itemsMost [] = 1

@@ -10,6 +10,8 @@ use crate::Settings;
 use field::read::no_region;
 use lists::Airfields;
 use lists::Boxes;
+use lists::MOST_BOXES;
+use lists::NAME_BYTES;
 ghost use mathlib.Core.Path.{_≡_};
 ghost use mathlib.Core.List.{[]};
 ghost use Rattle.lists.specs.Lists.{noAirfields, noBoxes};
@@ -22,7 +24,7 @@ fn no_boxes() -> Boxes
     let none = no_region();
     Boxes {
         count: 0,
-        regions: [none; 16],
+        regions: [none; MOST_BOXES],
     }
 }
 
@@ -31,7 +33,7 @@ fn no_phases() -> ByPhase
 {
     let none = Airfields {
         count: 0,
-        names: [0u8; 80],
+        names: [0u8; NAME_BYTES],
     };
     ByPhase {
         ascent: none,

@@ -8,7 +8,7 @@ ghost use lib.ListN.{length};
 ghost use Rattle.text.specs.Checks.{must};
 ghost use Rattle.text.specs.Parts.{part};
 ghost use Rattle.field.specs.Decimal.{allDigits};
-ghost use Rattle.lists.specs.Lists.{countAt};
+ghost use Rattle.lists.specs.Lists.{mostAirfields, countAt};
 ghost use Rattle.section.specs.Layout.{Accepted};
 ghost use Rattle.section.specs.Inner.{goesOn};
 ghost use Rattle.settings.specs.Inner.{listsAt};
@@ -26,7 +26,7 @@ pub struct ListPlaces {
 pub fn list_end(s: &[u8], at: usize, w: usize) -> usize
     requires { ⌜ at + 2 ≤ length (now s) ⌝ }
     requires { ⌜ allDigits (part at 2 (now s)) ≡ true ⌝ }
-    requires { ⌜ (countAt (now s) at ≤ 20) × (w ≤ 14) ⌝ }
+    requires { ⌜ (countAt (now s) at ≤ mostAirfields) × (w ≤ 14) ⌝ }
     ensures { λ r. ⌜ r ≡ at + (2 + w * countAt (now (s .entry)) at) ⌝ }
 {
     at + (2 + w * value_at(s, at, 2))

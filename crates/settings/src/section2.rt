@@ -18,7 +18,7 @@ ghost use lib.ListN.{length};
 ghost use Rattle.text.specs.Checks.{isFine};
 ghost use Rattle.text.specs.Over.{over};
 ghost use Rattle.text.specs.declared.Seen.the-variants.{Fine};
-ghost use Rattle.lists.specs.Lists.{boxesText};
+ghost use Rattle.lists.specs.Lists.{mostBoxes, boxesText};
 ghost use Rattle.section.specs.Layout.{layoutOf, Accepted};
 ghost use Rattle.section.specs.Contents.{contentsAt, contentsText, contentsAllowed};
 ghost use Rattle.section.specs.Inner.{passContents, Reaches};
@@ -65,7 +65,7 @@ pub fn regions_fine(x: Regions) -> bool
 
 // Where a list of boxes would end.
 fn boxes_end(l: Boxes, at: usize) -> usize
-    requires { ⌜ (at ≤ 1000) × (l .count ≤ 16) ⌝ }
+    requires { ⌜ (at ≤ 1000) × (l .count ≤ mostBoxes) ⌝ }
     ensures { λ r. ⌜ (r ≡ at + length (boxesText l)) × (r ≤ 2000) ⌝ }
 {
     at + (2 + 14 * wide(l.count))
@@ -97,7 +97,7 @@ fn regions_allowed(x: Regions, at: usize) -> Seen
 
 // How long a list's text is.
 fn boxes_size(l: Boxes) -> usize
-    requires { ⌜ l .count ≤ 16 ⌝ }
+    requires { ⌜ l .count ≤ mostBoxes ⌝ }
     ensures { λ r. ⌜ (r ≡ length (boxesText l)) × (r ≡ 2 + 14 * l .count) ⌝ }
 {
     2 + 14 * wide(l.count)
@@ -105,7 +105,7 @@ fn boxes_size(l: Boxes) -> usize
 
 // How long the text of section 2 is.
 fn regions_length(x: Regions) -> usize
-    requires { ⌜ (x .reporting .count ≤ 16) × (x .inhibiting .count ≤ 16) ⌝ }
+    requires { ⌜ (x .reporting .count ≤ mostBoxes) × (x .inhibiting .count ≤ mostBoxes) ⌝ }
     ensures { λ r. ⌜ (r ≡ length (contentsText (layoutOf 2) (regionsHold x))) × (r ≤ 453) ⌝ }
 {
     let reporting = x.reporting;
@@ -126,7 +126,7 @@ fn regions_passed(x: Regions, at: usize) -> Step
 
 // Section 2.
 fn put_regions(x: Regions, d: &mut [u8]) -> usize
-    requires { ⌜ (x .reporting .count ≤ 16) × (x .inhibiting .count ≤ 16) ⌝ }
+    requires { ⌜ (x .reporting .count ≤ mostBoxes) × (x .inhibiting .count ≤ mostBoxes) ⌝ }
     requires { ⌜ length (boxesText (x .reporting)) + length (boxesText (x .inhibiting)) + 1 ≤ length (now d) ⌝ }
     ensures { λ r. ⌜
         (r ≡ length (contentsText (layoutOf 2) (regionsHold x)))

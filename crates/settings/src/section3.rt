@@ -23,7 +23,7 @@ ghost use Rattle.text.specs.Checks.{must, _andThen_, isFine};
 ghost use Rattle.text.specs.Over.{over};
 ghost use Rattle.text.specs.declared.Seen.the-variants.{Fine};
 ghost use Rattle.field.specs.declared.Step.the-variants.{Next};
-ghost use Rattle.lists.specs.Lists.{countAt, checkAirfields, airfieldsAt, airfieldsAllowed, airfieldsText};
+ghost use Rattle.lists.specs.Lists.{mostAirfields, countAt, checkAirfields, airfieldsAt, airfieldsAllowed, airfieldsText};
 ghost use Rattle.section.specs.Layout.{layoutOf, Accepted};
 ghost use Rattle.section.specs.Contents.{Names, contentsAt, contentsText, contentsAllowed};
 ghost use Rattle.section.specs.Inner.{passContents, Reaches};
@@ -121,7 +121,7 @@ fn phases_allowed(x: ByPhase, at: usize) -> Seen
 
 // Where the two lists would end.
 fn phases_end(x: ByPhase, at: usize) -> usize
-    requires { ⌜ (at ≤ 2000) × (x .ascent .count ≤ 20) × (x .descent .count ≤ 20) ⌝ }
+    requires { ⌜ (at ≤ 2000) × (x .ascent .count ≤ mostAirfields) × (x .descent .count ≤ mostAirfields) ⌝ }
     ensures { λ r. ⌜ r ≡ at + length (airfieldsText (x .ascent)) + length (airfieldsText (x .descent)) ⌝ }
 {
     let ascent = x.ascent;
@@ -163,7 +163,7 @@ fn airports_allowed(x: Airports, at: usize) -> Seen
 }
 
 fn airfields_size(l: Airfields) -> usize
-    requires { ⌜ l .count ≤ 20 ⌝ }
+    requires { ⌜ l .count ≤ mostAirfields ⌝ }
     ensures { λ r. ⌜ (r ≡ length (airfieldsText l)) × (r ≡ 2 + 4 * l .count) ⌝ }
 {
     2 + 4 * wide(l.count)
@@ -171,7 +171,7 @@ fn airfields_size(l: Airfields) -> usize
 
 // The lists of an ascent and of a descent, one behind the other.
 fn phases_size(x: ByPhase) -> usize
-    requires { ⌜ (x .ascent .count ≤ 20) × (x .descent .count ≤ 20) ⌝ }
+    requires { ⌜ (x .ascent .count ≤ mostAirfields) × (x .descent .count ≤ mostAirfields) ⌝ }
     ensures { λ r. ⌜ (r ≡ length (airfieldsText (x .ascent)) + length (airfieldsText (x .descent))) × (r ≤ 164) ⌝ }
 {
     let ascent = x.ascent;
@@ -181,8 +181,8 @@ fn phases_size(x: ByPhase) -> usize
 
 // How long the text of section 3 is.
 fn airports_length(x: Airports) -> usize
-    requires { ⌜ (x .selected .ascent .count ≤ 20) × (x .selected .descent .count ≤ 20) ⌝ }
-    requires { ⌜ (x .inhibited .ascent .count ≤ 20) × (x .inhibited .descent .count ≤ 20) ⌝ }
+    requires { ⌜ (x .selected .ascent .count ≤ mostAirfields) × (x .selected .descent .count ≤ mostAirfields) ⌝ }
+    requires { ⌜ (x .inhibited .ascent .count ≤ mostAirfields) × (x .inhibited .descent .count ≤ mostAirfields) ⌝ }
     ensures { λ r. ⌜ (r ≡ length (contentsText (layoutOf 3) (airportsHold x))) × (r ≤ 330) ⌝ }
 {
     let selected = x.selected;
@@ -202,7 +202,7 @@ fn airports_passed(x: Airports, at: usize) -> Step
 }
 
 fn put_phases(x: ByPhase, d: &mut [u8])
-    requires { ⌜ (x .ascent .count ≤ 20) × (x .descent .count ≤ 20) ⌝ }
+    requires { ⌜ (x .ascent .count ≤ mostAirfields) × (x .descent .count ≤ mostAirfields) ⌝ }
     requires { ⌜ length (airfieldsText (x .ascent)) + length (airfieldsText (x .descent)) ≤ length (now d) ⌝ }
     ensures { λ _. ⌜ now (d .exit) ≡ over (now (d .entry)) 0 (phasesText x) ⌝ }
 {
@@ -216,8 +216,8 @@ fn put_phases(x: ByPhase, d: &mut [u8])
 
 // Section 3.
 fn put_airports(x: Airports, d: &mut [u8]) -> usize
-    requires { ⌜ (x .selected .ascent .count ≤ 20) × (x .selected .descent .count ≤ 20) ⌝ }
-    requires { ⌜ (x .inhibited .ascent .count ≤ 20) × (x .inhibited .descent .count ≤ 20) ⌝ }
+    requires { ⌜ (x .selected .ascent .count ≤ mostAirfields) × (x .selected .descent .count ≤ mostAirfields) ⌝ }
+    requires { ⌜ (x .inhibited .ascent .count ≤ mostAirfields) × (x .inhibited .descent .count ≤ mostAirfields) ⌝ }
     requires { ⌜
         length (airfieldsText (x .selected .ascent)) + length (airfieldsText (x .selected .descent))
         + (length (airfieldsText (x .inhibited .ascent)) + length (airfieldsText (x .inhibited .descent)))

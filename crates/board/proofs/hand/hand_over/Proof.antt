@@ -12,6 +12,7 @@ use Rattle.board.specs.Inner.{fitsAt, takeMove}
 use Rattle.board.proofs.Moves.{fits}
 use Rattle.text.specs.Parts.{part}
 use lib.Seq.{length-take-le}
+use Rattle.command.specs.Text.{longest}
 
 refused-requires : tie.Need-refused-requires
 refused-requires c κs = search needs
@@ -79,8 +80,8 @@ returns-6 c = let a = c .before .before .before .before .before .before .before 
     let m = c .before .before .before .before .before .before .before .before .middle .ensures in
     let g : fitsAt (a .v .own) (a .v .length) (length (now (a .area))) ≡ true = rw m at (sym (c .before .before .before .before .before .before .fits-at .ensures) ∙ not-false _ (c .before .before .before .before .before .if5 .left)) in
     let f = fits (a .v .own) (a .v .length) (length (now (a .area))) g in
-    let t = part (835 * a .v .own) (a .v .length) (now (a .area)) in
-    let n : length t ≡ a .v .length = length-take-le (a .v .length) (drop (835 * a .v .own) (now (a .area))) (omega (arith, f, length-drop (835 * a .v .own) (now (a .area)))) in
+    let t = part (longest * a .v .own) (a .v .length) (now (a .area)) in
+    let n : length t ≡ a .v .length = length-take-le (a .v .length) (drop (longest * a .v .own) (now (a .area))) (omega (arith, f, length-drop (longest * a .v .own) (now (a .area)))) in
     rw (not-false (a .v .valid) (c .before .before .before .before .before .before .before .before .before .before .before .before .before .if1 .left), not-false (a .w .fine) (c .before .before .before .before .before .before .before .before .before .before .before .if2 .left), lt-ltb (a .v .own) (a .v .count) (c .before .before .before .before .before .before .before .before .before .if3 .left), le-leb (a .v .length) (length (now (a .out))) (rw m at (c .before .before .before .before .before .before .before .if4 .left)), g)
     (c .freed .ensures ∙ rw n, c .before .before .before .put-text .ensures ∙ rw m)
 

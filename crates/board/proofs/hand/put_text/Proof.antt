@@ -9,6 +9,7 @@ use denote.Ref.{now}
 use Rattle.join.proofs.Side.{copied}
 use Rattle.text.specs.Parts.{part}
 use lib.Seq.{length-take-le}
+use Rattle.command.specs.Text.{longest}
 
 mul-at : tie.Need-mul-at
 mul-at c = search needs
@@ -34,7 +35,7 @@ same-length c = search needs
 returns : tie.Need-returns
 returns c = let s = c .before .before .before .before .before .before .before in
     let a = s .args in
-    let at = 835 * a .i in
+    let at = longest * a .i in
     let n : at + a .n - at ≡ a .n = omega arith in
     copied (now (a .out)) (c .before .before .copy .last .0) (part at (a .n) (now (a .area))) _ (c .before .before .copy .ensures) (ap (λ (k : ℕ). take k (drop at (now (a .area)))) n) (rw (length-take-le (a .n) (drop at (now (a .area))) (omega (arith, s .pre, length-drop at (now (a .area))))) (s .pre .3))
 

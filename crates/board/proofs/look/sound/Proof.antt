@@ -9,7 +9,7 @@ use Prim.Native.Nat.{ℕ, _+_, _-_, _*_}
 use lib.ListN.{length, take, drop}
 use denote.Ref.{now}
 use Rattle.board.specs.Inner.{soundAt}
-use Rattle.command.specs.Text.{checkCommand}
+use Rattle.command.specs.Text.{longest, checkCommand}
 
 six-long : (c : tie.Then4) → length (c .before .before .before .before .before .before .before .before .before .args .s .designator) ≡ 6
 six-long c = search needs
@@ -26,7 +26,7 @@ returns c = let a = c .before .before .before .args in rw (le-ltb (a .i) 64 (ome
 
 returns-2 : tie.Need-returns-2
 unfolding soundAt
-returns-2 c = let a = c .before .before .before .before .args in rw (lt-ltb (a .i) 64 (omega (arith, c .before .if1 .left)), lt-leb (a .s .length) 835 (rw (c .before .before .middle .ensures) at (c .if2 .taken)))
+returns-2 c = let a = c .before .before .before .before .args in rw (lt-ltb (a .i) 64 (omega (arith, c .before .if1 .left)), lt-leb (a .s .length) longest (rw (c .before .before .middle .ensures) at (c .if2 .taken)))
 
 mul-at : tie.Need-mul-at
 mul-at c = search needs
@@ -36,7 +36,7 @@ add-end c = search needs
 
 returns-3 : tie.Need-returns-3
 unfolding soundAt
-returns-3 c = let a = c .before .before .before .before .before .args in rw (lt-ltb (a .i) 64 (omega (arith, c .before .before .if1 .left)), le-leb (a .s .length) 835 (rw (c .before .before .before .middle .ensures) at (c .before .if2 .left)), lt-leb (835 * a .i + a .s .length) (length (now (a .area))) (rw (c .before .before .before .middle .ensures) at (c .if3 .taken)))
+returns-3 c = let a = c .before .before .before .before .before .args in rw (lt-ltb (a .i) 64 (omega (arith, c .before .before .if1 .left)), le-leb (a .s .length) longest (rw (c .before .before .before .middle .ensures) at (c .before .if2 .left)), lt-leb (longest * a .i + a .s .length) (length (now (a .area))) (rw (c .before .before .before .middle .ensures) at (c .if3 .taken)))
 
 slice-aggregate-all-allowed : tie.Need-slice-aggregate-all-allowed
 slice-aggregate-all-allowed c = search needs
@@ -49,8 +49,8 @@ unfolding soundAt
 returns-4 c = let a = c .before .before .before .before .before .before .before .before .before .args in
     rw (
       lt-ltb (a .i) 64 (omega (arith, c .before .before .before .before .before .before .if1 .left)),
-      le-leb (a .s .length) 835 (rw (c .before .before .before .before .before .before .before .middle .ensures) at (c .before .before .before .before .before .if2 .left)),
-      le-leb (835 * a .i + a .s .length) (length (now (a .area))) (rw (c .before .before .before .before .before .before .before .middle .ensures) at (c .before .before .before .before .if3 .left)),
+      le-leb (a .s .length) longest (rw (c .before .before .before .before .before .before .before .middle .ensures) at (c .before .before .before .before .before .if2 .left)),
+      le-leb (longest * a .i + a .s .length) (length (now (a .area))) (rw (c .before .before .before .before .before .before .before .middle .ensures) at (c .before .before .before .before .if3 .left)),
       eq-eqb (length (a .s .designator)) 6 (six-long c),
       sym (c .before .all-allowed .ensures) ∙ not-true _ (c .if4 .taken),
     )
@@ -74,15 +74,15 @@ returns-5 : tie.Need-returns-5
 unfolding soundAt
 returns-5 c = let a = c .before .before .before .before .before .before .before .before .before .before .before .before .args in
     let m = c .before .before .before .before .before .before .before .before .before .before .middle .ensures in
-    let n : 835 * a .i + c .before .before .before .before .before .before .before .before .before .before .middle .result - 835 * a .i ≡ a .s .length = omega (arith, m) in
+    let n : longest * a .i + c .before .before .before .before .before .before .before .before .before .before .middle .result - longest * a .i ≡ a .s .length = omega (arith, m) in
     rw (
       lt-ltb (a .i) 64 (omega (arith, c .before .before .before .before .before .before .before .before .before .if1 .left)),
-      le-leb (a .s .length) 835 (rw m at (c .before .before .before .before .before .before .before .before .if2 .left)),
-      le-leb (835 * a .i + a .s .length) (length (now (a .area))) (rw m at (c .before .before .before .before .before .before .before .if3 .left)),
+      le-leb (a .s .length) longest (rw m at (c .before .before .before .before .before .before .before .before .if2 .left)),
+      le-leb (longest * a .i + a .s .length) (length (now (a .area))) (rw m at (c .before .before .before .before .before .before .before .if3 .left)),
       eq-eqb (length (a .s .designator)) 6 (six-long5 c),
       sym (c .before .before .before .before .all-allowed .ensures) ∙ not-false _ (c .before .before .before .if4 .left),
     )
-    (c .is-fine .ensures ∙ ap isFine (c .before .check .ensures ∙ ap (λ (j : ℕ). checkCommand (take j (drop (835 * a .i) (now (a .area))))) n))
+    (c .is-fine .ensures ∙ ap isFine (c .before .check .ensures ∙ ap (λ (j : ℕ). checkCommand (take j (drop (longest * a .i) (now (a .area))))) n))
 
 pub sound-spec : {M : Type 1} → statement M
 sound-spec =

@@ -10,18 +10,18 @@ use lib.ListN.{length, take, drop, replicate}
 use denote.Ref.{now}
 use Rattle.board.specs.Inner.{fitsAt, ownMove, waitsAt}
 use Rattle.board.proofs.Moves.{fits, told-refused, Onto, onto}
-use Rattle.command.proofs.Accepted.{longest-is}
 use lib.Seq.{length-take-le}
 use Rattle.join.specs.Join.{join, told}
+use Rattle.command.specs.Text.{longest}
 
-len-is : (c : tie.Else1) → let a = c .before .before .before .before .before .args in 835 * a .v .own + c .before .before .middle .result - 835 * a .v .own ≡ a .v .length
+len-is : (c : tie.Else1) → let a = c .before .before .before .before .before .args in longest * a .v .own + c .before .before .middle .result - longest * a .v .own ≡ a .v .length
 len-is c = omega (arith, c .before .before .middle .ensures)
 
 -- the text that the join told of
 text-of : (c : tie.After-known-told)
     → let a = c .before .before .before .before .before .before .before .before .before .before .before .before .before .args in
-    Onto (join (take (835 * a .v .own + c .before .before .before .before .before .before .before .before .before .before .middle .result - 835 * a .v .own) (drop (835 * a .v .own) (now (a .area)))) (now (a .t)) 835) (c .before .m .given .0 .0) (c .before .before .before .before .join-texts .last .1 .1 .0)
-text-of c = onto _ _ (replicate 835 0) _ _ (c .before .m .given .0 .0) refl refl (sym (c .before .before .before .before .join-texts .ensures .0) ∙ c .before .m .given .1) (c .before .before .before .before .join-texts .ensures .1)
+    Onto (join (take (longest * a .v .own + c .before .before .before .before .before .before .before .before .before .before .middle .result - longest * a .v .own) (drop (longest * a .v .own) (now (a .area)))) (now (a .t)) longest) (c .before .m .given .0 .0) (c .before .before .before .before .join-texts .last .1 .1 .0)
+text-of c = onto _ _ (replicate longest 0) _ _ (c .before .m .given .0 .0) refl refl (sym (c .before .before .before .before .join-texts .ensures .0) ∙ c .before .m .given .1) (c .before .before .before .before .join-texts .ensures .1)
 
 middle-requires : tie.Need-middle-requires
 middle-requires c κs = search needs
@@ -102,8 +102,8 @@ unfolding ownMove
 returns-2 c = let a = c .before .before .before .before .before .before .before .before .before .before .before .before .before .args in
     let g : fitsAt (a .v .own) (a .v .length) (length (now (a .area))) ≡ true = rw (c .before .before .before .before .before .before .before .before .before .before .middle .ensures) at (sym (c .before .before .before .before .before .before .before .before .before .fits-at .ensures) ∙ not-false _ (c .before .before .before .before .before .before .before .before .if1 .left)) in
     let f = fits (a .v .own) (a .v .length) (length (now (a .area))) g in
-    let n = ap (λ (k : ℕ). told (join (take k (drop (835 * a .v .own) (now (a .area)))) (now (a .t)) 835)) (len-is (c .before .before .before .before .before .before .before .before)) in
-    rw (g, told-refused (join (waitsAt (a .v) (now (a .area))) (now (a .t)) 835) _ _ _ (a .v .own) (a .w .designator) (sym (c .before .before .before .before .join-texts .ensures .0 ∙ n) ∙ c .before .enum-told .given .1))
+    let n = ap (λ (k : ℕ). told (join (take k (drop (longest * a .v .own) (now (a .area)))) (now (a .t)) longest)) (len-is (c .before .before .before .before .before .before .before .before)) in
+    rw (g, told-refused (join (waitsAt (a .v) (now (a .area))) (now (a .t)) longest) _ _ _ (a .v .own) (a .w .designator) (sym (c .before .before .before .before .join-texts .ensures .0 ∙ n) ∙ c .before .enum-told .given .1))
     (c .refused2 .ensures, refl)
 
 same-length-2 : tie.Need-same-length-2
@@ -115,8 +115,8 @@ returns-3 c = let a = c .before .before .before .before .before .before .before 
     let g : fitsAt (a .v .own) (a .v .length) (length (now (a .area))) ≡ true = rw (c .before .before .before .before .before .before .before .before .before .before .before .before .before .before .before .before .middle .ensures) at (sym (c .before .before .before .before .before .before .before .before .before .before .before .before .before .before .before .fits-at .ensures) ∙ not-false _ (c .before .before .before .before .before .before .before .before .before .before .before .before .before .before .if1 .left)) in
     let f = fits (a .v .own) (a .v .length) (length (now (a .area))) g in
     let j = text-of (c .before .before .before .before .before .before) in
-    let n = ap (λ (k : ℕ). join (take k (drop (835 * a .v .own) (now (a .area)))) (now (a .t)) 835) (len-is (c .before .before .before .before .before .before .before .before .before .before .before .before .before .before)) in
-    rw (g, sym n ∙ j .is, longest-is) (c .stored .ensures ∙ rw (j .long), c .before .before .before .put-at .ensures ∙ rw (j .found))
+    let n = ap (λ (k : ℕ). join (take k (drop (longest * a .v .own) (now (a .area)))) (now (a .t)) longest) (len-is (c .before .before .before .before .before .before .before .before .before .before .before .before .before .before)) in
+    rw (g, sym n ∙ j .is) (c .stored .ensures ∙ rw (j .long), c .before .before .before .put-at .ensures ∙ rw (j .found))
 
 pub join-onto-spec : {M : Type 1} → statement M
 join-onto-spec =

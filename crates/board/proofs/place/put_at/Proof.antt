@@ -6,6 +6,7 @@ use mathlib.Core.List.{[]}
 use Prim.Native.Nat.{_+_, _-_, _*_}
 use denote.Ref.{now}
 use Rattle.text.proofs.Over.{then-copy, over-none}
+use Rattle.command.specs.Text.{longest}
 
 mul-at : tie.Need-mul-at
 mul-at c = search needs
@@ -32,8 +33,8 @@ returns : tie.Need-returns
 returns c = let s = c .before .before .before .before .before .before in
     let a = s .args in
     let d = now (a .area) in
-    let at = 835 * a .i in
-    then-copy d d (c .before .before .copy .last .0) [] (now (a .t)) at at (at + 835) (over-none d at) (omega arith) (omega (arith, s .pre)) (s .pre .2) (c .before .before .copy .ensures)
+    let at = longest * a .i in
+    then-copy d d (c .before .before .copy .last .0) [] (now (a .t)) at at (at + longest) (over-none d at) (omega arith) (omega (arith, s .pre)) (s .pre .2) (c .before .before .copy .ensures)
 
 pub put-at-spec : {M : Type 1} → statement M
 put-at-spec =

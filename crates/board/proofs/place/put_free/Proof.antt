@@ -8,7 +8,6 @@ use lib.ListN.{length}
 use denote.Ref.{now}
 use Rattle.board.specs.Inner.{freeMove}
 use Rattle.board.proofs.Moves.{fits}
-use Rattle.command.proofs.Accepted.{longest-is}
 
 fits-at-requires : tie.Need-fits-at-requires
 fits-at-requires c κs = search needs
@@ -35,7 +34,7 @@ same-length c = search needs
 returns-2 : tie.Need-returns-2
 unfolding freeMove
 returns-2 c = let a = c .before .before .before .before .before .before .before .before .before .args in
-    rw (sym (c .before .before .before .before .before .before .fits-at .ensures) ∙ not-false _ (c .before .before .before .before .before .if1 .left), longest-is) (c .stored .ensures, c .before .before .before .put-at .ensures)
+    rw (sym (c .before .before .before .before .before .before .fits-at .ensures) ∙ not-false _ (c .before .before .before .before .before .if1 .left)) (c .stored .ensures, c .before .before .before .put-at .ensures)
 
 pub put-free-spec : {M : Type 1} → statement M
 put-free-spec =

@@ -3,8 +3,7 @@ use mathlib.Core.Path.{_≡_, sym, _∙_}
 use Prim.Native.Nat.{ℕ}
 use native.Mathlib.Omega.{arith}
 use borrow.Author.Tests.{lt-leb, le-leb}
-use Rattle.command.specs.Text.{checkCommand}
-use Rattle.command.proofs.Accepted.{longest-is}
+use Rattle.command.specs.Text.{longest, checkCommand}
 use Rattle.command.proofs.Head.{head-next}
 use borrow.Author.Needs.{needs}
 use Rattle.command.proofs.check.walk.Statement.{statement}
@@ -12,7 +11,7 @@ use Rattle.command.proofs.check.walk.Tie as tie
 
 returns : tie.Need-returns
 unfolding checkCommand
-returns c = (rw (longest-is, lt-leb _ 835 (c .if1 .taken)), λ fine. let z : _≡_ {A = ℕ} 0 1 = cc in absurd (omega arith))
+returns c = (rw (lt-leb _ longest (c .if1 .taken)), λ fine. let z : _≡_ {A = ℕ} 0 1 = cc in absurd (omega arith))
 
 check-head-requires : tie.Need-check-head-requires
 check-head-requires c κs = search needs
@@ -30,7 +29,7 @@ check-end-requires c κs =
 returns-2 : tie.Need-returns-2
 unfolding checkCommand
 returns-2 c = (
-  rw (longest-is, le-leb _ 835 (c .before .before .before .before .if1 .left), sym (c .before .before .before .check-head .ensures) ∙ c .before .code .given .1),
+  rw (le-leb _ longest (c .before .before .before .before .if1 .left), sym (c .before .before .before .check-head .ensures) ∙ c .before .code .given .1),
   λ fine. let z : _≡_ {A = ℕ} 0 1 = cc in absurd (omega arith),
 )
 
@@ -43,7 +42,7 @@ returns-3 c =
     let lent = c .before .before .before in
     let e = sym (lent .before .before .before .check-head .ensures) ∙ lent .before .enum-told .given .1 in
     let end = c .before .before .check-end .ensures in
-    (end .0 ∙ rw (longest-is, le-leb _ 835 (lent .before .before .before .before .if1 .left), e, head-next _ _ e .1), end .1)
+    (end .0 ∙ rw (le-leb _ longest (lent .before .before .before .before .if1 .left), e, head-next _ _ e .1), end .1)
 
 pub walk-spec : {M : Type 1} → statement M
 walk-spec =
