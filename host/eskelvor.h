@@ -13,6 +13,12 @@
  *
  * Of each call is said what is lent, and every code that it answers besides 0, in the order in which they are looked
  * for, with the place. Checks of a text go on from field to field, left to right; the first that fails is the answer.
+ *
+ * The two texts, the report and the command, are laid out below, each before its calls, field by field. Their bytes are
+ * ASCII, and no text ends with a NUL. Places count from 0.
+ *
+ * Every call is proved but the four of the last part, which say in words what a number means and of which version the
+ * library is.
  */
 #ifndef ESKELVOR_H
 #define ESKELVOR_H
@@ -22,8 +28,9 @@
 
 /* 3.0.0: a record has one form for a missing figure and an absent observation, and another is refused with 7;
  * esk_settings_valid answers 0 or 12 and esk_decide a place, as all other calls do; esk_command has no padding.
- * 3.1.0: esk_explain. */
-#define ESK_VERSION "3.1.0"
+ * 3.1.0: esk_explain.
+ * 3.2.0: esk_words, esk_reason_words, esk_version and esk_size_of; a shared library, libeskelvor.so.3. */
+#define ESK_VERSION "3.2.0"
 
 #ifdef __cplusplus
 extern "C" {
@@ -31,21 +38,34 @@ extern "C" {
 
 /* ---- the numbers that come back ------------------------------------------------------------------------------ */
 
+/*
+ * A field is what one code and one place speak of: a number, a byte by itself such as a flag, an airfield, an edge and
+ * its letter, or a fixed group (AWR04, AMDAR3, a CR LF, one delimiter). Within a field 8 is looked for first, then 3 or
+ * 4, then 6, then 5; 7 comes at the last field of those that disagree, after that field's own checks. A record that is
+ * to be written is checked as its text would be, with the place where the field would stand, and the room after that.
+ */
 enum {
     ESK_ACCEPTED = 0,  /* accepted; place 0 */
-    ESK_LENGTH = 1,    /* report not 220 bytes; command over 835 bytes; packed field not 1 to 5 bytes; place 0 */
-    ESK_ROOM = 2,      /* output buffer shorter than the text to be written; place 0 */
+    ESK_LENGTH = 1,    /* report not 220 bytes; command over 835 bytes; packed field not 1 to 5 bytes; place 0. Looked
+                          for before any byte is; a command that is too short is 8 */
+    ESK_ROOM = 2,      /* output buffer shorter than the text to be written; place 0. Looked for last */
     ESK_FIXED = 3,     /* a fixed byte is wrong (AWR04, AMDAR3, CR LF, a delimiter); place: the group's first byte */
-    ESK_BYTE = 4,      /* a byte not allowed in its field; place: the field's first byte */
-    ESK_RANGE = 5,     /* number outside its range; place: the field's first byte */
-    ESK_SPELLING = 6,  /* a number in a spelling other than its one spelling; place: the field's first byte */
-    ESK_DISAGREE = 7,  /* fields disagree; place: the first byte of the last field of the group */
+    ESK_BYTE = 4,      /* a byte not allowed in its field: another letter, a digit that is no flag, a non-digit in a
+                          number, a small letter in a name; place: the field's first byte, and 0 for a designator or
+                          an airfield that is handed over by itself */
+    ESK_RANGE = 5,     /* number outside its range; place: the field's first byte, and 0 for what esk_decide and
+                          esk_explain are asked */
+    ESK_SPELLING = 6,  /* a number in a spelling other than its one spelling: a packed figure in more digits than it
+                          needs, zero degrees spelt south or west; place: the field's first byte */
+    ESK_DISAGREE = 7,  /* fields disagree: wind direction without speed, a present observation behind an absent one, a
+                          box's north below its south; or a record's member is not of its one form; place: the first
+                          byte of the last field of the group */
     ESK_END = 8,       /* command ends inside a field: place, the field's first byte; or has bytes after its last
-                          delimiter: place, the first of them */
-    ESK_NO_SLOT = 9,   /* nothing waits for that aircraft and no slot is free; place 0 */
-    ESK_BOARD = 10,    /* board not valid; place 0 */
-    ESK_NOTHING = 11,  /* nothing waits for that aircraft; place 0 */
-    ESK_SETTINGS = 12  /* configuration not valid; place 0 */
+                          delimiter: place, the first of them. Never for a report, whose length is fixed */
+    ESK_NO_SLOT = 9,   /* adding: nothing waits for that aircraft and no slot is free; place 0. It is not accepted */
+    ESK_BOARD = 10,    /* board not valid; place 0. The first thing that every call on a board looks for */
+    ESK_NOTHING = 11,  /* taking: nothing waits for that aircraft; place 0 */
+    ESK_SETTINGS = 12  /* configuration not valid; place 0. The first thing that every call on one looks for */
 };
 
 /* The answer of a call that checks or writes. 16 bytes, no padding. */
@@ -65,6 +85,26 @@ typedef struct esk_figure {
 } esk_figure;
 
 /* ---- packed figures ------------------------------------------------------------------------------------------ */
+
+/*
+ * A packed figure is a whole number in base 40, less an offset, so that it needs no sign. The digits and their worths:
+ *
+ *   '0' to '9'  0 to 9        ':'  36        '-'  38
+ *   'A' to 'Z'  10 to 35      ','  37        '.'  39
+ *
+ * No other byte is a digit; small letters, space and solidus are none. k digits, the most significant first, stand for
+ * their base-40 number less 20*40^(k-1):
+ *
+ *   1 digit           -20 to 19
+ *   2 digits         -800 to 799
+ *   3 digits       -32000 to 31999
+ *   4 digits     -1280000 to 1279999
+ *   5 digits    -51200000 to 51199999
+ *
+ * A figure has one spelling: the fewest digits that hold it, at the end of its field, with spaces before them. In a
+ * field of three bytes zero is "  K", 420 is " UK", -2245 is "INZ". A field of solidi alone, "///", is a missing
+ * figure, which is no zero.
+ */
 
 /* The answer of esk_packed_read. 8 bytes, no padding. */
 typedef struct esk_packed {
@@ -95,6 +135,42 @@ esk_answer esk_packed_write(esk_figure figure, size_t width, uint8_t *out, size_
 
 /* ---- the observation report, 220 bytes ------------------------------------------------------------------------ */
 
+/*
+ *   place    bytes
+ *   0        4       airfield of departure, 'A' to 'Z' or '0' to '9'
+ *   4        4       airfield of arrival
+ *   8        2       CR LF
+ *   10       6       AMDAR3
+ *   16       6       designator of the aircraft, 'A' to 'Z' or '0' to '9'
+ *   22       2       CR LF
+ *   24       27      first observation
+ *   51       23      second, and CR LF at 74
+ *   76, 99   23      third and fourth, and CR LF at 122
+ *   124, 147 23      fifth and sixth, and CR LF at 170
+ *   172, 195 23      seventh and eighth, and CR LF at 218
+ *
+ * An observation is one byte of kind, nine packed figures and one byte of quality. Its bytes, in the first one and in a
+ * later one:
+ *
+ *   first  later
+ *   1      1    kind: 'A' ascent, 'D' descent, 'R' level flight, 'W' highest wind, 'U' unstable, 'E' error in the
+ *               observation before; of a later one also '/', absent
+ *   3           latitude, minutes, north positive, -5400 to 5400
+ *          2    change of latitude since the observation before, minutes, -800 to 799
+ *   3           longitude, minutes, east positive, -10800 to 10800
+ *          2    change of longitude, minutes, -800 to 799
+ *   5           seconds into the month, 0 to 2678399
+ *          3    seconds since the observation before, 0 to 31999
+ *   3      3    altitude, tens of feet, -100 to 6000
+ *   2      2    temperature, tenths of a degree Celsius, -800 to 799
+ *   2      2    wind direction, degrees that it blows from, 0 to 360
+ *   2      2    wind speed, knots, 0 to 799; given or missing together with the direction
+ *   2      2    gust, tenths of a metre a second, 0 to 799
+ *   3      3    water vapour, thousandths of a gram a kilogram, 0 to 31999
+ *   1      1    quality of the water vapour: '0' to '9', or '/' for none
+ *
+ * Any figure may be missing, also in a present observation. An absent one is 23 solidi, and none behind it is present.
+ */
 #define ESK_REPORT_BYTES 220
 
 /* One observation. 76 bytes, no padding. In the first one latitude, longitude and time are absolute; in a later one
@@ -165,6 +241,49 @@ esk_answer esk_report_write(esk_report report, uint8_t *out, size_t room);
 
 /* ---- the uplink command, 22 to 835 bytes ----------------------------------------------------------------------- */
 
+/*
+ *   place    bytes
+ *   0        5       AWR04
+ *   5        7       flags, a digit each: AMDAR, inhibit hours, regions, airports, ascent, enroute, descent; '0' off,
+ *                    '1' on, '9' no change
+ *   12       1       downlink: what the aircraft is to send down; '0' nothing, '1' the flags, '2' all it holds
+ *   13       8       indicators E2 to E9, a digit each: '0', or the section's own number where the section follows; E7
+ *                    is always '0'
+ *   21       1       '/'
+ *   22               the sections that are named, in rising order, each with a '/' at its end
+ *
+ * Numbers are decimal digits, as many as the width says, with zeros in front.
+ *
+ *   section 2, regions: 5 to 453 bytes
+ *     2    count of reporting boxes, 00 to 16, and so many boxes of 14 bytes
+ *     2    count of inhibiting boxes, 00 to 16, and so many boxes
+ *     A box is four edges: north, south (two digits, 00 to 90, and 'N' or 'S'), west, east (three digits, 000 to 180,
+ *     and 'E' or 'W'). North is not below south, and west not above east: no box goes over 180 degrees. Zero is spelt
+ *     00N and 000E alone.
+ *   section 3, airports: 10 to 330 bytes
+ *     2    four times a count, 00 to 20, and so many airfields of 4 bytes, 'A' to 'Z' or '0' to '9': selected for
+ *          ascent, selected for descent, inhibited for ascent, inhibited for descent
+ *     1    routine reports where there is no scheme, 0 or 1
+ *   section 4, level flight: 4 bytes
+ *     2    interval, minutes, 01 to 60
+ *     1    reports of the maximum wind, 0 or 1
+ *   section 5, the ascent scheme: 17 bytes
+ *     1    mode: '0' by pressure level, '1' by time
+ *     2    interval of series 1, seconds, 03 to 20
+ *     3    duration of series 1, seconds, 030 to 600
+ *     2    interval of series 2, seconds, 03 to 60
+ *     3    total duration, tens of seconds, 051 to 111
+ *     3    top of the ascent, hundreds of feet, 150 to 350
+ *     1    list of pressure levels, '1' or '2'
+ *     1    timer for level stretches: '0' off, '1' on
+ *   section 6, ascent, and section 8, descent: 2 bytes each
+ *     1    routine reports where there is no scheme, 0 or 1; looked at while the airports flag is 0
+ *   section 9, the hours of silence: 5 bytes
+ *     2    start hour, 00 to 23
+ *     2    end hour, 00 to 23, no longer silent; equal hours are none, and an end before the start is on the next day
+ *
+ * The lengths count the '/'. With every section and all lists full that is 22 + 453 + 330 + 4 + 17 + 2 + 2 + 5 = 835.
+ */
 #define ESK_COMMAND_BYTES 835 /* of the longest command */
 
 /* All values are numbers, not the bytes that spell them; letters and airfields are ASCII. */
@@ -407,6 +526,13 @@ esk_answer esk_join(const uint8_t *first, size_t first_length, const uint8_t *se
 
 /* ---- the waiting board ------------------------------------------------------------------------------------------ */
 
+/*
+ * The board holds the commands that wait for aircraft out of coverage, one text for each: what is added is joined onto
+ * what waits, so that nothing is ever dropped. Its memory is the caller's: n slots, at most 64, and an area with 835
+ * bytes for each. A board begins with all bytes 0, which is n free slots; from then on esk_board_add and esk_board_take
+ * alone change it. Slot i's text stands in the area from byte 835 * i on. To see what waits for an aircraft, and leave
+ * it there, read the slot whose length is not 0 and whose designator is the aircraft's.
+ */
 #define ESK_BOARD_SLOTS 64 /* the most */
 
 /* A slot. 8 bytes, no padding. Its text is the first `length` bytes of its 835 in the area. */
@@ -445,6 +571,29 @@ esk_answer esk_board_add(esk_slot *slots, size_t n, uint8_t *area, size_t area_l
  */
 esk_answer esk_board_take(esk_slot *slots, size_t n, const uint8_t *area, size_t area_length,
                           const uint8_t *designator, size_t designator_length, uint8_t *out, size_t room);
+
+/* ---- what the library says of itself ---------------------------------------------------------------------------- */
+
+/*
+ * These four are not proved: they are tables of words and numbers (host/words.c), and no verdict hangs on them. What
+ * they answer stays for as long as the library is loaded, and is not to be written to.
+ */
+
+/* What a code means, in English, without a full stop: "a number outside its range". Any code at all has words; one that
+ * no call answers has "an unknown code". Never NULL. */
+const char *esk_words(unsigned code);
+
+/* What a reason of esk_explain means: "the hour is in the hours of silence". 0, the reason of a refusal, has words too;
+ * one that is never answered has "an unknown reason". Never NULL. */
+const char *esk_reason_words(unsigned reason);
+
+/* The ESK_VERSION that the library was built with. A program that loads it while it runs holds it against its own: the
+ * first numbers must be equal, and the library's second not below the program's. */
+const char *esk_version(void);
+
+/* The bytes of a record as the library has it, by name, "esk_report" or "esk_slot"; 0 where the name is NULL or none of
+ * this header's. A caller in another language holds its own layout against it before the first call. */
+size_t esk_size_of(const char *record);
 
 #ifdef __cplusplus
 }

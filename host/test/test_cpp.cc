@@ -1,0 +1,114 @@
+// The header for a program in C++17: calls of every kind, records by value and by pointer, lent bytes, words. It needs no
+// C++ runtime library, so that it is built wherever host/tool runs.
+#define CHECK_MOST 1024
+#include "check.h"
+#include "reports.h"
+
+#include <array>
+#include <string_view>
+#include <type_traits>
+
+using namespace std::string_view_literals;
+
+static_assert(std::is_trivially_copyable<esk_report>::value && std::is_standard_layout<esk_report>::value,
+              "a record is plain memory");
+static_assert(sizeof(esk_settings) == 606 && sizeof(esk_command) == 616 && sizeof(esk_slot) == 8, "as in C");
+
+static const uint8_t *at(std::string_view text) { return reinterpret_cast<const uint8_t *>(text.data()); }
+
+template <size_t N> static std::string_view text_in(const std::array<uint8_t, N> &bytes, size_t length)
+{
+    return {reinterpret_cast<const char *>(bytes.data()), length};
+}
+
+static constexpr auto first = "AWR041999999000400000/151/"sv, second = "AWR049199999100400009/300/2301/"sv,
+                      both = "AWR041199999100400009/300/2301/"sv;
+
+static void packed()
+{
+    const esk_packed got = esk_packed_read(at("INZ"sv), 3);
+    HOLD(got.code == ESK_ACCEPTED && got.given == 1 && got.number == -2245);
+    HOLD(esk_packed_read(at("K5"sv), 2).code == ESK_SPELLING);
+    HOLD(esk_packed_read(nullptr, 0).code == ESK_LENGTH);
+    lent out;
+    const esk_figure missing{};
+    HOLD(is_answer(esk_packed_write(missing, 3, lend(&out, nullptr, 3, 0), 3), 0, 0, 3));
+    HOLD(is_written(&out, "///", 3));
+}
+
+// A record of 624 bytes by value, there and back, and one that is refused.
+static void reports()
+{
+    const std::string_view text{full, ESK_REPORT_BYTES};
+    esk_report_got got = esk_report_read(at(text), text.size());
+    HOLD(got.answer.code == ESK_ACCEPTED && got.report.first.latitude.number == -2245);
+    HOLD(got.report.later[0].present == 1 && got.report.later[0].altitude.given == 0);
+    lent out;
+    HOLD(is_answer(esk_report_write(got.report, lend(&out, nullptr, 221, 0), 221), 0, 0, ESK_REPORT_BYTES));
+    HOLD(is_written(&out, text.data(), text.size()));
+    got.report.first.wind_speed = esk_figure{};
+    HOLD(is_answer(esk_report_write(got.report, lend(&out, nullptr, 221, 0), 221), ESK_DISAGREE, 43, 0));
+    HOLD(is_written(&out, "", 0));
+    got = esk_report_read(at(text), text.size() - 1);
+    HOLD(got.answer.code == ESK_LENGTH && got.report.first.kind == 0);
+}
+
+static void commands()
+{
+    std::array<uint8_t, ESK_COMMAND_BYTES> out{};
+    esk_answer a = esk_join(at(first), first.size(), at(second), second.size(), out.data(), out.size());
+    HOLD(a.code == ESK_ACCEPTED && text_in(out, a.length) == both);
+    a = esk_join(at(first), first.size(), at("AWR05"sv), 5, out.data(), out.size());
+    HOLD(a.code == ESK_FIXED && a.text == 2 && a.place == 0 && a.length == 0);
+    const esk_command_got got = esk_command_read(at(both), both.size());
+    HOLD(got.answer.code == ESK_ACCEPTED && got.command.settings.hours.start == 23 && got.command.named[7] == 9);
+    a = esk_command_write(&got.command, out.data(), out.size());
+    HOLD(a.code == ESK_ACCEPTED && text_in(out, a.length) == both);
+}
+
+static void configuration()
+{
+    esk_settings held = esk_reset();
+    HOLD(esk_settings_valid(&held).code == ESK_ACCEPTED);
+    const esk_applied done = esk_apply(&held, at(both), both.size());
+    HOLD(done.code == ESK_ACCEPTED && done.downlink == 1 && held.enroute.interval == 30);
+    HOLD(esk_decide(&held, ESK_LEVEL, 0, 0, 1, at("ABCD"sv), 4).decision == ESK_ROUTINE);
+    const esk_explained why = esk_explain(&held, ESK_LEVEL, 0, 0, 23, at("ABCD"sv), 4);
+    HOLD(why.decision == ESK_SILENT && why.reason == ESK_WHY_HOURS);
+    HOLD(esk_reason_words(why.reason) == "the hour is in the hours of silence"sv);
+}
+
+// A board that begins with all bytes 0.
+static void board()
+{
+    std::array<esk_slot, 2> slots{};
+    std::array<uint8_t, 2 * ESK_COMMAND_BYTES> area{};
+    std::array<uint8_t, ESK_COMMAND_BYTES> out{};
+    const auto add = [&](std::string_view aircraft, std::string_view text) {
+        return esk_board_add(slots.data(), slots.size(), area.data(), area.size(), at(aircraft), aircraft.size(),
+                             at(text), text.size());
+    };
+    const auto take = [&](std::string_view aircraft) {
+        return esk_board_take(slots.data(), slots.size(), area.data(), area.size(), at(aircraft), aircraft.size(),
+                              out.data(), out.size());
+    };
+    HOLD(esk_board_check(slots.data(), slots.size(), area.data(), area.size()).code == ESK_ACCEPTED);
+    HOLD(add("XY0001"sv, first).length == first.size() && add("XY0001"sv, second).length == both.size());
+    HOLD(add("XY0002"sv, first).code == ESK_ACCEPTED && add("XY0003"sv, first).code == ESK_NO_SLOT);
+    const esk_answer a = take("XY0001"sv);
+    HOLD(a.code == ESK_ACCEPTED && text_in(out, a.length) == both && take("XY0001"sv).code == ESK_NOTHING);
+    slots[1].length = 1;
+    HOLD(take("XY0002"sv).code == ESK_BOARD && esk_words(ESK_BOARD) == "the board is not valid"sv);
+}
+
+int main()
+{
+    packed();
+    reports();
+    commands();
+    configuration();
+    board();
+    HOLD(esk_version() == std::string_view{ESK_VERSION});
+    printf("test_cpp: %lu checks passed\n", checks);
+    return 0;
+}
