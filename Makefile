@@ -1,6 +1,8 @@
-# make            the proved archive, target/staticlib/libdesk.a, and the desk program over it
+# make            the proved archive, target/staticlib/libdesk.a, and the desk program over it; both libraries and the
+#                 program for this machine, in target/native
 # make demo       a busy night on the waiting board, and one report shown figure by figure
-# make install    the header, the library, the desk program and its manual page, under PREFIX; DESTDIR goes before it
+# make install    the header, both libraries, the desk program and its manual page, under PREFIX; DESTDIR goes before
+#                 it
 # make uninstall  takes away what install put there
 # make test       the gate: every test, the comparison and every proof
 # make test-desk  the desk program's tests alone
@@ -20,16 +22,22 @@ archive := target/staticlib/libdesk.a
 program := target/host/eskelvor
 version := $(shell sed -n 's/^.define ESK_VERSION "\(.*\)"/\1/p' host/eskelvor.h)
 
+major := $(firstword $(subst ., ,$(version)))
+
 # The archive for this machine's own processor: the proved one, or one made of the same LLVM module.
 x86_64 := $(filter x86_64,$(shell uname -m))
 native := $(if $(x86_64),$(archive),target/native/libdesk.a)
 
+# What is installed, for this machine. host/native makes the shared library first, so that this one stands for both.
+library := target/native/libeskelvor.a
+native_program := target/native/eskelvor
+
 # Those that make the proved calls for the comparison, one for each group of calls that it compares.
 programs := answer answer_command answer_config answer_decide answer_join answer_board
 
-.PHONY: all demo install uninstall test test-desk compare bench growth fuzz replay coverage clean
+.PHONY: all demo possible install uninstall test test-desk compare bench growth fuzz replay coverage clean
 
-all: $(archive) $(program)
+all: $(archive) $(program) $(native_program)
 
 $(archive): crates.txt $(shell find crates -type f)
 	@echo 'The archive is proved and built; the first time this takes some eight minutes.'
@@ -38,7 +46,13 @@ $(archive): crates.txt $(shell find crates -type f)
 target/native/libdesk.a: $(archive) host/native
 	host/native build
 
-$(program): $(archive) host/tool host/eskelvor.h $(wildcard host/desk/*.[ch])
+$(library): $(archive) host/native host/words.c host/eskelvor.h host/exports.map
+	host/native library
+
+$(native_program): $(library) $(wildcard host/desk/*.[ch])
+	@host/native program eskelvor host/desk/*.c
+
+$(program): $(archive) host/tool host/words.c host/eskelvor.h $(wildcard host/desk/*.[ch])
 	@host/tool build eskelvor host/desk/*.c
 
 demo: $(program)
@@ -47,25 +61,29 @@ demo: $(program)
 	@host/tool run eskelvor report examples/one.report
 
 # ---- installation ------------------------------------------------------------------------------------------------
-# On a machine that is not x86-64, bin/eskelvor is a script that runs the program with the kit's emulator.
+# All of it is for this machine, x86-64 or 64-bit Arm: on another kind nothing is put in place.
 
 at := $(DESTDIR)$(PREFIX)
-program_at := $(if $(x86_64),bin/eskelvor,libexec/eskelvor/eskelvor)
-installed := include/eskelvor.h lib/libeskelvor.a lib/pkgconfig/eskelvor.pc share/man/man1/eskelvor.1 bin/eskelvor \
-	$(filter-out bin/eskelvor,$(program_at))
+installed := include/eskelvor.h lib/libeskelvor.a lib/libeskelvor.so.$(version) lib/libeskelvor.so.$(major) \
+	lib/libeskelvor.so lib/pkgconfig/eskelvor.pc share/man/man1/eskelvor.1 bin/eskelvor
 
-install: all
+possible:
+	@host/native possible
+
+install: possible $(native_program)
+	@host/native ready
 	install -D -m 644 host/eskelvor.h '$(at)/include/eskelvor.h'
-	install -D -m 644 $(archive) '$(at)/lib/libeskelvor.a'
+	install -D -m 644 $(library) '$(at)/lib/libeskelvor.a'
+	install -D -m 755 target/native/libeskelvor.so.$(version) '$(at)/lib/libeskelvor.so.$(version)'
+	ln -sf libeskelvor.so.$(version) '$(at)/lib/libeskelvor.so.$(major)'
+	ln -sf libeskelvor.so.$(major) '$(at)/lib/libeskelvor.so'
 	install -D -m 644 host/desk/eskelvor.1 '$(at)/share/man/man1/eskelvor.1'
 	install -D -m 644 host/eskelvor.pc.in '$(at)/lib/pkgconfig/eskelvor.pc'
 	sed -i -e 's|@PREFIX@|$(PREFIX)|' -e 's|@VERSION@|$(version)|' '$(at)/lib/pkgconfig/eskelvor.pc'
-	install -D -m 755 $(program) '$(at)/$(program_at)'
-	$(if $(x86_64),,install -D -m 755 host/desk/launch '$(at)/bin/eskelvor')
+	install -D -m 755 $(native_program) '$(at)/bin/eskelvor'
 
 uninstall:
 	for file in $(installed); do rm -f '$(at)/'"$$file"; done
-	$(if $(x86_64),,-rmdir '$(at)/libexec/eskelvor')
 
 # ---- tests and measurements --------------------------------------------------------------------------------------
 

@@ -1,5 +1,5 @@
 #!/bin/sh
-# make install into a folder, a program against what was installed, the installed desk program, make uninstall.
+# make install into a folder, programs against what was installed, the installed desk program, make uninstall.
 . "$(dirname "$0")/cases.sh"
 why='make install' words=''
 : >"$scratch/out" >"$scratch/err"
@@ -12,13 +12,23 @@ make_quietly() {
 }
 
 make_quietly install
-for file in include/eskelvor.h lib/libeskelvor.a lib/pkgconfig/eskelvor.pc bin/eskelvor share/man/man1/eskelvor.1; do
+headers=$(sed -n 's/^#define ESK_VERSION "\(.*\)"/\1/p' "$root/host/eskelvor.h")
+major=${headers%%.*}
+for file in include/eskelvor.h lib/libeskelvor.a "lib/libeskelvor.so.$headers" "lib/libeskelvor.so.$major" \
+    lib/libeskelvor.so lib/pkgconfig/eskelvor.pc bin/eskelvor share/man/man1/eskelvor.1; do
     [ -s "$at/$file" ] || fail "$file is not there"
     cases=$((cases + 1))
 done
-grep -q "^.TH ESKELVOR 1 .*eskelvor $(sed -n 's/^#define ESK_VERSION "\(.*\)"/\1/p' "$root/host/eskelvor.h")" \
-    "$at/share/man/man1/eskelvor.1" || fail 'the manual page is of another version'
-cmp -s "$at/lib/libeskelvor.a" "$root/target/staticlib/libdesk.a" || fail 'the library is another archive'
+grep -q "^.TH ESKELVOR 1 .*eskelvor $headers" "$at/share/man/man1/eskelvor.1" ||
+    fail 'the manual page is of another version'
+
+# The proved code of the installed library is that of the archive for this machine, which on x86-64 is the proved one.
+archive=$root/target/native/libdesk.a
+if [ "$(uname -m)" = x86_64 ]; then archive=$root/target/staticlib/libdesk.a; fi
+ar p "$at/lib/libeskelvor.a" "$(ar t "$archive")" >"$scratch/ours"
+ar p "$archive" >"$scratch/theirs"
+cmp -s "$scratch/ours" "$scratch/theirs" || fail 'the library is of another archive'
+cases=$((cases + 1))
 
 cat >"$scratch/small.c" <<'END'
 #include <eskelvor.h>
@@ -26,7 +36,7 @@ cat >"$scratch/small.c" <<'END'
 int main(void)
 {
     esk_packed p = esk_packed_read((const uint8_t *)"INZ", 3);
-    printf("%d %d %s\n", p.code, (int)p.number, ESK_VERSION);
+    printf("%d %d %s %s %s\n", p.code, (int)p.number, ESK_VERSION, esk_version(), esk_words(11));
     return 0;
 }
 END
@@ -44,24 +54,20 @@ if command -v pkg-config >/dev/null; then
 else
     echo 'install: pkg-config is not here; its file was read instead'
 fi
-[ "$version" = "$(sed -n 's/^#define ESK_VERSION "\(.*\)"/\1/p' "$root/host/eskelvor.h")" ] || fail "version $version"
-if [ "$(uname -m)" = x86_64 ]; then
-    # shellcheck disable=SC2086
-    "${CC:-cc}" -std=c99 -Wall -Wextra -pedantic -Werror -o "$scratch/small" "$scratch/small.c" $flags ||
-        fail 'cc failed'
-    small=$("$scratch/small")
-else
-    # Another processor: the installed header and library, by the kit's compiler.
-    case $flags in *-I$at/include*-L$at/lib*) ;; *) fail "the flags are $flags" ;; esac
-    mkdir -p "$scratch/kit/host" "$scratch/kit/target/staticlib"
-    cp "$root/host/tool" "$scratch/kit/host/"
-    cp "$at/include/eskelvor.h" "$scratch/kit/host/"
-    cp "$at/lib/libeskelvor.a" "$scratch/kit/target/staticlib/libdesk.a"
-    "$scratch/kit/host/tool" build small "$scratch/small.c" || fail 'the kit failed'
-    small=$("$scratch/kit/host/tool" run small)
-fi
-[ "$small" = "0 -2245 $version" ] || fail "a program over the library says: $small"
-cases=$((cases + 1))
+[ "$version" = "$headers" ] || fail "version $version"
+
+# By the machine's own compiler, with the shared library and with the static one.
+says() {
+    [ "$1" = "0 -2245 $version $version nothing waits for that aircraft" ] || fail "a program over the library says: $1"
+    cases=$((cases + 1))
+}
+compile() { "${CC:-cc}" -std=c99 -Wall -Wextra -pedantic -Werror -o "$scratch/small" "$scratch/small.c" "$@" || fail 'cc'; }
+# shellcheck disable=SC2086
+compile $flags
+says "$(LD_LIBRARY_PATH=$at/lib "$scratch/small")"
+if "$scratch/small" >/dev/null 2>&1; then fail 'with the flags it is not the shared library that is linked'; fi
+compile -I"$at/include" "$at/lib/libeskelvor.a"
+says "$("$scratch/small")"
 
 why='the installed program' words='join'
 joined=$("$at/bin/eskelvor" join AWR041999999000400000/151/ AWR049199999100400009/300/2301/) || fail 'it failed'
@@ -71,14 +77,16 @@ ln -s "$at/bin/eskelvor" "$scratch/eskelvor"
 got=0
 "$at/bin/eskelvor" check AWR04 2>"$scratch/err" || got=$?
 [ $got = 1 ] || fail "status $got, not 1"
-cases=$((cases + 3))
+# It is this machine's own: nothing of the kit is looked for.
+[ "$(env -i PATH=/nowhere "$at/bin/eskelvor" --version)" = "eskelvor $version" ] || fail 'it needs more than itself'
+cases=$((cases + 4))
 
 why='make uninstall' words=''
 touch "$at/lib/another"
 make_quietly uninstall
 left=$(cd "$at" && find . ! -type d)
 [ "$left" = ./lib/another ] || fail "left: $left"
-[ ! -d "$at/libexec/eskelvor" ] || fail 'a folder of ours is left'
+[ ! -d "$at/share/eskelvor" ] || fail 'a folder of ours is left'
 cases=$((cases + 1))
 
 done_with 'installed, used, taken away'
