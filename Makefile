@@ -1,11 +1,13 @@
 # make            the proved archive, target/staticlib/libdesk.a, and the desk program over it; both libraries and the
 #                 program for this machine, in target/native
 # make demo       a busy night on the waiting board, and one report shown figure by figure
-# make install    the header, both libraries, the desk program and its manual page, under PREFIX; DESTDIR goes before
-#                 it
+# make install    the header, both libraries, the Python module, the desk program and its manual page, under PREFIX;
+#                 DESTDIR goes before it
 # make uninstall  takes away what install put there
 # make test       the gate: every test, the comparison and every proof
 # make test-desk  the desk program's tests alone
+# make test-library
+#                 those of the libraries for this machine, and of the Python module
 # make compare    the archive and the second program on the same inputs; ARGS='--seed 2 --long' and the like
 # make bench      ns per call, ours and the second program's; ROWS=word for the rows whose name has the word
 # make growth     docs/growth.svg: how the cost grows with a text's length and a board's used slots
@@ -35,7 +37,7 @@ native_program := target/native/eskelvor
 # Those that make the proved calls for the comparison, one for each group of calls that it compares.
 programs := answer answer_command answer_config answer_decide answer_join answer_board
 
-.PHONY: all demo possible install uninstall test test-desk compare bench growth fuzz replay coverage clean
+.PHONY: all demo possible install uninstall test test-desk test-library compare bench growth fuzz replay coverage clean
 
 all: $(archive) $(program) $(native_program)
 
@@ -61,11 +63,15 @@ demo: $(program)
 	@host/tool run eskelvor report examples/one.report
 
 # ---- installation ------------------------------------------------------------------------------------------------
-# All of it is for this machine, x86-64 or 64-bit Arm: on another kind nothing is put in place.
+# All of it is for this machine, x86-64 or 64-bit Arm: on another kind nothing is put in place. The Python module finds the
+# library by the link beside it, under any PREFIX.
 
 at := $(DESTDIR)$(PREFIX)
+python_at := share/eskelvor/python/eskelvor
+python_files := $(notdir $(wildcard python/eskelvor/*.py) python/eskelvor/py.typed)
 installed := include/eskelvor.h lib/libeskelvor.a lib/libeskelvor.so.$(version) lib/libeskelvor.so.$(major) \
-	lib/libeskelvor.so lib/pkgconfig/eskelvor.pc share/man/man1/eskelvor.1 bin/eskelvor
+	lib/libeskelvor.so lib/pkgconfig/eskelvor.pc share/man/man1/eskelvor.1 bin/eskelvor \
+	$(addprefix $(python_at)/,$(python_files) libeskelvor.so.$(major))
 
 possible:
 	@host/native possible
@@ -81,9 +87,13 @@ install: possible $(native_program)
 	install -D -m 644 host/eskelvor.pc.in '$(at)/lib/pkgconfig/eskelvor.pc'
 	sed -i -e 's|@PREFIX@|$(PREFIX)|' -e 's|@VERSION@|$(version)|' '$(at)/lib/pkgconfig/eskelvor.pc'
 	install -D -m 755 $(native_program) '$(at)/bin/eskelvor'
+	for file in $(python_files); do install -D -m 644 "python/eskelvor/$$file" '$(at)/$(python_at)/'"$$file" || exit 1; done
+	ln -sf ../../../../lib/libeskelvor.so.$(major) '$(at)/$(python_at)/libeskelvor.so.$(major)'
 
 uninstall:
 	for file in $(installed); do rm -f '$(at)/'"$$file"; done
+	rm -rf '$(at)/$(python_at)/__pycache__'
+	-rmdir '$(at)/$(python_at)' '$(at)/share/eskelvor/python' '$(at)/share/eskelvor'
 
 # ---- tests and measurements --------------------------------------------------------------------------------------
 
@@ -92,6 +102,10 @@ test:
 
 test-desk: $(program)
 	host/test/desk/run
+
+test-library: $(native_program)
+	host/test/library/run
+	python/tests/run
 
 compare: $(archive)
 	@for program in $(programs); do host/tool build $$program host/test/$$program.c || exit 1; done

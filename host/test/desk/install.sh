@@ -15,7 +15,8 @@ make_quietly install
 headers=$(sed -n 's/^#define ESK_VERSION "\(.*\)"/\1/p' "$root/host/eskelvor.h")
 major=${headers%%.*}
 for file in include/eskelvor.h lib/libeskelvor.a "lib/libeskelvor.so.$headers" "lib/libeskelvor.so.$major" \
-    lib/libeskelvor.so lib/pkgconfig/eskelvor.pc bin/eskelvor share/man/man1/eskelvor.1; do
+    lib/libeskelvor.so lib/pkgconfig/eskelvor.pc bin/eskelvor share/man/man1/eskelvor.1 \
+    share/eskelvor/python/eskelvor/__init__.py; do
     [ -s "$at/$file" ] || fail "$file is not there"
     cases=$((cases + 1))
 done
@@ -68,6 +69,13 @@ says "$(LD_LIBRARY_PATH=$at/lib "$scratch/small")"
 if "$scratch/small" >/dev/null 2>&1; then fail 'with the flags it is not the shared library that is linked'; fi
 compile -I"$at/include" "$at/lib/libeskelvor.a"
 says "$("$scratch/small")"
+
+# The Python module finds the library under any prefix, and has every file that it imports.
+in_python() { env -i PATH="$PATH" HOME="$HOME" PYTHONPATH="$at/share/eskelvor/python" python3 -c "$1"; }
+python_says=$(in_python 'import eskelvor; print(eskelvor.library_version, eskelvor.read_packed("INZ"), eskelvor.__file__)') ||
+    fail 'the Python module cannot be imported'
+[ "$python_says" = "$version -2245 $at/share/eskelvor/python/eskelvor/__init__.py" ] || fail "Python says: $python_says"
+cases=$((cases + 1))
 
 why='the installed program' words='join'
 joined=$("$at/bin/eskelvor" join AWR041999999000400000/151/ AWR049199999100400009/300/2301/) || fail 'it failed'

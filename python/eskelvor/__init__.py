@@ -1,0 +1,109 @@
+"""Eskelvor for Python: the proved calls of a weather desk, over ``libeskelvor.so.3``.
+
+    >>> import eskelvor
+    >>> eskelvor.join("AWR041999999000400000/151/", "AWR049199999100400009/300/2301/")
+    b'AWR041199999100400009/300/2301/'
+
+Reports: ``reports``, ``read_report``, ``write_report``, ``check_report``. Commands: ``read_command``, ``write_command``,
+``check_command``, ``command_fields``, ``join``. An aircraft's configuration: ``Configuration``, with ``apply``, ``decide``
+and ``explain``. What waits for aircraft out of coverage: ``Board``. One figure: ``read_packed``, ``write_packed``.
+
+Every verdict is one call's of the library. A refusal is raised as a ``Refusal``, with code, place and words; nothing that was
+lent has then changed. The library is the file that ``ESKELVOR_LIBRARY`` names, else the one beside this module, else the one
+that the system's loader finds; ``LibraryError`` says where it cannot be used.
+"""
+
+from ._library import BOARD_SLOTS, COMMAND_BYTES, REPORT_BYTES, LibraryError, library_version
+from ._board import Board, Waiting
+from ._commands import (
+    NO_CHANGE,
+    Airports,
+    AscentScheme,
+    Box,
+    Command,
+    Field,
+    Flags,
+    Hours,
+    LevelFlight,
+    Regions,
+    check_command,
+    command_fields,
+    join,
+    read_command,
+    write_command,
+)
+from ._configuration import Configuration, Decision, Explanation, Phase, Reason, Settings, minutes
+from ._packed import read_packed, write_packed
+from ._refusals import (
+    BoardNotValid,
+    ByteNotAllowed,
+    ConfigurationNotValid,
+    FieldsDisagree,
+    NoFreeSlot,
+    NoRoom,
+    NothingWaits,
+    OutOfRange,
+    Refusal,
+    WrongEnd,
+    WrongFixedByte,
+    WrongLength,
+    WrongSpelling,
+    words_of,
+)
+from ._reports import KINDS, Fix, Observation, Report, check_report, read_report, reports, write_report
+
+__all__ = [
+    "Airports",
+    "AscentScheme",
+    "BOARD_SLOTS",
+    "Board",
+    "BoardNotValid",
+    "Box",
+    "ByteNotAllowed",
+    "COMMAND_BYTES",
+    "Command",
+    "Configuration",
+    "ConfigurationNotValid",
+    "Decision",
+    "Explanation",
+    "Field",
+    "FieldsDisagree",
+    "Fix",
+    "Flags",
+    "Hours",
+    "KINDS",
+    "LevelFlight",
+    "LibraryError",
+    "NO_CHANGE",
+    "NoFreeSlot",
+    "NoRoom",
+    "NothingWaits",
+    "Observation",
+    "OutOfRange",
+    "Phase",
+    "REPORT_BYTES",
+    "Reason",
+    "Refusal",
+    "Regions",
+    "Report",
+    "Settings",
+    "Waiting",
+    "WrongEnd",
+    "WrongFixedByte",
+    "WrongLength",
+    "WrongSpelling",
+    "check_command",
+    "check_report",
+    "command_fields",
+    "join",
+    "library_version",
+    "minutes",
+    "read_command",
+    "read_packed",
+    "read_report",
+    "reports",
+    "words_of",
+    "write_command",
+    "write_packed",
+    "write_report",
+]

@@ -1,0 +1,91 @@
+"""The board of commands that wait for aircraft out of coverage, in memory that the caller lends."""
+
+import ctypes
+from typing import Iterator, NamedTuple, Optional, Union
+
+from ._library import COMMAND_BYTES, Slot, Text, as_bytes, lib, room
+from ._refusals import refuse
+
+_SLOT_BYTES = ctypes.sizeof(Slot)
+
+
+class Waiting(NamedTuple):
+    """What waits for one aircraft."""
+
+    slot: int  #: from 0
+    designator: str
+    text: bytes
+
+
+class Board:
+    """A board over a ``bytearray`` (or a ``memoryview`` of one): first the slots, then 835 bytes of text for each.
+
+    ``bytearray(Board.size(n))`` is an empty board of n slots, at most 64. The board keeps nothing but the memory, so the
+    bytes may be stored and lent again; as long as the board lives their number cannot change. Every call checks the whole
+    board first, and raises ``BoardNotValid`` where it is none; a refusal changes no byte.
+    """
+
+    @staticmethod
+    def size(slots: int) -> int:
+        """The bytes of a board of so many slots."""
+        return slots * (_SLOT_BYTES + COMMAND_BYTES)
+
+    def __init__(self, memory: Union[bytearray, memoryview]) -> None:
+        view = memoryview(memory)
+        if view.readonly:
+            raise TypeError("the memory of a board must be writable")
+        view = view.cast("B")
+        self.slots = len(view) // Board.size(1)
+        # Kept for as long as the board: it holds the memory where it is.
+        self._memory = (ctypes.c_uint8 * len(view)).from_buffer(view)
+        begin = ctypes.addressof(self._memory)
+        if begin % ctypes.alignment(Slot):
+            raise ValueError("the memory of a board must begin at an even address")
+        self._slots = (Slot * self.slots).from_buffer(self._memory)
+        self._area_at = begin + self.slots * _SLOT_BYTES
+        # Bytes that make no whole slot are lent with the area, so that the board is refused for its length.
+        self._area_length = len(view) - self.slots * _SLOT_BYTES
+
+    def _lent(self) -> tuple:
+        return ctypes.addressof(self._slots), self.slots, self._area_at, self._area_length
+
+    def check(self) -> None:
+        """Raises ``BoardNotValid`` where the memory is no valid board."""
+        refuse(lib.esk_board_check(*self._lent()).code)
+
+    def add(self, designator: Text, text: Text) -> int:
+        """Adds a command for an aircraft: joined onto what waits for it, or into the lowest free slot.
+
+        Gives the length of what then waits.
+        """
+        name, data = as_bytes(designator), as_bytes(text)
+        answer = lib.esk_board_add(*self._lent(), name, len(name), data, len(data))
+        refuse(answer.code, answer.place)
+        return answer.length
+
+    def take(self, designator: Text) -> bytes:
+        """Takes what waits for an aircraft, and frees its slot."""
+        name, out = as_bytes(designator), room()
+        answer = lib.esk_board_take(*self._lent(), name, len(name), out, len(out))
+        refuse(answer.code, answer.place)
+        return out.raw[: answer.length]
+
+    def look(self, designator: Text) -> Optional[bytes]:
+        """What waits for an aircraft, left where it is; None where nothing does."""
+        name = as_bytes(designator)
+        for waiting in self:
+            if waiting.designator.encode("ascii") == name:
+                return waiting.text
+        return None
+
+    def __iter__(self) -> Iterator[Waiting]:
+        """What waits, slot by slot."""
+        self.check()
+        for i, slot in enumerate(self._slots):
+            if slot.length:
+                text = ctypes.string_at(self._area_at + i * COMMAND_BYTES, slot.length)
+                yield Waiting(i, bytes(slot.designator).decode("ascii"), text)
+
+    def __len__(self) -> int:
+        """How many aircraft something waits for."""
+        return sum(1 for _ in self)
