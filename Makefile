@@ -100,7 +100,7 @@ uninstall:
 test:
 	.ci/run
 
-test-desk: $(program)
+test-desk: $(program) $(native_program)
 	host/test/desk/run
 
 test-library: $(native_program)

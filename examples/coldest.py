@@ -58,6 +58,7 @@ def main(words: List[str]) -> int:
     refused: List[eskelvor.Refusal] = []
     for ascent in ascents(eskelvor.reports(words[0], refused=refused.append)):
         print("%s %s to %s: %s" % (*ascent[:3], coldest(ascent)))
+    sys.stdout.flush()
     for refusal in refused:
         print("refused: %s" % refusal, file=sys.stderr)
     return 1 if refused else 0

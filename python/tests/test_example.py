@@ -1,10 +1,11 @@
-"""examples/coldest.py: what it prints of the night in examples/, of a bad file and without one."""
+"""examples/coldest.py: what it prints of the night in examples/, of damaged ones and without a file. README's program."""
 
+import re
 import subprocess
 import sys
 from typing import Tuple
 
-from known import EXAMPLES, FULL, PRINTED, Case
+from known import EXAMPLES, FULL, PRINTED, ROOT, Case
 
 NIGHT = """\
 AU0137 YMML to YPAD: -47.1 degrees C at 34100 feet, of 13 levels
@@ -40,3 +41,17 @@ class Coldest(Case):
         status, out, _ = self.run_it(str(EXAMPLES / "damaged.reports"))
         self.assertEqual(status, 1)
         self.assertIn("XY0001 ABCD to EFGH: 0.0 degrees C at 0 feet, of 1 levels\n", out)
+
+
+class Readme(Case):
+    def test_its_program(self) -> None:
+        found = re.findall(r"```python\n(.*?)```", (ROOT / "README.md").read_text(encoding="utf-8"), flags=re.S)
+        self.assertEqual(len(found), 1)
+        ran = subprocess.run([sys.executable, "-c", found[0]], cwd=ROOT, stdout=subprocess.PIPE, check=True)
+        said = ran.stdout.decode().splitlines()
+        self.assertEqual(said[0], "-37.416666666666664 20140 -27.5")
+        self.assertEqual(said[-3:], [
+            "the hour is in the hours of silence",
+            "5 22 a number outside its range",
+            "b'AWR049999199000000000/' b'AWR049999199000000000/'",
+        ])

@@ -6,6 +6,8 @@ mkdir "$scratch/bin" "$scratch/folder"
 printf '#!/bin/sh\nexec "%s/host/tool" run eskelvor "$@"\n' "$root" >"$scratch/bin/eskelvor"
 chmod +x "$scratch/bin/eskelvor"
 PATH=$scratch/bin:$PATH
+# The Python module, as README.md says to use it in place.
+export PYTHONPATH="$root/python" ESKELVOR_LIBRARY="$root/target/native/libeskelvor.so" PYTHONDONTWRITEBYTECODE=1
 cd "$scratch/folder"
 ln -s "$examples" examples
 
