@@ -84,7 +84,11 @@ class Commands(Case):
         said = {field.name: field.meaning for field in command_fields(LONGEST)}
         self.assertEqual(said["section 2, inhibiting boxes, box 16, west edge"], "180 degrees west")
         self.assertEqual(said["section 3, descent inhibited, airfield 20"], "airfield EFGH")
-        self.assertEqual(said["section 5, top"], "20000 feet")
+        scheme = [field.meaning for field in command_fields(head(5) + FIVE) if field.name.startswith("section 5")]
+        self.assertEqual(scheme, [
+            "by time", "6 seconds", "90 seconds", "20 seconds", "510 seconds", "20000 feet", "list 2 of pressure levels",
+            "on", "ends it",
+        ])
 
 
 class Joins(Case):
