@@ -36,7 +36,8 @@ class Board:
             raise TypeError("the memory of a board must be writable")
         view = view.cast("B")
         self.slots = len(view) // Board.size(1)
-        # Kept for as long as the board: it holds the memory where it is.
+        # Kept for as long as the board: they hold the memory where it is.
+        self._view = view
         self._memory = (ctypes.c_uint8 * len(view)).from_buffer(view)
         begin = ctypes.addressof(self._memory)
         if begin % ctypes.alignment(Slot):
@@ -79,12 +80,15 @@ class Board:
         return None
 
     def __iter__(self) -> Iterator[Waiting]:
-        """What waits, slot by slot."""
+        """What waits, slot by slot, as it is now: what is added or taken meanwhile does not change it."""
         self.check()
+        area = self._view[self.slots * _SLOT_BYTES :]
+        waiting = []
         for i, slot in enumerate(self._slots):
             if slot.length:
-                text = ctypes.string_at(self._area_at + i * COMMAND_BYTES, slot.length)
-                yield Waiting(i, bytes(slot.designator).decode("ascii"), text)
+                text = bytes(area[i * COMMAND_BYTES : i * COMMAND_BYTES + slot.length])
+                waiting.append(Waiting(i, bytes(slot.designator).decode("ascii"), text))
+        return iter(waiting)
 
     def __len__(self) -> int:
         """How many aircraft something waits for."""

@@ -1,10 +1,12 @@
 """The board over lent memory: known cases, refusals, a whole night against a plain model, canaries on both sides."""
 
+import ctypes
 import random
+import threading
 from typing import Dict, List, Optional, Tuple
 
 import eskelvor
-from eskelvor import Board
+from eskelvor import Board, _library
 from known import BOTH, FIRST, FIVE, LONGEST, SECOND, Case, head
 
 GUARD = 64
@@ -71,6 +73,40 @@ class Boards(Case):
         Board(memory).add("XY0001", FIRST)
         kept = bytes(memory)
         self.assertEqual(Board(bytearray(kept)).take("XY0001"), FIRST)
+
+    def test_what_waits_is_what_waited(self) -> None:
+        memory = bytearray(Board.size(3))
+        board = Board(memory)
+        for name in ("XY0001", "XY0002", "XY0003"):
+            board.add(name, FIRST)
+        taken = [(one.designator, one.text, board.take(one.designator)) for one in board]
+        self.assertEqual(taken, [(name, FIRST, FIRST) for name in ("XY0001", "XY0002", "XY0003")])
+        board.add("XY0001", FIRST)
+        board.add("XY0002", FIRST)
+        going = iter(board)
+        memory[:] = len(memory) * b"\xff"  # no length is then within the memory
+        self.assertEqual([one.text for one in going], [FIRST, FIRST])
+        self.refused(10, 0, lambda: list(board))
+
+    def test_several_threads(self) -> None:
+        """Calls hold the interpreter's lock, so that threads may share a board."""
+        self.assertIsInstance(_library.lib, ctypes.PyDLL)
+        board = Board(bytearray(Board.size(8)))
+        wrong: List[object] = []
+
+        def work(name: str) -> None:
+            for _ in range(200):
+                board.add(name, FIRST)
+                board.add(name, SECOND)
+                if board.take(name) != BOTH:
+                    wrong.append(name)
+
+        threads = [threading.Thread(target=work, args=("XY000%d" % i,)) for i in range(4)]
+        for thread in threads:
+            thread.start()
+        for thread in threads:
+            thread.join()
+        self.assertEqual((wrong, len(board)), ([], 0))
 
     def test_memory_of_another_kind(self) -> None:
         with self.assertRaises(TypeError):
