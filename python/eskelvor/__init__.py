@@ -8,9 +8,9 @@ Reports: ``reports``, ``read_report``, ``write_report``, ``check_report``. Comma
 ``check_command``, ``command_fields``, ``join``. An aircraft's configuration: ``Configuration``, with ``apply``, ``decide``
 and ``explain``. What waits for aircraft out of coverage: ``Board``. One figure: ``read_packed``, ``write_packed``.
 
-Every verdict is one call's of the library. A refusal is raised as a ``Refusal``, with code, place and words; nothing that was
-lent has then changed. The library is the file that ``ESKELVOR_LIBRARY`` names, else the one beside this module, else the one
-that the system's loader finds; ``LibraryError`` says where it cannot be used.
+Every verdict is one call's of the library. A refusal is raised as a ``Refusal``, with code, place and words; nothing that
+was lent has then changed. The library is the file that ``ESKELVOR_LIBRARY`` names, else the one beside this module, else the
+one that the system's loader finds; ``LibraryError`` says where it cannot be used.
 """
 
 from ._library import BOARD_SLOTS, COMMAND_BYTES, REPORT_BYTES, LibraryError, library_version

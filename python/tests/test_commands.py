@@ -64,7 +64,8 @@ class Commands(Case):
         ]
         for command, code, place in cases:
             self.refused(code, place, lambda: write_command(command))
-        self.assertEqual(write_command(Command(regions=Regions(16 * (box,)))), head(2) + b"16" + 16 * b"10N10S010W010E" + b"00/")
+        full = Command(regions=Regions(16 * (box,)))
+        self.assertEqual(write_command(full), head(2) + b"16" + 16 * b"10N10S010W010E" + b"00/")
 
     def test_fields(self) -> None:
         for text in (eskelvor.NO_CHANGE, FIRST, BOTH, LONGEST, head(3) + b"01ABCD02EFGHIJKL00001/", head(6, 8) + b"1/0/"):
