@@ -23,7 +23,6 @@ export CARGO_TARGET_DIR := $(CURDIR)/target/compare
 archive := target/staticlib/libdesk.a
 program := target/host/eskelvor
 version := $(shell sed -n 's/^.define ESK_VERSION "\(.*\)"/\1/p' host/eskelvor.h)
-
 major := $(firstword $(subst ., ,$(version)))
 
 # The archive for this machine's own processor: the proved one, or one made of the same LLVM module.

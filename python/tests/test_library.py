@@ -65,10 +65,16 @@ class Finding(Case):
         self.assertIn("LibraryError", line)
 
     def test_none_at_all(self) -> None:
-        status, line = self.tries(ROOT / "python")
+        python = self.copied()
+        file = python / "eskelvor" / "_library.py"
+        source = file.read_text(encoding="utf-8")
+        self.assertIn('SONAME = "libeskelvor.so.', source)
+        # A name that no loader finds, also where the library is installed on this machine.
+        file.write_text(source.replace('SONAME = "libeskelvor.so.', 'SONAME = "libnowhere.so.'), encoding="utf-8")
+        status, line = self.tries(python)
         self.assertEqual(status, 1)
         self.assertIn("LibraryError", line)
-        self.assertIn("set ESKELVOR_LIBRARY to the file libeskelvor.so.3", line)
+        self.assertIn("set ESKELVOR_LIBRARY to the file libnowhere.so.3", line)
         status, line = self.tries(ROOT / "python", ESKELVOR_LIBRARY=str(self.folder / "nowhere.so"))
         self.assertEqual(status, 1)
         self.assertIn("nowhere.so", line)

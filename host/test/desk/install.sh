@@ -66,7 +66,7 @@ compile() { "${CC:-cc}" -std=c99 -Wall -Wextra -pedantic -Werror -o "$scratch/sm
 # shellcheck disable=SC2086
 compile $flags
 says "$(LD_LIBRARY_PATH=$at/lib "$scratch/small")"
-if "$scratch/small" >/dev/null 2>&1; then fail 'with the flags it is not the shared library that is linked'; fi
+readelf -d "$scratch/small" | grep -q "NEEDED.*libeskelvor.so.$major\]" || fail 'the flags link another library'
 compile -I"$at/include" "$at/lib/libeskelvor.a"
 says "$("$scratch/small")"
 
