@@ -226,12 +226,10 @@ static int run(int count, char **words)
     static orders o;
     const char *from = NULL, *to = NULL, *wait = "10";
     intake in = {0, 0, 0, join_and_hold, NULL};
-    const option known[] = {{"--config", "-c", &from, NULL},
-                            {"--out", "-o", &to, NULL},
-                            {"--wait", NULL, &wait, NULL},
-                            {"--text", NULL, NULL, &in.typed},
-                            {"--exact", NULL, NULL, &in.exact}};
-    if (take_options(&count, words, known, 5) != FINE)
+    const option known[] = {VALUE_OPTION("--config", "-c", &from), VALUE_OPTION("--out", "-o", &to),
+                            VALUE_OPTION("--wait", NULL, &wait), SET_OPTION("--text", &in.typed),
+                            SET_OPTION("--exact", &in.exact)};
+    if (take_options(&count, words, known, OPTIONS(known)) != FINE)
         return TROUBLE;
     if (whole_number(wait, 0, 86400) < 0)
         return trouble("--wait", "give whole seconds");
@@ -259,4 +257,5 @@ const subcommand apply_subcommand = {
     "whole. The new file is flushed to disk and put in place\n"
     "whole. A damaged file is refused with code 12, and never mended.\n",
     run,
+    0,
 };

@@ -21,6 +21,18 @@ int board_hold(kept *k, board *b, const char *file, long wait)
     return status == FINE ? board_read(file, b) : status;
 }
 
+int board_grow(board *b, const char *file, long slots)
+{
+    size_t n = (size_t)slots, had = b->n;
+    if (n < had)
+        return trouble(file, "it has %lu slots, and is not made smaller", (unsigned long)had);
+    memset(b->slots + had, 0, (n - had) * sizeof *b->slots);
+    memset(b->area + had * ESK_COMMAND_BYTES, 0, (n - had) * ESK_COMMAND_BYTES);
+    b->n = n;
+    esk_answer a = esk_board_check(b->slots, b->n, b->area, b->n * ESK_COMMAND_BYTES);
+    return a.code == ESK_ACCEPTED ? FINE : refuse_plain(file, A_BOARD, a.code, NULL);
+}
+
 static const uint8_t *bytes(const char *word)
 {
     return (const uint8_t *)word;

@@ -11,6 +11,10 @@ int board_create(const char *file, long slots, long wait);
 /* Holds the file and reads the board; whatever it gives, keep_release is then due. */
 int board_hold(kept *k, board *b, const char *file, long wait);
 
+/* Gives the board that was read more slots, free ones behind those that it has; what waits stays in its slot. Fewer are
+ * refused. */
+int board_grow(board *b, const char *file, long slots);
+
 /* Adds an accepted command to the board that was read; `waiting` becomes the length of the text that then waits. */
 int board_add(board *b, const char *designator, const uint8_t *text, size_t length, size_t *waiting);
 
@@ -23,5 +27,11 @@ int board_waiting(board *b, const char *designator, uint8_t *out, size_t *length
 /* Puts an accepted command that was taken back, before all that has come to wait since: what waits is taken and joined
  * behind it, and the join is added. Where nothing waits it is an add. */
 int board_return(board *b, const char *designator, const uint8_t *text, size_t length, size_t *waiting);
+
+/* Tells whether a file and its board are sound, and, where `lists` is 1, what waits. */
+int board_look(const char *file, int lists);
+
+/* Tells in words what waits for an aircraft. */
+int board_look_at(const char *file, const char *designator);
 
 #endif

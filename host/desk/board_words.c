@@ -11,6 +11,8 @@
 #include <string.h>
 #include <unistd.h>
 
+enum { WAIT_MOST = 86400 };
+
 /* The words of one call: the board's file, what to do with it, and what the options say. */
 typedef struct call {
     const char *file, *verb;
@@ -19,13 +21,20 @@ typedef struct call {
     intake in;
 } call;
 
+/* The number of slots that a call gives, or -1, which is told. */
+static long slots_of(const call *c, int count, char **words)
+{
+    long slots = count == 1 ? whole_number(words[0], 0, ESK_BOARD_SLOTS) : -1;
+    if (slots < 0)
+        trouble(c->verb, "give the number of slots, 0 to 64");
+    return slots;
+}
+
 static int create(const call *c, int count, char **words)
 {
     char name[NAME_ROOM];
-    long slots = count == 1 ? whole_number(words[0], 0, ESK_BOARD_SLOTS) : -1;
-    if (slots < 0)
-        return trouble("create", "give the number of slots, 0 to 64");
-    if (board_create(c->file, slots, c->wait) != FINE)
+    long slots = slots_of(c, count, words);
+    if (slots < 0 || board_create(c->file, slots, c->wait) != FINE)
         return TROUBLE;
     if (!as_json) {
         printf("%s: a board of %ld slots\n", name_safely(c->file, name, sizeof name), slots);
@@ -37,6 +46,45 @@ static int create(const call *c, int count, char **words)
     json_number("slots", slots);
     json_close();
     return FINE;
+}
+
+static int tell_grown(const call *c, long slots, size_t had, size_t used)
+{
+    char name[NAME_ROOM];
+    if (!as_json) {
+        printf("%s: a board of %ld slots, before %lu; %lu are used\n", name_safely(c->file, name, sizeof name), slots,
+               (unsigned long)had, (unsigned long)used);
+        return FINE;
+    }
+    json_object(NULL);
+    json_bool("accepted", 1);
+    json_number("code", ESK_ACCEPTED);
+    json_number("slots", slots);
+    json_number("slots_before", (long long)had);
+    json_number("used", (long long)used);
+    json_close();
+    return FINE;
+}
+
+static int grow(const call *c, int count, char **words)
+{
+    static board b;
+    size_t had = 0;
+    kept k;
+    long slots = slots_of(c, count, words);
+    if (slots < 0)
+        return TROUBLE;
+    int status = board_hold(&k, &b, c->file, c->wait);
+    if (status == FINE) {
+        had = b.n;
+        status = board_grow(&b, c->file, slots);
+    }
+    if (status == FINE)
+        status = board_write(&k, &b);
+    if (status == FINE)
+        status = keep_replace(&k);
+    keep_release(&k);
+    return status == FINE ? tell_grown(c, slots, had, board_used(&b)) : status;
 }
 
 static int tell_added(const char *designator, unsigned long commands, size_t length)
@@ -164,98 +212,52 @@ static int take(const call *c, int count, char **words)
     return status;
 }
 
-static void list_slots(const board *b)
+/* What is done with the board, by its word. */
+static int act(call *c, int count, char **words)
 {
-    for (size_t i = 0; i < b->n; i++) {
-        const esk_slot *s = &b->slots[i];
-        if (s->length == 0)
-            continue;
-        printf("  slot %2lu  %.6s  %3d bytes  %.*s\n", (unsigned long)i + 1, (const char *)s->designator, s->length,
-               s->length, (const char *)board_text(b, i));
-    }
-}
-
-static void json_slots(const board *b)
-{
-    json_list("waiting");
-    for (size_t i = 0; i < b->n; i++) {
-        if (b->slots[i].length == 0)
-            continue;
-        json_object(NULL);
-        json_number("slot", (long long)i + 1);
-        json_text("designator", b->slots[i].designator, 6);
-        json_number("length", b->slots[i].length);
-        json_text("text", board_text(b, i), b->slots[i].length);
-        json_close();
-    }
-    json_close();
-}
-
-/* A reader needs no lock: it sees the old file or the new one. */
-static int look(const call *c, int lists)
-{
-    static board b;
-    char name[NAME_ROOM];
-    int status = board_read(c->file, &b);
-    if (status != FINE)
-        return status;
-    if (as_json) {
-        json_object(NULL);
-        json_bool("accepted", 1);
-        json_number("code", ESK_ACCEPTED);
-        json_number("slots", (long long)b.n);
-        json_number("used", (long long)board_used(&b));
-        if (lists)
-            json_slots(&b);
-        json_close();
-        return FINE;
-    }
-    printf("%s: valid, %lu of %lu slots used\n", name_safely(c->file, name, sizeof name), (unsigned long)board_used(&b),
-           (unsigned long)b.n);
-    if (lists)
-        list_slots(&b);
-    return FINE;
+    const char *verb = c->verb;
+    if (c->to != NULL && strcmp(verb, "take") != 0)
+        return trouble("--to", "only a taking has it");
+    if (strcmp(verb, "create") == 0)
+        return create(c, count, words);
+    if (strcmp(verb, "grow") == 0)
+        return grow(c, count, words);
+    if (strcmp(verb, "add") == 0)
+        return put(c, board_add, count, words);
+    if (strcmp(verb, "return") == 0)
+        return put(c, board_return, count, words);
+    if (strcmp(verb, "take") == 0)
+        return take(c, count, words);
+    if (count < 2 && strcmp(verb, "list") == 0)
+        return count == 0 ? board_look(c->file, 1) : board_look_at(c->file, words[0]);
+    if (count == 0 && strcmp(verb, "check") == 0)
+        return board_look(c->file, 0);
+    return trouble(verb, "no such thing to do with a board; --help tells what there is");
 }
 
 static int run(int count, char **words)
 {
     const char *wait = "10";
     call c = {NULL, NULL, 0, NULL, {0, 0, 0, NULL, NULL}};
-    const option known[] = {{"--wait", NULL, &wait, NULL},
-                            {"--to", NULL, &c.to, NULL},
-                            {"--text", NULL, NULL, &c.in.typed},
-                            {"--exact", NULL, NULL, &c.in.exact}};
-    if (take_options(&count, words, known, 4) != FINE)
+    const option known[] = {VALUE_OPTION("--wait", NULL, &wait), VALUE_OPTION("--to", NULL, &c.to),
+                            SET_OPTION("--text", &c.in.typed), SET_OPTION("--exact", &c.in.exact)};
+    if (take_options(&count, words, known, OPTIONS(known)) != FINE)
         return TROUBLE;
-    c.wait = whole_number(wait, 0, 86400);
+    c.wait = whole_number(wait, 0, WAIT_MOST);
     if (c.wait < 0)
         return trouble("--wait", "give whole seconds");
     if (count < 2)
         return trouble(NULL, "give the board's file and what to do; --help tells more");
     c.file = words[0];
     c.verb = words[1];
-    if (c.to != NULL && strcmp(c.verb, "take") != 0)
-        return trouble("--to", "only a taking has it");
-    if (strcmp(c.verb, "create") == 0)
-        return create(&c, count - 2, words + 2);
-    if (strcmp(c.verb, "add") == 0)
-        return put(&c, board_add, count - 2, words + 2);
-    if (strcmp(c.verb, "return") == 0)
-        return put(&c, board_return, count - 2, words + 2);
-    if (strcmp(c.verb, "take") == 0)
-        return take(&c, count - 2, words + 2);
-    if (count == 2 && strcmp(c.verb, "list") == 0)
-        return look(&c, 1);
-    if (count == 2 && strcmp(c.verb, "check") == 0)
-        return look(&c, 0);
-    return trouble(c.verb, "no such thing to do with a board; --help tells what there is");
+    return act(&c, count - 2, words + 2);
 }
 
 const subcommand board_subcommand = {
     "board",
     "FILE create N | add DESIGNATOR COMMAND..\n"
     "           | take [--to FILE] DESIGNATOR | return DESIGNATOR COMMAND..\n"
-    "           | list | check",
+    "           | list [DESIGNATOR] | check | grow N",
     "Keeps the board of waiting commands in a file",
     "  create N     makes a board of N slots, at most 64; a file that is there stays\n"
     "  add          adds commands for an aircraft, all of them or none; words and\n"
@@ -265,8 +267,10 @@ const subcommand board_subcommand = {
     "  --to FILE    takes it into a new file instead, which is on disk before the\n"
     "               slot is freed; a file that is there stays\n"
     "  return       puts what was taken back, before all that waits by now\n"
-    "  list         shows what waits\n"
+    "  list         shows what waits; for one aircraft, in words\n"
     "  check        says whether the file and its board are sound\n"
+    "  grow N       gives the board N slots, no fewer than it has and at most 64;\n"
+    "               all that waits stays\n"
     "  --wait S     waits S seconds for another writer of the board (10)\n"
     "  --text       every word behind the designator is a command\n"
     "  --exact      all the bytes of a file are one command, line ends too\n"
@@ -278,4 +282,5 @@ const subcommand board_subcommand = {
     "lost: take it --to a file, send that, and return it where that fails. A damaged\n"
     "file is refused with code 10, and never mended.\n",
     run,
+    0,
 };

@@ -1,4 +1,5 @@
 /* eskelvor check and eskelvor explain: commands, one by one. */
+#include "command_names.h"
 #include "intake.h"
 #include "json.h"
 #include "options.h"
@@ -38,43 +39,15 @@ static int check_one(void *with, const command_text *t)
     return FINE;
 }
 
-static void json_command(const esk_command *c)
-{
-    char key[2] = "0";
-    json_flags("flags", &c->settings);
-    json_number("downlink", c->downlink);
-    json_object("sections");
-    for (int k = 2; k <= 9; k++)
-        if (c->named[k - 2]) {
-            key[0] = (char)('0' + k);
-            json_section(key, &c->settings, k);
-        }
-    json_close();
-}
-
-static void say_flags(const esk_command *c)
-{
-    puts("flags");
-    for (int i = 0; i < FLAGS; i++)
-        printf("  %-14s %d  %s\n", flag_names[i], c->settings.flags[i], flag_in_words(i, c->settings.flags[i]));
-    printf("downlink         %d  %s\n", c->downlink, downlink_in_words(c->downlink));
-}
-
-static int say_sections(const esk_command *c)
-{
-    int sections = 0;
-    for (int k = 2; k <= 9; k++)
-        if (c->named[k - 2]) {
-            printf("section %d: %s\n", k, section_title(k));
-            say_section(&c->settings, k, "  ");
-            sections++;
-        }
-    return sections;
-}
+/* What explain is told, and how many commands it has told of. */
+typedef struct explaining {
+    int options;
+    unsigned long told;
+} explaining;
 
 static int explain_one(void *with, const command_text *t)
 {
-    unsigned long *explained = with;
+    explaining *e = with;
     esk_command_got got = esk_command_read(t->bytes, t->length);
     if (got.answer.code != ESK_ACCEPTED)
         return refuse_text(t, got.answer);
@@ -84,32 +57,40 @@ static int explain_one(void *with, const command_text *t)
         json_close();
         return FINE;
     }
-    printf("%s%.*s\n", (*explained)++ ? "\n" : "", (int)t->length, (const char *)t->bytes);
-    say_flags(&got.command);
-    if (say_sections(&got.command) == 0)
-        puts("no section is named");
+    if (e->options) {
+        write_options(&got.command);
+        return FINE;
+    }
+    printf("%s%.*s\n", e->told++ ? "\n" : "", (int)t->length, (const char *)t->bytes);
+    say_command(&got.command);
     return FINE;
 }
 
-static int run(int count, char **words, text_taker each)
+static int run(intake *in, int status, int count, char **words)
 {
-    unsigned long explained = 0;
-    intake in = {0, 0, 0, each, &explained};
-    const option known[] = {{"--text", NULL, NULL, &in.typed}, {"--exact", NULL, NULL, &in.exact}};
-    int status = take_options(&count, words, known, 2);
     if (status == FINE && count == 0)
         status = trouble(NULL, "no command; --help tells what to give");
-    return status == FINE ? each_text(&in, count, words) : status;
+    return status == FINE ? each_text(in, count, words) : status;
 }
 
 static int run_check(int count, char **words)
 {
-    return run(count, words, check_one);
+    intake in = {0, 0, 0, check_one, NULL};
+    const option known[] = {SET_OPTION("--text", &in.typed), SET_OPTION("--exact", &in.exact)};
+    int status = take_options(&count, words, known, OPTIONS(known));
+    return run(&in, status, count, words);
 }
 
 static int run_explain(int count, char **words)
 {
-    return run(count, words, explain_one);
+    explaining e = {0, 0};
+    intake in = {0, 0, 0, explain_one, &e};
+    const option known[] = {SET_OPTION("--text", &in.typed), SET_OPTION("--exact", &in.exact),
+                            SET_OPTION("--options", &e.options)};
+    int status = take_options(&count, words, known, OPTIONS(known));
+    if (status == FINE && e.options && as_json)
+        status = trouble("--options", "does not go with --json");
+    return run(&in, status, count, words);
 }
 
 #define WORDS                                                                 \
@@ -123,9 +104,14 @@ static int run_explain(int count, char **words)
     "over.\n"
 
 const subcommand check_subcommand = {
-    "check", "[--text | --exact] COMMAND | FILE | - ..", "Says whether commands are accepted", WORDS, run_check,
+    "check", "[--text | --exact] COMMAND | FILE | - ..", "Says whether commands are accepted", WORDS, run_check, 0,
 };
 
 const subcommand explain_subcommand = {
-    "explain", "[--text | --exact] COMMAND | FILE | - ..", "Says in words what commands do", WORDS, run_explain,
+    "explain",
+    "[--options] [--text | --exact] COMMAND | FILE | - ..",
+    "Says in words what commands do",
+    "  --options    the call of eskelvor compose that makes each command, on a line\n" WORDS,
+    run_explain,
+    0,
 };

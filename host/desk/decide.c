@@ -45,4 +45,5 @@ const subcommand decide_subcommand = {
     "Says whether an aircraft reports: silent, routine or scheme",
     QUESTION_HELP QUESTION_NOTE,
     run,
+    0,
 };

@@ -16,10 +16,17 @@ typedef struct subcommand {
     const char *summary; /* one line */
     const char *help;    /* the rest of its --help */
     int (*run)(int count, char **words);
+    int reads_json; /* behind its name --json is an option of its own: what it reads */
 } subcommand;
 
-extern const subcommand report_subcommand, check_subcommand, explain_subcommand, join_subcommand, apply_subcommand,
-    decide_subcommand, why_subcommand, packed_subcommand, board_subcommand, night_subcommand;
+extern const subcommand report_subcommand, check_subcommand, explain_subcommand, compose_subcommand, join_subcommand,
+    apply_subcommand, decide_subcommand, why_subcommand, packed_subcommand, board_subcommand, night_subcommand,
+    help_subcommand;
+
+/* The subcommand of a name, or NULL; and what the program, or a subcommand, takes and tells, on standard output. */
+const subcommand *find_subcommand(const char *name);
+void help(void);
+void help_on(const subcommand *s);
 
 static inline int worse(int one, int other)
 {

@@ -24,8 +24,8 @@ static int run(int count, char **words)
 {
     static joined all;
     intake in = {0, 0, 0, NULL, NULL};
-    const option known[] = {{"--text", NULL, NULL, &in.typed}, {"--exact", NULL, NULL, &in.exact}};
-    int status = take_options(&count, words, known, 2);
+    const option known[] = {SET_OPTION("--text", &in.typed), SET_OPTION("--exact", &in.exact)};
+    int status = take_options(&count, words, known, OPTIONS(known));
     if (status == FINE && count == 0)
         status = trouble(NULL, "no command; --help tells what to give");
     if (status == FINE)
@@ -49,4 +49,5 @@ const subcommand join_subcommand = {
     "section comes from the last command that sets it, and the largest downlink\n"
     "digit is kept. Where one is refused nothing is joined.\n",
     run,
+    0,
 };

@@ -12,6 +12,7 @@ static struct {
     char closer[DEEPEST]; /* of what is open at each depth */
     int filled[DEEPEST];  /* whether it holds something already */
     int line_ended;       /* nothing stands behind the last line end */
+    int lines;            /* no document: an object at the top is a line */
 } open;
 
 static void quoted_byte(uint8_t byte)
@@ -54,7 +55,7 @@ static void begin(const char *key)
     open.line_ended = 0;
     if (open.depth > 0 && open.filled[open.depth - 1]++)
         putchar(',');
-    if (open.depth == 2 && key == NULL)
+    if (open.depth == 2 && key == NULL && !open.lines)
         putchar('\n');
     if (key != NULL) {
         quoted(key, strlen(key), 1);
@@ -92,6 +93,11 @@ void json_line(void)
     open.line_ended = 1;
 }
 
+void json_lines(void)
+{
+    open.lines = 1;
+}
+
 void json_text(const char *key, const void *bytes, size_t length)
 {
     begin(key);
@@ -126,21 +132,8 @@ void json_null(const char *key)
     fputs("null", stdout);
 }
 
-void json_decimal(const char *key, long number, int places)
+void json_digits(const char *key, const char *digits, size_t length)
 {
-    long steps = 1, size = number < 0 ? -number : number;
-    for (int i = 0; i < places; i++)
-        steps *= 10;
     begin(key);
-    printf("%s%ld", number < 0 ? "-" : "", size / steps);
-    if (places > 0)
-        printf(".%0*ld", places, size % steps);
-}
-
-void json_figure(const char *key, esk_figure figure, int places)
-{
-    if (figure.given)
-        json_decimal(key, figure.number, places);
-    else
-        json_null(key);
+    fwrite(digits, 1, length, stdout);
 }

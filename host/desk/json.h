@@ -21,10 +21,10 @@ void json_number(const char *key, long long number);
 void json_bool(const char *key, int yes);
 void json_null(const char *key);
 
-/* A number counted in steps of 1, 1/10, 1/1000..: `places` digits stand behind the point. */
-void json_decimal(const char *key, long number, int places);
+/* A number whose digits are there. */
+void json_digits(const char *key, const char *digits, size_t length);
 
-/* A figure, null where it is missing. */
-void json_figure(const char *key, esk_figure figure, int places);
+/* From here on there is no document: each object is a line of its own, ended by json_line. */
+void json_lines(void);
 
 #endif

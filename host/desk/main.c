@@ -14,44 +14,6 @@
 #include <string.h>
 #include <unistd.h>
 
-static const subcommand *const subcommands[] = {
-    &report_subcommand, &check_subcommand, &explain_subcommand, &join_subcommand,  &apply_subcommand,
-    &decide_subcommand, &why_subcommand,   &packed_subcommand,  &board_subcommand, &night_subcommand,
-};
-
-enum { SUBCOMMANDS = sizeof subcommands / sizeof *subcommands };
-
-static void help(void)
-{
-    puts("usage: eskelvor SUBCOMMAND [WORD..]\n\n"
-         "The weather desk: aircraft reports, the commands that tell aircraft when to\n"
-         "report, and the board of commands that wait for aircraft out of coverage.\n");
-    for (int i = 0; i < SUBCOMMANDS; i++)
-        printf("  %-8s %s\n", subcommands[i]->name, subcommands[i]->summary);
-    puts("\n  eskelvor SUBCOMMAND --help   what it takes and tells\n"
-         "  eskelvor --version\n"
-         "  --json                       with any subcommand: one JSON document on\n"
-         "                               standard output, refusals too\n\n"
-         "Exit status: 0 accepted, 1 refused, 2 usage or files. Refusals and troubles go\n"
-         "to standard error.");
-}
-
-static void help_on(const subcommand *s)
-{
-    printf("usage: eskelvor %s %s\n\n%s.\n\n%s", s->name, s->usage, s->summary, s->help);
-    puts("\n  --json       one JSON document on standard output, refusals too\n"
-         "  --help       this\n\n"
-         "Exit status: 0 accepted, 1 refused, 2 usage or files.");
-}
-
-static const subcommand *find(const char *name)
-{
-    for (int i = 0; i < SUBCOMMANDS; i++)
-        if (strcmp(subcommands[i]->name, name) == 0)
-            return subcommands[i];
-    return NULL;
-}
-
 /* Takes a word out of the words before a --, wherever it stands; gives whether it was there. */
 static int take_word(const char *word, int *count, char **words)
 {
@@ -67,9 +29,23 @@ static int take_word(const char *word, int *count, char **words)
     return found;
 }
 
+/* Takes --json out of the words. Where the subcommand reads JSON, what stands behind its name is not looked at. */
+static int take_json(int *count, char **words)
+{
+    int before = 0;
+    while (before < *count && strcmp(words[before], "--json") == 0)
+        before++;
+    const subcommand *s = before < *count ? find_subcommand(words[before]) : NULL;
+    if (s == NULL || !s->reads_json)
+        return take_word("--json", count, words);
+    memmove(words, words + before, (size_t)(*count - before) * sizeof *words);
+    *count -= before;
+    return before > 0;
+}
+
 static int run(int count, char **words)
 {
-    const subcommand *s = count == 0 ? NULL : find(words[0]);
+    const subcommand *s = count == 0 ? NULL : find_subcommand(words[0]);
     int status;
     if (s == NULL) {
         tell_begin(count == 0 ? NULL : words[0]);
@@ -79,6 +55,8 @@ static int run(int count, char **words)
             status = trouble(words[0], "no such subcommand; eskelvor --help tells which there are");
         return tell_end(status);
     }
+    if (s == &help_subcommand)
+        as_json = 0; /* it is for a person, as --help is */
     tell_begin(s->name);
     status = s->run(count - 1, words + 1);
     return worse(status, tell_end(status));
@@ -105,10 +83,10 @@ int main(int count, char **words)
     words++;
     signal(SIGXFSZ, SIG_IGN); /* a file that may not grow is told as a write that failed */
     int wants_help = take_word("--help", &count, words) | take_word("-h", &count, words);
-    as_json = take_word("--json", &count, words);
+    as_json = take_json(&count, words);
     if (!wants_help && (count != 1 || strcmp(words[0], "--version") != 0))
         return run(count, words);
-    const subcommand *s = count == 0 ? NULL : find(words[0]);
+    const subcommand *s = count == 0 ? NULL : find_subcommand(words[0]);
     if (!wants_help)
         puts("eskelvor " ESK_VERSION);
     else if (s != NULL)

@@ -46,7 +46,7 @@ static void tell_sent(const sending *s, esk_answer a)
         json_word("text", s->text);
         json_number("code", a.code);
         json_number("place", (long long)a.place);
-        json_number("waiting", a.length);
+        json_number("length", a.length);
         json_close();
     } else if (a.code == ESK_NO_SLOT)
         printf("  %s  %-42s refused: code 9, no slot is free (%s)\n", fleet[s->to].designator, s->text, s->why);
@@ -266,4 +266,5 @@ const subcommand night_subcommand = {
     "is removed afterwards. The status is 0 where every aircraft holds what the desk\n"
     "shows, 1 where one does not.\n",
     run,
+    0,
 };

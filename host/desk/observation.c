@@ -1,6 +1,5 @@
 #include "observation.h"
 
-#include "json.h"
 #include "minutes.h"
 
 #include <stdio.h>
@@ -37,7 +36,7 @@ track track_on(track t, const esk_observation *later)
     return t;
 }
 
-static const char *kind_in_words(char kind)
+const char *kind_in_words(char kind)
 {
     switch (kind) {
     case 'A': return "ascent";
@@ -65,10 +64,22 @@ static void show_degrees(int width, esk_figure minutes, const char *letters)
     fputs(degrees, stdout);
 }
 
+long day_of(int32_t seconds)
+{
+    return seconds / DAY + 1;
+}
+
+void name_time(int32_t seconds, char *to, size_t room)
+{
+    long s = seconds % DAY;
+    snprintf(to, room, "%02ld:%02ld:%02ld", s / 3600, s / 60 % 60, s % 60);
+}
+
 static void show_time(esk_figure seconds)
 {
-    long s = seconds.number % DAY;
-    printf("day %ld, %02ld:%02ld:%02ld", (long)seconds.number / DAY + 1, s / 3600, s / 60 % 60, s % 60);
+    char time[16];
+    name_time(seconds.number, time, sizeof time);
+    printf("day %ld, %s", day_of(seconds.number), time);
 }
 
 static void show_absolute(const char *name, esk_figure minutes, const char *letters)
@@ -145,38 +156,4 @@ void show_observation(int number, const esk_observation *o, const track *here)
     show("gust", o->gust, 10, 1, "metres a second");
     show("water vapour", o->vapour, 1000, 3, "grams a kilogram");
     printf("  %-15s %10c\n", "vapour quality", o->quality == '/' ? '-' : o->quality);
-}
-
-static void json_changes(const esk_observation *o)
-{
-    json_figure("latitude_change_minutes", o->latitude, 0);
-    json_figure("longitude_change_minutes", o->longitude, 0);
-    json_figure("time_since_seconds", o->time, 0);
-}
-
-void json_observation(int number, const esk_observation *o, const track *here)
-{
-    char kind = (char)o->kind, quality = (char)o->quality;
-    esk_figure feet = o->altitude;
-    json_object(NULL);
-    json_number("observation", number);
-    json_bool("present", number == 1 || o->present);
-    if (number == 1 || o->present) {
-        feet.number *= 10;
-        json_text("kind", &kind, 1);
-        json_word("kind_in_words", kind_in_words(kind));
-        if (number > 1)
-            json_changes(o);
-        json_figure("latitude_minutes", here->latitude, 0);
-        json_figure("longitude_minutes", here->longitude, 0);
-        json_figure("seconds_into_month", here->time, 0);
-        json_figure("altitude_feet", feet, 0);
-        json_figure("temperature_celsius", o->temperature, 1);
-        json_figure("wind_direction_degrees", o->wind_direction, 0);
-        json_figure("wind_speed_knots", o->wind_speed, 0);
-        json_figure("gust_metres_per_second", o->gust, 1);
-        json_figure("vapour_grams_per_kilogram", o->vapour, 3);
-        json_text("quality", &quality, 1);
-    }
-    json_close();
 }

@@ -2,7 +2,10 @@
 
 #include "tell.h"
 
+#include <stdio.h>
 #include <string.h>
+
+int list_options;
 
 static int is_option(const char *word)
 {
@@ -29,6 +32,14 @@ static const option *find(const char *word, const option *known, size_t options)
     return NULL;
 }
 
+/* Hands a value to its option; gives whether that takes it. */
+static int hand_value(const option *o, const char *value)
+{
+    if (o->value != NULL)
+        *o->value = value;
+    return o->each == NULL || o->each(o->with, value) == FINE;
+}
+
 /* Takes one option, whose value may be the next word. Gives how many words it has, or 0 where it is wrong. */
 static int take_one(char **words, int left, const option *known, size_t options)
 {
@@ -43,21 +54,29 @@ static int take_one(char **words, int left, const option *known, size_t options)
         *o->set = 1;
         return 1;
     }
-    if (o->value != NULL && word[length] == '=') {
-        *o->value = word + length + 1;
-        return 1;
-    }
-    if (o->value != NULL && left > 1) {
-        *o->value = words[1];
-        return 2;
-    }
+    if (o->set == NULL && word[length] == '=')
+        return hand_value(o, word + length + 1) ? 1 : 0;
+    if (o->set == NULL && left > 1)
+        return hand_value(o, words[1]) ? 2 : 0;
     trouble(word, o->set ? "this option takes no value" : "this option needs a value");
     return 0;
+}
+
+static int write_names(const option *known, size_t options)
+{
+    for (size_t i = 0; i < options; i++) {
+        puts(known[i].name);
+        if (known[i].letter != NULL)
+            puts(known[i].letter);
+    }
+    return TROUBLE;
 }
 
 int take_options(int *count, char **words, const option *known, size_t options)
 {
     int kept = 0, plain = 0;
+    if (list_options)
+        return write_names(known, options);
     for (int i = 0; i < *count;) {
         if (!plain && strcmp(words[i], "--") == 0) {
             plain = 1;

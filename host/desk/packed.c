@@ -20,7 +20,10 @@ static void tell_figure(const char *field, size_t length, esk_figure figure)
     json_bool("accepted", 1);
     json_number("code", ESK_ACCEPTED);
     json_text("text", field, length);
-    json_figure("number", figure, 0);
+    if (figure.given)
+        json_number("number", figure.number);
+    else
+        json_null("number");
     json_close();
 }
 
@@ -99,4 +102,5 @@ const subcommand packed_subcommand = {
     "               solidi are a missing figure\n"
     "  write        a whole number, or the word missing, in WIDTH bytes\n",
     run,
+    0,
 };

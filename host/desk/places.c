@@ -3,6 +3,10 @@
 #include "mark.h"
 
 #include <stdio.h>
+#include <string.h>
+
+/* Room for a text whose lists have up to COUNTED_MOST items each, more than any that is accepted. */
+enum { COUNTED_MOST = 20, SKETCH_ROOM = 22 + 2 * (2 + COUNTED_MOST * 14) + 4 * (2 + COUNTED_MOST * 4) + 64 };
 
 enum { LINE_END = 2, LATER_BYTES = 23 }; /* the bytes of a CR LF, and of a later observation */
 
@@ -244,6 +248,62 @@ static void name_command_place(const uint8_t *text, size_t place, char *to, size
                  (unsigned long)s.item, s.section == 2 ? ", " : "", s.section == 2 ? name : "");
     else
         snprintf(to, room, "section %d, %s", s.section, name);
+}
+
+/* The delimiters, indicators and counts of the text that a record would have, all that find_spot looks at. Behind a
+ * count that no text has, nothing is refused any more. */
+static void sketch_text(const esk_command *c, uint8_t *text)
+{
+    static const size_t bytes[] = {0, 1, 3, 16, 1, 0, 1, 4}; /* behind the lists of sections 2 to 9 */
+    const esk_settings *s = &c->settings;
+    const uint8_t counts[] = {s->regions.reporting.count,        s->regions.inhibiting.count,
+                              s->airports.selected.ascent.count, s->airports.selected.descent.count,
+                              s->airports.inhibited.ascent.count, s->airports.inhibited.descent.count};
+    uint8_t *at = text + 22;
+    memset(text, '0', SKETCH_ROOM);
+    text[21] = '/';
+    for (int k = 2; k <= 9; k++) {
+        if (!c->named[k - 2])
+            continue;
+        text[11 + k] = (uint8_t)('0' + k);
+        for (size_t i = 0; i < COUNT(lists); i++)
+            if (lists[i].section == k) {
+                if (counts[i] > COUNTED_MOST)
+                    return;
+                at[0] = (uint8_t)('0' + counts[i] / 10);
+                at[1] = (uint8_t)('0' + counts[i] % 10);
+                at += 2 + (size_t)counts[i] * (k == 2 ? 14 : 4);
+            }
+        at += bytes[k - 2];
+        *at++ = '/';
+    }
+}
+
+void find_record_place(const esk_command *c, size_t place, record_place *to)
+{
+    uint8_t text[SKETCH_ROOM];
+    memset(to, 0, sizeof *to);
+    sketch_text(c, text);
+    name_command_place(text, place, to->name, sizeof to->name);
+    spot s = find_spot(text, place);
+    to->section = s.section;
+    to->item = s.item;
+    to->list = s.list;
+    if (s.figure == NULL)
+        return;
+    to->offset = s.figure->offset;
+    to->range = s.figure->range;
+    if (s.figure >= lists && s.figure < lists + COUNT(lists))
+        to->list = s.figure->name;
+}
+
+const char *find_report_field(size_t place, size_t *observation, size_t *number)
+{
+    size_t left;
+    const field *f = report_field(place, observation, &left);
+    const field *first = *observation == 0 ? report_head : *observation == 1 ? first_fields : later_fields;
+    *number = f == NULL ? 0 : (size_t)(f - first);
+    return f == NULL ? NULL : f->range;
 }
 
 void name_place(subject kind, const uint8_t *text, size_t length, size_t place, char *to, size_t room)

@@ -51,10 +51,10 @@ int take_question(int count, char **words, question *q, const option *own, size_
     intake in = {0, 0, 0, NULL, NULL};
     *q = nothing;
     option known[SHARED_OPTIONS + MORE_OPTIONS] = {
-        {"--config", "-c", &file, NULL},     {"--phase", NULL, &q->phase, NULL},
-        {"--lat", NULL, &q->latitude, NULL}, {"--lon", NULL, &q->longitude, NULL},
-        {"--hour", NULL, &q->hour, NULL},    {"--airfield", NULL, &q->airfield, NULL},
-        {"--text", NULL, NULL, &in.typed},   {"--exact", NULL, NULL, &in.exact}};
+        VALUE_OPTION("--config", "-c", &file),      VALUE_OPTION("--phase", NULL, &q->phase),
+        VALUE_OPTION("--lat", NULL, &q->latitude),  VALUE_OPTION("--lon", NULL, &q->longitude),
+        VALUE_OPTION("--hour", NULL, &q->hour),     VALUE_OPTION("--airfield", NULL, &q->airfield),
+        SET_OPTION("--text", &in.typed),            SET_OPTION("--exact", &in.exact)};
     for (size_t i = 0; i < options; i++)
         known[SHARED_OPTIONS + i] = own[i];
     int status = take_options(&count, words, known, SHARED_OPTIONS + options);

@@ -1,53 +1,13 @@
 /* eskelvor report: reports shown, figure by figure. */
-#include "json.h"
-#include "observation.h"
 #include "options.h"
-#include "pieces.h"
 #include "places.h"
 #include "progress.h"
-#include "tell.h"
+#include "report_form.h"
 
 #include <string.h>
 
-enum { LATER = 7 };
-
+static report_form form;
 static unsigned long shown, refused;
-
-static void show_report(const piece *p, const char *file, const esk_report *r)
-{
-    origin from = {file, "report", p->number, p->offset};
-    char name[1200];
-    track here = track_begin(&r->first);
-    name_origin(&from, name, sizeof name);
-    printf("%s%s: %.4s to %.4s, aircraft %.6s\n", shown == 1 ? "" : "\n", name, (const char *)r->departure,
-           (const char *)r->arrival, (const char *)r->designator);
-    show_observation(1, &r->first, &here);
-    for (int i = 0; i < LATER; i++) {
-        here = track_on(here, &r->later[i]);
-        show_observation(i + 2, &r->later[i], &here);
-    }
-}
-
-static void json_report(const piece *p, const char *file, const esk_report *r)
-{
-    origin from = {file, "report", p->number, p->offset};
-    track here = track_begin(&r->first);
-    json_object(NULL);
-    json_bool("accepted", 1);
-    json_origin(&from);
-    json_number("code", ESK_ACCEPTED);
-    json_text("departure", r->departure, 4);
-    json_text("arrival", r->arrival, 4);
-    json_text("designator", r->designator, 6);
-    json_list("observations");
-    json_observation(1, &r->first, &here);
-    for (int i = 0; i < LATER; i++) {
-        here = track_on(here, &r->later[i]);
-        json_observation(i + 2, &r->later[i], &here);
-    }
-    json_close();
-    json_close();
-}
 
 /* Whether line ends have lost their CR, as they do on the way through a text editor. */
 static int lacks_cr(const piece *p, size_t length)
@@ -110,20 +70,17 @@ static int one_report(const piece *p, const char *file)
 {
     esk_report_got got = esk_report_read(p->bytes, p->length);
     origin from = {file, "report", p->number, p->offset};
-    if (got.answer.code == ESK_LENGTH) {
-        refused++;
+    if (got.answer.code == ESK_ACCEPTED) {
+        shown++;
+        form_report(&form, p, file, &got.report);
+        return FINE;
+    }
+    refused++;
+    if (form.quiet)
+        return REFUSED;
+    if (got.answer.code == ESK_LENGTH)
         return refuse_length(&from, p, got.answer);
-    }
-    if (got.answer.code != ESK_ACCEPTED) {
-        refused++;
-        return refuse(&from, A_REPORT, got.answer, p->bytes, p->length, p->whole);
-    }
-    shown++;
-    if (as_json)
-        json_report(p, file, &got.report);
-    else
-        show_report(p, file, &got.report);
-    return FINE;
+    return refuse(&from, A_REPORT, got.answer, p->bytes, p->length, p->whole);
 }
 
 static int read_reports(const char *word)
@@ -150,29 +107,52 @@ static int read_reports(const char *word)
     return status;
 }
 
-static int run(int count, char **words)
+/* All the files, or standard input where there is none. */
+static int read_all(int count, char **words)
 {
     static char standard_input[] = "-";
-    char *lone[] = {standard_input};
-    int status = take_options(&count, words, NULL, 0);
-    if (status != FINE)
-        return status;
-    if (count == 0) {
-        count = 1;
-        words = lone;
-    }
+    int status = count == 0 ? read_reports(standard_input) : FINE;
     for (int i = 0; i < count; i++)
         status = worse(status, read_reports(words[i]));
-    if (refused > 0 && !as_json && shown + refused > 1)
-        fprintf(stderr, "eskelvor: %lu reports shown, %lu refused\n", shown, refused);
+    form_end(&form, refused);
+    if (refused > 0 && !as_json && !form.quiet && shown + refused > 1)
+        fprintf(stderr, "eskelvor: %lu reports %s, %lu refused\n", shown, form.count ? "counted" : "shown", refused);
     return status;
+}
+
+static int run(int count, char **words)
+{
+    const option known[] = {SET_OPTION("--jsonl", &form.jsonl), SET_OPTION("--csv", &form.csv),
+                            VALUE_OPTION("--fields", NULL, &form.fields), SET_OPTION("--count", &form.count),
+                            SET_OPTION("--quiet", &form.quiet)};
+    int status = take_options(&count, words, known, OPTIONS(known));
+    if (status == FINE)
+        status = form_begin(&form);
+    return status == FINE ? read_all(count, words) : status;
 }
 
 const subcommand report_subcommand = {
     "report",
-    "[FILE | -]..",
+    "[--jsonl | --csv | --count | --quiet] [--fields NAME,..]\n"
+    "           [FILE | -]..",
     "Shows reports, figure by figure",
     "  FILE         a file of reports; - or no word is standard input\n"
+    "  --jsonl      a JSON object for each report, on a line of its own, as it is read\n"
+    "  --csv        a table: a line of names, then a row for each observation\n"
+    "  --fields NAME,..\n"
+    "               these columns alone, in this order, for --csv and for --jsonl,\n"
+    "               whose objects are then one for each observation: file, report,\n"
+    "               offset, departure, arrival, designator, observation, kind,\n"
+    "               kind_in_words, latitude_change_minutes,\n"
+    "               longitude_change_minutes, time_since_seconds, latitude_minutes,\n"
+    "               latitude_degrees (or lat), longitude_minutes, longitude_degrees\n"
+    "               (or lon), seconds_into_month, day, time, altitude_feet (or\n"
+    "               altitude), temperature_celsius (or temperature),\n"
+    "               wind_direction_degrees (or wind_direction), wind_speed_knots (or\n"
+    "               wind_speed), gust_metres_per_second (or gust),\n"
+    "               vapour_grams_per_kilogram (or vapour), quality\n"
+    "  --count      the number of accepted reports alone\n"
+    "  --quiet      nothing but the exit status; files that cannot be read are told\n"
     "\n"
     "A report has 220 bytes, its CR LF line ends among them. Reports stand one\n"
     "behind the other; CR and LF bytes between them are passed over. One that is\n"
@@ -180,8 +160,10 @@ const subcommand report_subcommand = {
     "byte, and the others are still shown. A report that has lost or gained some\n"
     "bytes ends where the next seems to begin.\n"
     "\n"
-    "A missing figure is a dash. A later observation has changes since the one\n"
-    "before; where and when that comes to is shown beside them, as long as every\n"
-    "change up to it is given.\n",
+    "A missing figure is a dash; in a table it is empty, in JSON null. A later\n"
+    "observation has changes since the one before; where and when that comes to is\n"
+    "shown beside them, as long as every change up to it is given. Absent\n"
+    "observations have no row.\n",
     run,
+    0,
 };

@@ -1,5 +1,7 @@
 #include "settings.h"
 
+#include "box.h"
+
 #include <stdio.h>
 #include <string.h>
 
@@ -46,10 +48,9 @@ static void say_boxes(const char *what, const esk_boxes *boxes, const char *none
 {
     printf("%s%s:%s\n", indent, what, boxes->count == 0 ? none : "");
     for (int i = 0; i < boxes->count; i++) {
-        const esk_region *r = &boxes->regions[i];
-        printf("%s  %2d. from %d%c down to %d%c, from %d%c east to %d%c\n", indent, i + 1, r->north.degrees,
-               r->north.letter, r->south.degrees, r->south.letter, r->west.degrees, r->west.letter, r->east.degrees,
-               r->east.letter);
+        char box[BOX_ROOM];
+        name_box(&boxes->regions[i], BOX_IN_WORDS, box);
+        printf("%s  %2d. %s\n", indent, i + 1, box);
     }
 }
 
@@ -106,6 +107,28 @@ void say_section(const esk_settings *s, int k, const char *indent)
     case 8: printf("%s%s\n", indent, s->routine8 ? "yes" : "no"); break;
     case 9: say_hours(&s->hours, indent); break;
     }
+}
+
+static void say_flags(const esk_command *c)
+{
+    puts("flags");
+    for (int i = 0; i < FLAGS; i++)
+        printf("  %-14s %d  %s\n", flag_names[i], c->settings.flags[i], flag_in_words(i, c->settings.flags[i]));
+    printf("downlink         %d  %s\n", c->downlink, downlink_in_words(c->downlink));
+}
+
+void say_command(const esk_command *c)
+{
+    int sections = 0;
+    say_flags(c);
+    for (int k = 2; k <= 9; k++)
+        if (c->named[k - 2]) {
+            printf("section %d: %s\n", k, section_title(k));
+            say_section(&c->settings, k, "  ");
+            sections++;
+        }
+    if (sections == 0)
+        puts("no section is named");
 }
 
 int same_section(const esk_settings *one, const esk_settings *other, int k)

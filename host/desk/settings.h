@@ -16,11 +16,17 @@ const char *downlink_in_words(uint8_t digit);
 const char *section_title(int k);
 void say_section(const esk_settings *s, int k, const char *indent);
 
+/* All that a command says. */
+void say_command(const esk_command *c);
+
 /* Whether section k is the same in both. */
 int same_section(const esk_settings *one, const esk_settings *other, int k);
 
 /* The same as JSON: an object with this key. */
 void json_flags(const char *key, const esk_settings *s);
 void json_section(const char *key, const esk_settings *s, int k);
+
+/* A command's keys in the object that is open: flags, downlink, sections. */
+void json_command(const esk_command *c);
 
 #endif

@@ -1,22 +1,20 @@
+#include "box.h"
+#include "command_names.h"
 #include "json.h"
 #include "settings.h"
 
-#include <stdio.h>
-
 void json_flags(const char *key, const esk_settings *s)
 {
-    static const char *const keys[FLAGS] = {"amdar",  "inhibit_hours", "regions", "airports",
-                                            "ascent", "enroute",       "descent"};
     json_object(key);
     for (int i = 0; i < FLAGS; i++)
-        json_number(keys[i], s->flags[i]);
+        json_number(figure_names[i].key, s->flags[i]);
     json_close();
 }
 
 static void json_edge(const char *key, const esk_edge *edge)
 {
-    char word[8];
-    snprintf(word, sizeof word, "%d%c", edge->degrees, edge->letter);
+    char word[EDGE_ROOM];
+    name_edge(edge, word);
     json_word(key, word);
 }
 
@@ -42,47 +40,33 @@ static void json_airfields(const char *key, const esk_airfields *list)
     json_close();
 }
 
-static void json_airports(const esk_airports *a)
-{
-    json_airfields("ascent_selected", &a->selected.ascent);
-    json_airfields("descent_selected", &a->selected.descent);
-    json_airfields("ascent_inhibited", &a->inhibited.ascent);
-    json_airfields("descent_inhibited", &a->inhibited.descent);
-    json_number("routine", a->routine);
-}
-
-static void json_ascent(const esk_ascent *a)
-{
-    json_number("mode", a->mode);
-    json_number("series_1_interval_seconds", a->interval1);
-    json_number("series_1_duration_seconds", a->duration);
-    json_number("series_2_interval_seconds", a->interval2);
-    json_number("total_seconds", 10 * a->total);
-    json_number("top_feet", 100 * a->top);
-    json_number("list", a->list);
-    json_number("timer", a->timer);
-}
-
 void json_section(const char *key, const esk_settings *s, int k)
 {
+    esk_command c = {.settings = *s};
     json_object(key);
-    switch (k) {
-    case 2:
-        json_boxes("reporting", &s->regions.reporting);
-        json_boxes("inhibiting", &s->regions.inhibiting);
-        break;
-    case 3: json_airports(&s->airports); break;
-    case 4:
-        json_number("interval_minutes", s->enroute.interval);
-        json_number("maximum_wind", s->enroute.wind);
-        break;
-    case 5: json_ascent(&s->ascent); break;
-    case 6: json_number("routine", s->routine6); break;
-    case 8: json_number("routine", s->routine8); break;
-    case 9:
-        json_number("start_hour", s->hours.start);
-        json_number("end_hour", s->hours.end);
-        break;
-    }
+    for (int i = 0; i < LIST_NAMES; i++)
+        if (list_names[i].section == k) {
+            if (k == 2)
+                json_boxes(list_names[i].key, boxes_of(&c, &list_names[i]));
+            else
+                json_airfields(list_names[i].key, airfields_of(&c, &list_names[i]));
+        }
+    for (int i = 0; i < FIGURE_NAMES; i++)
+        if (figure_names[i].section == k)
+            json_number(figure_names[i].key, get_named(&c, &figure_names[i]) * figure_names[i].step);
+    json_close();
+}
+
+void json_command(const esk_command *c)
+{
+    char key[2] = "0";
+    json_flags("flags", &c->settings);
+    json_number("downlink", c->downlink);
+    json_object("sections");
+    for (int k = 2; k <= 9; k++)
+        if (c->named[k - 2]) {
+            key[0] = (char)('0' + k);
+            json_section(key, &c->settings, k);
+        }
     json_close();
 }

@@ -236,3 +236,25 @@ int refuse_plain(const char *about, subject kind, unsigned code, const char *wha
             what ? ": " : "", what ? what : "");
     return REFUSED;
 }
+
+int refuse_record(const char *about, subject kind, esk_answer a, const char *field, const char *because)
+{
+    if (as_json) {
+        json_object(NULL);
+        json_bool("accepted", 0);
+        json_word("about", about);
+        json_number("code", a.code);
+        json_number("place", (long long)a.place);
+        json_word("meaning", meaning(kind, a.code));
+        json_word("field", *field ? field : NULL);
+        json_word("because", *because ? because : NULL);
+        json_close();
+        return REFUSED;
+    }
+    char name[NAME_ROOM];
+    fflush(stdout);
+    fprintf(stderr, "eskelvor: %s: refused: code %u at byte %lu%s%s: %s\n", name_safely(about, name, sizeof name),
+            (unsigned)a.code, (unsigned long)a.place, *field ? ", " : "", field,
+            *because ? because : meaning(kind, a.code));
+    return REFUSED;
+}

@@ -47,6 +47,10 @@ int refuse_because(const origin *from, subject kind, esk_answer answer, const ui
 /* The same where there is no text to show: `what` is a few words on what is at fault, or NULL. */
 int refuse_plain(const char *about, subject kind, unsigned code, const char *what);
 
+/* A record is refused by its writer, so that there is a place and no text: `about` names the option or the part of a file
+ * that is at fault. */
+int refuse_record(const char *about, subject kind, esk_answer answer, const char *field, const char *because);
+
 /* What a code means, of such a text. */
 const char *meaning(subject kind, unsigned code);
 

@@ -1,5 +1,6 @@
 /* eskelvor why: why an aircraft reports or stays silent. */
 #include "board.h"
+#include "box.h"
 #include "json.h"
 #include "question.h"
 #include "settings.h"
@@ -10,23 +11,16 @@
 
 enum { SENTENCE = 160 };
 
-/* "60N to 40N, 10W to 5E" */
-static void name_box(const esk_region *r, char *to, size_t room)
-{
-    snprintf(to, room, "%d%c to %d%c, %d%c to %d%c", r->north.degrees, r->north.letter, r->south.degrees,
-             r->south.letter, r->west.degrees, r->west.letter, r->east.degrees, r->east.letter);
-}
-
 /* The reasons by position: inside a box, or outside of all. */
 static void name_where(const question *q, esk_explained e, char *to, size_t room)
 {
-    char position[48], box[40];
+    char position[48], box[BOX_ROOM];
     name_position(q, position, sizeof position);
     if (e.reason == ESK_WHY_NO_REPORTING_BOX) {
         snprintf(to, room, "at %s, outside every reporting box", position);
         return;
     }
-    name_box(&q->settings.regions.inhibiting.regions[e.number - 1], box, sizeof box);
+    name_box(&q->settings.regions.inhibiting.regions[e.number - 1], BOX_BRIEF, box);
     snprintf(to, room, "at %s, inside inhibiting box %d, %s", position, e.number, box);
 }
 
@@ -112,11 +106,11 @@ static void json_later(esk_explained now, const later *l)
 {
     json_word("designator", l->aircraft);
     if (l->length == 0) {
-        json_null("waiting");
+        json_null("waiting_text");
         json_null("after");
         return;
     }
-    json_text("waiting", l->text, l->length);
+    json_text("waiting_text", l->text, l->length);
     json_object("after");
     json_bool("changes", !is_same(now, l->e));
     json_reason(&l->q, l->e);
@@ -169,7 +163,8 @@ static int run(int count, char **words)
 {
     static later l;
     question q;
-    const option own[MORE_OPTIONS] = {{"--board", NULL, &l.file, NULL}, {"--aircraft", NULL, &l.aircraft, NULL}};
+    const option own[MORE_OPTIONS] = {VALUE_OPTION("--board", NULL, &l.file),
+                                      VALUE_OPTION("--aircraft", NULL, &l.aircraft)};
     int status = take_question(count, words, &q, own, MORE_OPTIONS);
     if (status != FINE)
         return status;
@@ -192,4 +187,5 @@ const subcommand why_subcommand = {
     QUESTION_HELP "  --board FILE        a board; says also what is so once the command that waits\n"
                   "  --aircraft NAME     on it for this aircraft is handed over; it still waits\n" QUESTION_NOTE,
     run,
+    0,
 };

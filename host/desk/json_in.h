@@ -1,0 +1,62 @@
+/*
+ * json_in.h: JSON read from a file, value by value, as RFC 8259 has it and nothing else.
+ *
+ * Nothing is kept of what was read, so that a file of any length takes the same memory. A reader asks for what is due:
+ * an object's next key, a list's next item, a string, a number. What is not there, a key that is not known or stands in
+ * an object twice, and nesting too deep are told once, with line and column, both from 1; from then on every call gives
+ * "no more", and `status` is TROUBLE.
+ */
+#ifndef DESK_JSON_IN_H
+#define DESK_JSON_IN_H
+
+#include <stddef.h>
+#include <stdio.h>
+
+enum { JSON_DEEPEST = 16 };
+
+typedef struct json_in {
+    FILE *from;
+    const char *name;           /* of the file, as it is told */
+    int here;                   /* the byte that is due, EOF behind the last */
+    unsigned long line, column; /* of that byte */
+    unsigned long value_line, value_column; /* where the value or key that was read last begins */
+    int depth;
+    int status;
+} json_in;
+
+void json_in_begin(json_in *in, FILE *from, const char *name);
+
+/* Whether another value stands at the top, behind any spaces. */
+int json_in_more(json_in *in);
+
+/* Enters an object or a list; gives whether it is one. */
+int json_in_object(json_in *in);
+int json_in_list(json_in *in);
+
+/* The next key of an object: its number among the `keys`, which NULL ends, at most 63; -1 where the object ends. `seen`
+ * is 0 before the first, and holds the keys that were there, a bit each. */
+int json_in_key(json_in *in, const char *const *keys, unsigned long long *seen);
+
+/* Whether another item of a list is due; `items`, 0 before the first, counts them. The list is left where it ends. */
+int json_in_item(json_in *in, unsigned long *items);
+
+/* A string: `room` bytes of it at most are put there, and the length is all that it has. What is written \u0000 to
+ * \u00ff is one byte, as json.h writes texts; a letter beyond that and not in UTF-8 is a byte 0x1a. */
+int json_in_string(json_in *in, char *to, size_t room, size_t *length);
+
+int json_in_bool(json_in *in, int *yes);
+
+/* A number as a count of steps, `places` digits behind the point and `step` of its units to one; one that falls between
+ * two steps is wrong. What is far outside any range stays outside. */
+int json_in_number(json_in *in, int places, long step, long *number);
+
+/* Whether the value that is due is null, which is then read. */
+int json_in_null(json_in *in);
+
+/* Passes over a value of any kind. */
+int json_in_skip(json_in *in);
+
+/* Tells that the value or key that was read last is wrong. Gives 0. */
+int json_in_wrong(json_in *in, const char *format, ...);
+
+#endif
