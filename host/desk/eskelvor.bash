@@ -1,0 +1,79 @@
+# Completion of the desk program's words for bash. It is read where bash-completion looks for it, or by hand:
+#
+#   . eskelvor.bash
+#
+# The subcommands and options are those that `eskelvor help --list` names; the desk program's tests hold the two against
+# each other.
+
+# The options of a subcommand.
+_eskelvor_options() {
+    local text='--text --exact' asked='--config -c --phase --lat --lon --hour --airfield'
+    case $1 in
+    report) echo '--jsonl --csv --fields --count --quiet' ;;
+    check | join) echo "$text" ;;
+    explain) echo "$text --options" ;;
+    compose)
+        echo '--config -c --amdar --inhibit-hours --regions --airports --ascent --enroute --descent --downlink'
+        echo '--reporting-box --inhibiting-box --selected-for-ascent --selected-for-descent --inhibited-for-ascent'
+        echo '--inhibited-for-descent --routine-instead --report-every --maximum-wind --samples-by --series-1-every'
+        echo '--series-1-for --series-2-every --series-2-until --top --level-list --timer --routine-in-ascent'
+        echo '--routine-in-descent --hours'
+        ;;
+    apply) echo "--config -c --out -o --wait $text" ;;
+    decide) echo "$asked $text" ;;
+    why) echo "$asked $text --board --aircraft" ;;
+    board) echo "--wait --to $text" ;;
+    help) echo '--list' ;;
+    esac
+    echo '--json --help'
+}
+
+# The values of an option that has few.
+_eskelvor_values() {
+    case $1 in
+    --amdar | --inhibit-hours | --regions | --airports | --ascent | --enroute | --descent) echo 'on off no-change' ;;
+    --downlink) echo 'nothing flags configuration' ;;
+    --routine-instead | --maximum-wind | --routine-in-ascent | --routine-in-descent) echo 'yes no' ;;
+    --samples-by) echo 'time pressure-level' ;;
+    --level-list) echo '1 2' ;;
+    --timer) echo 'on off' ;;
+    --reporting-box | --inhibiting-box | --selected-for-ascent | --selected-for-descent | --inhibited-for-ascent | \
+        --inhibited-for-descent | --hours) echo 'none' ;;
+    --phase) echo 'ascent level descent' ;;
+    --fields)
+        echo 'file report offset departure arrival designator observation kind kind_in_words latitude_change_minutes'
+        echo 'longitude_change_minutes time_since_seconds latitude_minutes latitude_degrees lat longitude_minutes'
+        echo 'longitude_degrees lon seconds_into_month day time altitude_feet altitude temperature_celsius temperature'
+        echo 'wind_direction_degrees wind_direction wind_speed_knots wind_speed gust_metres_per_second gust'
+        echo 'vapour_grams_per_kilogram vapour quality'
+        ;;
+    esac
+}
+
+_eskelvor_subcommands='report check explain compose join apply decide why packed board night help'
+
+_eskelvor() {
+    local current=${COMP_WORDS[COMP_CWORD]} before=${COMP_WORDS[COMP_CWORD - 1]} subcommand='' at words lead=''
+    for ((at = 1; at < COMP_CWORD; at++)); do
+        [[ ${COMP_WORDS[at]} == --json ]] && continue
+        subcommand=${COMP_WORDS[at]}
+        break
+    done
+    if [[ -z $subcommand ]]; then
+        words="$_eskelvor_subcommands --json --help --version"
+    elif [[ $current == -* && $current != - ]]; then
+        words=$(_eskelvor_options "$subcommand")
+    else
+        words=$(_eskelvor_values "$before")
+        case $subcommand:$((COMP_CWORD - at)):$words in
+        board:2:) words='create add take return list check grow' ;;
+        packed:1:) words='read write' ;;
+        help:1:) words=$_eskelvor_subcommands ;;
+        esac
+    fi
+    # Names of --fields are parted by commas: what stands before the last stays.
+    [[ $before == --fields && $current == *,* ]] && lead=${current%,*},
+    mapfile -t COMPREPLY < <(compgen -P "$lead" -W "$words" -- "${current#"$lead"}")
+}
+
+complete -o default -F _eskelvor eskelvor
