@@ -25,6 +25,7 @@ typedef struct object {
     int accepted;
     draft d;
     esk_report r;
+    json_place begin;
     char where[NAME_ROOM + 64];
 } object;
 
@@ -67,11 +68,12 @@ static int read_box(json_in *in, esk_region *box)
     int i;
     if (!json_in_object(in))
         return 0;
+    json_place begin = in->value;
     while ((i = json_in_key(in, keys, &seen)) >= 0 && read_edge(in, edges[i]))
         ;
     if (in->status != FINE)
         return 0;
-    return seen == 15 ? 1 : json_in_wrong(in, "a box has north, south, west and east");
+    return seen == 15 ? 1 : json_in_wrong_at(in, begin, "a box has north, south, west and east");
 }
 
 static int read_airfield(json_in *in, char name[4])
@@ -126,6 +128,7 @@ static int read_section(json_in *in, draft *d, int k)
     section_keys s = keys_of(k);
     unsigned long long seen = 0;
     int i, fine = json_in_object(in);
+    json_place begin = in->value;
     while (fine && (i = json_in_key(in, s.keys, &seen)) >= 0) {
         long value;
         if (s.lists[i] >= 0)
@@ -135,7 +138,7 @@ static int read_section(json_in *in, draft *d, int k)
     }
     for (i = 0; i < s.count && in->status == FINE; i++)
         if (!(seen >> i & 1))
-            return json_in_wrong(in, "section %d, which is replaced whole, lacks %s", k, s.keys[i]);
+            return json_in_wrong_at(in, begin, "section %d, which is replaced whole, lacks %s", k, s.keys[i]);
     return in->status == FINE;
 }
 
@@ -195,7 +198,7 @@ static int write_object_report(json_in *in, const object *o)
     uint8_t out[ESK_REPORT_BYTES];
     for (int key = DEPARTURE; key <= OBSERVATIONS; key++)
         if (!has(o, key)) {
-            json_in_wrong(in, "a report's object lacks %s", object_keys[key]);
+            json_in_wrong_at(in, o->begin, "a report's object lacks %s", object_keys[key]);
             return in->status;
         }
     int status = write_report(&o->r, o->where, out);
@@ -235,7 +238,8 @@ static int read_object(json_in *in, int at_top)
     memset(&o, 0, sizeof o);
     o.accepted = 1;
     o.d = draft_begin(o.where);
-    snprintf(o.where, sizeof o.where, "%s, line %lu, column %lu", in->name, in->value_line, in->value_column);
+    o.begin = in->value;
+    snprintf(o.where, sizeof o.where, "%s, line %lu, column %lu", in->name, o.begin.line, o.begin.column);
     while (fine && (key = json_in_key(in, object_keys, &o.seen)) >= 0) {
         unsigned long items = 0;
         if (key != RESULTS)
@@ -246,7 +250,7 @@ static int read_object(json_in *in, int at_top)
             while (json_in_item(in, &items) && !ferror(stdout))
                 status = worse(status, read_object(in, 0));
     }
-    if (in->status != FINE)
+    if (in->status != FINE || (at_top && !json_in_end(in)))
         return TROUBLE;
     if (has(&o, RESULTS) && !(o.seen & ((1ULL << RESULT_KEYS) - 2)))
         return status;

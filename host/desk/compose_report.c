@@ -87,6 +87,7 @@ static int read_observation(json_in *in, int number, esk_observation *o)
     observation_keys k = all_keys();
     unsigned long long seen = 0;
     int key, yes = 1, fine = json_in_object(in);
+    json_place begin = in->value;
     while (fine && (key = json_in_key(in, k.keys, &seen)) >= 0)
         fine = key == 0 ? json_in_bool(in, &yes) : read_column(in, &columns[first_own_column + key - 1], number, o);
     if (in->status != FINE)
@@ -94,7 +95,7 @@ static int read_observation(json_in *in, int number, esk_observation *o)
     o->present = (uint16_t)yes;
     for (int i = 1; i < k.count && yes; i++)
         if (!(seen >> i & 1) && is_needed(&columns[first_own_column + i - 1], number))
-            return json_in_wrong(in, "observation %d lacks %s; a missing figure is null", number, k.keys[i]);
+            return json_in_wrong_at(in, begin, "observation %d lacks %s; a missing figure is null", number, k.keys[i]);
     return 1;
 }
 
@@ -103,13 +104,16 @@ int read_observations(json_in *in, esk_report *to)
     unsigned long items = 0;
     if (!json_in_list(in))
         return 0;
+    json_place begin = in->value;
     while (json_in_item(in, &items)) {
         if (items > OBSERVATIONS)
             return json_in_wrong(in, "a report has %d observations at most", OBSERVATIONS);
         if (!read_observation(in, (int)items, items == 1 ? &to->first : &to->later[items - 2]))
             return 0;
     }
-    return in->status == FINE && items == 0 ? json_in_wrong(in, "a report has an observation") : in->status == FINE;
+    if (in->status == FINE && items == 0)
+        return json_in_wrong_at(in, begin, "a report has an observation at least");
+    return in->status == FINE;
 }
 
 /* What stood at a field of the record, and what may. */

@@ -14,11 +14,11 @@ enum { SUBSTITUTE = 0x1a, KEY_ROOM = 64 };
 static void step(json_in *in)
 {
     if (in->here == '\n') {
-        in->line++;
-        in->column = 0;
+        in->at.line++;
+        in->at.column = 0;
     }
     in->here = getc(in->from);
-    in->column++;
+    in->at.column++;
 }
 
 void json_in_begin(json_in *in, FILE *from, const char *name)
@@ -26,27 +26,27 @@ void json_in_begin(json_in *in, FILE *from, const char *name)
     memset(in, 0, sizeof *in);
     in->from = from;
     in->name = name;
-    in->line = 1;
+    in->at.line = 1;
     step(in);
 }
 
-static int tell_wrong(json_in *in, unsigned long line, unsigned long column, const char *message)
+static int tell_wrong(json_in *in, json_place at, const char *message)
 {
     if (in->status == FINE && ferror(in->from))
         in->status = failed(in->name, "read");
     else if (in->status == FINE)
-        in->status = trouble(in->name, "line %lu, column %lu: %s", line, column, message);
+        in->status = trouble(in->name, "line %lu, column %lu: %s", at.line, at.column, message);
     return 0;
 }
 
-int json_in_wrong(json_in *in, const char *format, ...)
+int json_in_wrong_at(json_in *in, json_place at, const char *format, ...)
 {
     char message[300];
     va_list values;
     va_start(values, format);
     vsnprintf(message, sizeof message, format, values);
     va_end(values);
-    return tell_wrong(in, in->value_line, in->value_column, message);
+    return tell_wrong(in, at, message);
 }
 
 /* The byte that is due is not the one that is there. */
@@ -59,7 +59,7 @@ static int not_json(json_in *in, const char *due)
         snprintf(message, sizeof message, "the text ends here, and %s is due", due);
     else
         snprintf(message, sizeof message, "%s stands here, and %s is due", there, due);
-    return tell_wrong(in, in->line, in->column, message);
+    return tell_wrong(in, in->at, message);
 }
 
 static void spaces(json_in *in)
@@ -72,8 +72,7 @@ static void spaces(json_in *in)
 static void at_value(json_in *in)
 {
     spaces(in);
-    in->value_line = in->line;
-    in->value_column = in->column;
+    in->value = in->at;
 }
 
 int json_in_more(json_in *in)
@@ -83,7 +82,15 @@ int json_in_more(json_in *in)
     at_value(in);
     if (in->here != EOF)
         return 1;
-    return ferror(in->from) ? tell_wrong(in, 0, 0, "") : 0;
+    return ferror(in->from) ? tell_wrong(in, in->at, "") : 0;
+}
+
+int json_in_end(json_in *in)
+{
+    if (in->status != FINE)
+        return 0;
+    spaces(in);
+    return in->here == EOF || in->here == '{' ? 1 : not_json(in, "another object, or the text's end,");
 }
 
 static int enter(json_in *in, int opener, const char *due)
@@ -183,7 +190,7 @@ static size_t wide(json_in *in, char to[4])
         step(in);
     } while (length < 4 && in->here >= 0x80 && in->here < 0xc0);
     if (letter_length(bytes, length) != length) {
-        tell_wrong(in, in->line, in->column, "the bytes before this are no letter in UTF-8");
+        tell_wrong(in, in->at, "the bytes before this are no letter in UTF-8");
         return 0;
     }
     memcpy(to, bytes, length);
@@ -248,7 +255,7 @@ static int no_such_key(json_in *in, const char *const *keys, const char *key, si
         at += (size_t)snprintf(all + at, sizeof all - at, "%s%s", i ? ", " : "", keys[i]);
     char message[1600];
     snprintf(message, sizeof message, "no such key here: %s; there are %s", name, all);
-    tell_wrong(in, in->value_line, in->value_column, message);
+    tell_wrong(in, in->value, message);
     return -1;
 }
 

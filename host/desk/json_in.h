@@ -14,12 +14,17 @@
 
 enum { JSON_DEEPEST = 16 };
 
+/* A byte's place in the text. */
+typedef struct json_place {
+    unsigned long line, column;
+} json_place;
+
 typedef struct json_in {
     FILE *from;
-    const char *name;           /* of the file, as it is told */
-    int here;                   /* the byte that is due, EOF behind the last */
-    unsigned long line, column; /* of that byte */
-    unsigned long value_line, value_column; /* where the value or key that was read last begins */
+    const char *name; /* of the file, as it is told */
+    int here;         /* the byte that is due, EOF behind the last */
+    json_place at;    /* of that byte */
+    json_place value; /* where the value or key that was entered or read last begins */
     int depth;
     int status;
 } json_in;
@@ -28,6 +33,9 @@ void json_in_begin(json_in *in, FILE *from, const char *name);
 
 /* Whether another value stands at the top, behind any spaces. */
 int json_in_more(json_in *in);
+
+/* Whether an object at the top ends there: behind it is another, or nothing. */
+int json_in_end(json_in *in);
 
 /* Enters an object or a list; gives whether it is one. */
 int json_in_object(json_in *in);
@@ -56,7 +64,8 @@ int json_in_null(json_in *in);
 /* Passes over a value of any kind. */
 int json_in_skip(json_in *in);
 
-/* Tells that the value or key that was read last is wrong. Gives 0. */
-int json_in_wrong(json_in *in, const char *format, ...);
+/* Tells that the value or key at a place is wrong, or the one that was entered or read last. Gives 0. */
+int json_in_wrong_at(json_in *in, json_place at, const char *format, ...);
+#define json_in_wrong(in, ...) json_in_wrong_at(in, (in)->value, __VA_ARGS__)
 
 #endif

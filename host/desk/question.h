@@ -20,6 +20,7 @@ typedef struct question {
     "  -c, --config FILE   the aircraft's configuration; without it, the one after\n" \
     "                      reset\n" \
     "  COMMAND..           applied to it first; it is not kept\n" \
+    "  --text, --exact     commands as for eskelvor check\n" \
     "  --phase PHASE       ascent, level or descent\n" \
     "  --lat LAT           degrees, 37.5S or -37.5; degrees and minutes, 37:30S;\n" \
     "                      minutes, 2250mS or -2250m\n" \

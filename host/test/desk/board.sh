@@ -38,7 +38,50 @@ out_is 'b: valid, 2 of 2 slots used' "  slot  1  XY0001   31 bytes  $both" "  sl
 answers 0 'what waits, for a machine' board b list --json
 json_has results.0.slots=2 results.0.used=2 results.0.waiting.1.slot=2 results.0.waiting.1.designator=XY0002 \
     results.0.waiting.0.text=$both status=0
+answers 0 'what waits for one aircraft, in words' board b list XY0002
+out_is "slot 2  XY0002  31 bytes  $both" flags '  AMDAR          1  on' \
+    '  inhibit hours  1  on: silent in the hours of section 9' \
+    '  regions        9  no change' '  airports       9  no change' '  ascent         9  no change' \
+    '  enroute        9  no change' '  descent        9  no change' \
+    'downlink         1  the flags are sent down' \
+    'section 4: level flight' '  a report every 30 minutes' '  reports of the maximum wind: no' \
+    'section 9: the hours of silence' '  from 23:00 up to 01:00, over midnight'
+answers 0 'the same for a machine' board b list --json XY0002
+json_has results.0.slot=2 results.0.designator=XY0002 results.0.length=31 results.0.text=$both results.0.flags.amdar=1 \
+    results.0.downlink=1 results.0.sections.4.interval_minutes=30 results.0.sections.9.end_hour=1 status=0
+answers 1 'nothing waits for it' board b list XY0003
+err_is 'eskelvor: XY0003: refused: code 11 at byte 0: nothing waits for that aircraft'
+answers 1 'no designator' board b list XY3
+err_has "XY3: $six"
+answers 2 'two of them' board b list XY0001 XY0002
 cmp -s b before || fail 'looking changed the board'
+
+# More slots: all that waits stays, in its slot
+cp b grown
+answers 0 'a larger board' board grown grow 64
+out_is 'grown: a board of 64 slots, before 2; 2 are used'
+answers 0 'with the same texts in the same slots' board grown list
+out_is 'grown: valid, 2 of 64 slots used' "  slot  1  XY0001   31 bytes  $both" "  slot  2  XY0002   31 bytes  $both"
+answers 0 'and room for more' board grown add XY0003 $first
+answers 0 'in the next slot' board grown list XY0003
+out_has "slot 3  XY0003  26 bytes  $first"
+cp grown before-grow
+answers 2 'it is not made smaller' board grown grow 63
+err_is 'eskelvor: grown: it has 64 slots, and is not made smaller'
+answers 2 'nor larger than a board may be' board grown grow 65
+err_is 'eskelvor: grow: give the number of slots, 0 to 64'
+answers 2 'without a number' board grown grow
+cmp -s grown before-grow || fail 'a refused growth changed the board'
+answers 0 'as large as it is' board grown grow 64 --json
+json_has results.0.slots=64 results.0.slots_before=64 results.0.used=3 status=0
+cmp -s grown before-grow || fail 'the same size, and another board'
+answers 2 'a board that is not there' board nowhere grow 3
+[ ! -e nowhere ] || fail 'it was made'
+printf 'something else' >other
+answers 1 'what is no board' board other grow 3
+[ "$(cat other)" = 'something else' ] || fail 'it was written over'
+[ ! -e .other.eskelvor-lock ] || fail 'it has a lock file'
+rm grown other
 
 answers 0 'handed over, and nothing else on standard output' board b take XY0001
 out_is $both
@@ -62,7 +105,7 @@ answers 1 'and takes nothing' board none add XY0001 $first
 err_has 'code 9'
 for slip in 'b' 'b create' 'c create 65' 'c create -1' 'c create two' 'b add XY0001' 'b take' 'b take A B' \
     'b return XY0001' 'b burn' \
-    'b list x' '--wait soon b list'; do
+    'b list XY0001 x' '--wait soon b list'; do
     # shellcheck disable=SC2086
     answers 2 "a slip: $slip" board $slip
 done

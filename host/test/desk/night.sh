@@ -35,7 +35,7 @@ for aircraft in AU0137 AU0245 NZ7001 NZ7002; do
 done
 
 answers 0 'for a machine' night --json
-json_has results.0.event=add results.0.designator=AU0137 results.0.code=0 results.0.waiting=22 results.8.code=9 \
+json_has results.0.event=add results.0.designator=AU0137 results.0.code=0 results.0.length=22 results.8.code=9 \
     results.12.code=4 results.12.place=37 results.29.event=hand-over results.29.as_the_desk_shows=true \
     'results.35.event=old queue' results.35.as_the_desk_shows=false \
     results.37.differs.0.flag=airports results.37.differs.0.holds=0 results.37.differs.0.shown=1 \

@@ -1,7 +1,7 @@
 /*
  * Files that are kept: what is left of a board's file when the program is killed, or a call of the system fails, at
- * each step of an add, a taking, a return and a creation; every bit of a board's file flipped, every length cut; the
- * same for a configuration's.
+ * each step of an add, a taking, a return, a growth and a creation; every bit of a board's file flipped, every length cut;
+ * the same for a configuration's.
  *
  * The calls of the system that put a file in place are stood in for here, each by a sibling that does the same, so that
  * the one of a given number can kill the process or fail.
@@ -223,6 +223,22 @@ static int stopped_create(long step, int how)
     return status;
 }
 
+/* A growth that stops at a step: the board has its old slots or the new ones, and the text waits. */
+static int stopped_grow(long step, int how)
+{
+    static board b;
+    fresh_board(BOTH);
+    int status = call(step, how, "grow", "9", NULL);
+    int told = strstr(said(), "a board of 9 slots") != NULL;
+    HOLD(strcmp(waiting(), BOTH) == 0, "what waits stays");
+    HOLD(board_read(file, &b) == FINE && (b.n == 2 || b.n == 9), "the old slots, or the new ones");
+    HOLD(!told || b.n == 9, "it is told once it is on disk");
+    HOLD(status != FINE || told, "status 0 where it was told");
+    HOLD(call(-1, KILLED, "grow", "9", NULL) == FINE, "the next writer finds all in order");
+    HOLD(strcmp(waiting(), BOTH) == 0, "and what waits stays");
+    return status;
+}
+
 /* Every step in turn, until one lies behind the last: then nothing stops. */
 static long each_step(int (*stopped)(long, int), int how)
 {
@@ -241,9 +257,10 @@ static void stops_anywhere(void)
     for (int how = KILLED; how <= BROKEN; how++) {
         long add = each_step(stopped_add, how), take = each_step(stopped_take, how);
         long create = each_step(stopped_create, how), back = each_step(stopped_return, how);
-        long into = each_step(stopped_take_to, how);
-        HOLD(add >= 6 && take >= 7 && create >= 6 && back >= 6 && into >= 13, "there are steps");
-        printf("test_keep: stopped at each of %ld steps of a return, %ld of a taking into a file\n", back, into);
+        long into = each_step(stopped_take_to, how), grow = each_step(stopped_grow, how);
+        HOLD(add >= 6 && take >= 7 && create >= 6 && back >= 6 && into >= 13 && grow >= 6, "there are steps");
+        printf("test_keep: stopped at each of %ld steps of a return, %ld of a taking into a file, %ld of a growth\n", back,
+               into, grow);
         printf("test_keep: stopped at each of %ld steps of an add, %ld of a taking, %ld of a creation (%s)\n", add,
                take, create, how == KILLED ? "killed" : how == NO_SPACE ? "disk full" : "disk broken");
     }

@@ -123,7 +123,7 @@ reports by the ascent scheme after what waits for XY0001 is handed over: the asc
     err_is
     answers 0 'the same for a machine' why --json $asked $waits AWR049999099000006000/0/
     json_has results.0.decision=silent results.0.reason=7 results.0.number=5 results.0.designator=XY0001 \
-        results.0.waiting=AWR049999199000000000/ results.0.after.changes=true results.0.after.decision=scheme \
+        results.0.waiting_text=AWR049999199000000000/ results.0.after.changes=true results.0.after.decision=scheme \
         results.0.after.reason=5 results.0.after.number=5 'results.0.after.why=the ascent flag is 1' status=0
     answers 0 'what waits changes nothing here' why $asked $waits
     out_is 'reports by the ascent scheme now: the ascent flag is 1
@@ -134,7 +134,7 @@ no change after what waits for XY0001 is handed over'
     out_is 'reports by the ascent scheme now: the ascent flag is 1
 nothing waits for XY0002'
     answers 0 'nothing waits, for a machine' why --json $asked --board tonight --aircraft XY0002
-    json_has results.0.designator=XY0002 results.0.waiting=null results.0.after=null status=0
+    json_has results.0.designator=XY0002 results.0.waiting_text=null results.0.after=null status=0
     answers 0 'silent by its flag now, by AMDAR afterwards' why $asked --board tonight --aircraft XY0003 \
         AWR049999099000006000/0/
     out_is 'silent now: the ascent flag is 0
