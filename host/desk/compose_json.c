@@ -7,9 +7,14 @@
 
 #include <string.h>
 
-/* The keys of an object. Those behind RESULT_KEYS say where its text came from, or follow from the others: they are passed
- * over. */
-enum { RESULTS, ACCEPTED, FAILURE, FLAGS_KEY, DOWNLINK, SECTIONS, DEPARTURE, ARRIVAL, DESIGNATOR, OBSERVATIONS, RESULT_KEYS };
+/* The keys of an object. Those behind RESULT_KEYS say where its text came from, or follow from the others: they are
+ * passed over. */
+enum {
+    RESULTS, ACCEPTED, FAILURE,             /* of any */
+    FLAGS_KEY, DOWNLINK, SECTIONS,          /* of a command */
+    DEPARTURE, ARRIVAL, DESIGNATOR, OBSERVATIONS, /* of a report */
+    RESULT_KEYS
+};
 
 static const char *const object_keys[] = {
     "results",    "accepted", "error",   "flags", "downlink", "sections", "departure", "arrival",

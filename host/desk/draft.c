@@ -111,8 +111,10 @@ static int list_at(const record_place *at)
 /* Of a box: the edge at fault and what may stand there; or how two edges disagree; or how zero is spelt. */
 static void word_box(const esk_region *r, const record_place *at, unsigned code, char *to, size_t room)
 {
-    const esk_edge *e = at->offset == 0 ? &r->north : at->offset == 3 ? &r->south : at->offset == 6 ? &r->west : &r->east;
     int latitude = at->offset < 6;
+    const esk_edge *e = latitude ? &r->north : &r->west;
+    if (at->offset == 3 || at->offset == 10)
+        e = latitude ? &r->south : &r->east;
     char edge[EDGE_ROOM], box[BOX_ROOM];
     name_edge(e, edge);
     name_box(r, BOX_TYPED, box);

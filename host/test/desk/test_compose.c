@@ -28,19 +28,21 @@ static char folder[] = "/tmp/eskelvor-compose-XXXXXX";
 static char from[64], to[64];
 
 static const char command[] =
-    "{\"accepted\":true,\"file\":null,\"command\":1,\"code\":0,\"length\":22,\"text\":\"AWR\\u0030\",\"flags\":{\"amdar\":1,"
-    "\"inhibit_hours\":9},\"downlink\":2,\"sections\":{\"2\":{\"reporting\":[{\"north\":\"10S\",\"south\":\"45S\",\"west\":"
-    "\"110E\",\"east\":\"155E\"}],\"inhibiting\":[]},\"3\":{\"ascent_selected\":[\"YMML\"],\"descent_selected\":[],"
-    "\"ascent_inhibited\":[],\"descent_inhibited\":[\"YPAD\",\"AB12\"],\"routine\":1},\"4\":{\"interval_minutes\":7,"
+    "{\"accepted\":true,\"file\":null,\"command\":1,\"code\":0,\"length\":22,\"text\":\"AWR\\u0030\","
+    "\"flags\":{\"amdar\":1,\"inhibit_hours\":9},\"downlink\":2,\"sections\":{\"2\":{\"reporting\":[{"
+    "\"north\":\"10S\",\"south\":\"45S\",\"west\":\"110E\",\"east\":\"155E\"}],\"inhibiting\":[]},"
+    "\"3\":{\"ascent_selected\":[\"YMML\"],\"descent_selected\":[],\"ascent_inhibited\":[],"
+    "\"descent_inhibited\":[\"YPAD\",\"AB12\"],\"routine\":1},\"4\":{\"interval_minutes\":7,"
     "\"maximum_wind\":1},\"9\":{\"start_hour\":23,\"end_hour\":1}}}\n";
 
 static const char written_command[] = "AWR041999999223400009/0110S45S110E155E00/01YMML000002YPADAB121/071/2301/\n";
 
 static const char report[] =
-    "{\"subcommand\":\"report\",\"results\":[\n{\"departure\":\"ABCD\",\"arrival\":\"EFGH\",\"designator\":\"XY0001\","
-    "\"observations\":[{\"observation\":1,\"present\":true,\"kind\":\"A\",\"latitude_minutes\":-12.0,\"longitude_minutes\":"
-    "1e1,\"seconds_into_month\":0,\"altitude_feet\":-1000,\"temperature_celsius\":-27.5,\"wind_direction_degrees\":null,"
-    "\"wind_speed_knots\":null,\"gust_metres_per_second\":0.1,\"vapour_grams_per_kilogram\":31.999,\"quality\":\"/\"}]}\n],"
+    "{\"subcommand\":\"report\",\"results\":[\n{\"departure\":\"ABCD\",\"arrival\":\"EFGH\","
+    "\"designator\":\"XY0001\",\"observations\":[{\"observation\":1,\"present\":true,\"kind\":\"A\","
+    "\"latitude_minutes\":-12.0,\"longitude_minutes\":1e1,\"seconds_into_month\":0,\"altitude_feet\":-1000,"
+    "\"temperature_celsius\":-27.5,\"wind_direction_degrees\":null,\"wind_speed_knots\":null,"
+    "\"gust_metres_per_second\":0.1,\"vapour_grams_per_kilogram\":31.999,\"quality\":\"/\"}]}\n],"
     "\"status\":0}\n";
 
 static const char written_report[] = "ABCDEFGH\r\nAMDAR3XY0001\r\nA  8  U    K HKD5//// L.../";

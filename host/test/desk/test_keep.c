@@ -1,7 +1,7 @@
 /*
  * Files that are kept: what is left of a board's file when the program is killed, or a call of the system fails, at
- * each step of an add, a taking, a return, a growth and a creation; every bit of a board's file flipped, every length cut;
- * the same for a configuration's.
+ * each step of an add, a taking, a return, a growth and a creation; every bit of a board's file flipped, every length
+ * cut; the same for a configuration's.
  *
  * The calls of the system that put a file in place are stood in for here, each by a sibling that does the same, so that
  * the one of a given number can kill the process or fail.
@@ -259,8 +259,8 @@ static void stops_anywhere(void)
         long create = each_step(stopped_create, how), back = each_step(stopped_return, how);
         long into = each_step(stopped_take_to, how), grow = each_step(stopped_grow, how);
         HOLD(add >= 6 && take >= 7 && create >= 6 && back >= 6 && into >= 13 && grow >= 6, "there are steps");
-        printf("test_keep: stopped at each of %ld steps of a return, %ld of a taking into a file, %ld of a growth\n", back,
-               into, grow);
+        printf("test_keep: stopped at each of %ld steps of a return, %ld of a taking into a file, %ld of a growth\n",
+               back, into, grow);
         printf("test_keep: stopped at each of %ld steps of an add, %ld of a taking, %ld of a creation (%s)\n", add,
                take, create, how == KILLED ? "killed" : how == NO_SPACE ? "disk full" : "disk broken");
     }
