@@ -11,7 +11,7 @@
 #include <stdio.h>
 #include <string.h>
 
-enum { SHARED = 2 };
+enum { SHARED = 2, NUMBER_MOST = 1000000 }; /* the options of no figure; the most that is taken for a number */
 
 static draft made;
 
@@ -38,22 +38,12 @@ static int not_taken(const char *option, const char *word, const char *range)
     return trouble(option, "%s is not %s", name_safely(word, name, sizeof name), range);
 }
 
-/* A whole number without a sign, or -1. What is far outside any range stays outside. */
-static long number_of(const char *word)
-{
-    long number = 0;
-    const char *at = word;
-    for (; *at >= '0' && *at <= '9'; at++)
-        number = number > 1000000 ? number : 10 * number + (*at - '0');
-    return at == word || *at != 0 ? -1 : number;
-}
-
 /* The value of one figure. */
 static int take_figure(void *with, const char *word)
 {
     int i = *(const int *)with;
     const figure_name *f = &figure_names[i];
-    long number = f->words ? value_of_word(f->words, word) : number_of(word);
+    long number = f->words ? value_of_word(f->words, word) : whole_number(word, 0, NUMBER_MOST);
     if (number < 0 || number % f->step != 0)
         return not_taken(f->option, word, f->range);
     if (made.given[i])
@@ -65,7 +55,7 @@ static int take_figure(void *with, const char *word)
 /* Two numbers with these texts before, between and behind them. */
 static int is_pair(const char *word, const char *const texts[3], long numbers[2])
 {
-    char digits[8];
+    char digits[7];
     for (int i = 0; i < 3; i++) {
         size_t length = strlen(texts[i]);
         if (strncmp(word, texts[i], length) != 0)
@@ -78,7 +68,7 @@ static int is_pair(const char *word, const char *const texts[3], long numbers[2]
             return 0;
         memcpy(digits, word, length);
         digits[length] = 0;
-        numbers[i] = number_of(digits);
+        numbers[i] = whole_number(digits, 0, NUMBER_MOST);
         word += length;
     }
     return 0;
