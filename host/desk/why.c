@@ -112,7 +112,7 @@ static void json_later(esk_explained now, const later *l)
     }
     json_text("waiting_text", l->text, l->length);
     json_object("after");
-    json_bool("changes", !is_same(now, l->e));
+    json_bool("changed", !is_same(now, l->e));
     json_reason(&l->q, l->e);
     json_close();
 }

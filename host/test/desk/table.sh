@@ -23,6 +23,12 @@ c.report'
 answers 0 'a name with a comma, a quote and a line end' report --csv --fields file,kind 'a,"b
 c.report'
 out_is file,kind '"a,""b' 'c.report",R' '"a,""b' 'c.report",R'
+for name in 'a,b' 'a"b' "$(printf 'a\nb')" "$(printf 'a\rb')"; do
+    cp one.report "$name"
+    answers 0 'each of them alone' report --csv --fields file,kind "$name"
+    quoted=$(printf %s "$name" | sed 's/"/""/g')
+    out_is file,kind "\"$quoted\",R" "\"$quoted\",R"
+done
 
 answers 0 'chosen columns, in the order asked for, under the names asked for' report --csv \
     --fields temperature,lon,lat,latitude_minutes,designator one.report

@@ -123,13 +123,13 @@ reports by the ascent scheme after what waits for XY0001 is handed over: the asc
     err_is
     answers 0 'the same for a machine' why --json $asked $waits AWR049999099000006000/0/
     json_has results.0.decision=silent results.0.reason=7 results.0.number=5 results.0.designator=XY0001 \
-        results.0.waiting_text=AWR049999199000000000/ results.0.after.changes=true results.0.after.decision=scheme \
+        results.0.waiting_text=AWR049999199000000000/ results.0.after.changed=true results.0.after.decision=scheme \
         results.0.after.reason=5 results.0.after.number=5 'results.0.after.why=the ascent flag is 1' status=0
     answers 0 'what waits changes nothing here' why $asked $waits
     out_is 'reports by the ascent scheme now: the ascent flag is 1
 no change after what waits for XY0001 is handed over'
     answers 0 'no change, for a machine' why --json $asked $waits
-    json_has results.0.after.changes=false results.0.after.decision=scheme status=0
+    json_has results.0.after.changed=false results.0.after.decision=scheme status=0
     answers 0 'nothing waits for another' why $asked --board tonight --aircraft XY0002
     out_is 'reports by the ascent scheme now: the ascent flag is 1
 nothing waits for XY0002'
