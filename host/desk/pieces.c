@@ -4,7 +4,8 @@
 
 enum {
     REACH = 2 * ESK_REPORT_BYTES, /* how far a damaged report may run */
-    LOOK = REACH + 32,            /* the bytes that must be there to see where the next one begins */
+    BEGINNING = 16,               /* the bytes by which one is known to begin */
+    LOOK = REACH + 2 * BEGINNING, /* the bytes that must be there to see where the next one begins */
     LOST = 20                     /* pieces in a row after which the file seems to hold something else */
 };
 
@@ -14,15 +15,19 @@ void pieces_begin(pieces *p, FILE *from)
     p->from = from;
 }
 
-/* Sees to it that LOOK bytes are held, unless the file ends before. */
-static void fill(pieces *p)
+/* Sees to it that so many bytes are held, at most LOOK, unless the file ends before. No more are waited for: a report that
+ * comes through a pipe is handed on before the next is there. */
+static void fill(pieces *p, size_t bytes)
 {
-    if (p->end - p->at >= LOOK || feof(p->from) || ferror(p->from))
+    size_t held = p->end - p->at;
+    if (held >= bytes || feof(p->from) || ferror(p->from))
         return;
-    memmove(p->held, p->held + p->at, p->end - p->at);
-    p->end -= p->at;
-    p->at = 0;
-    p->end += fread(p->held + p->end, 1, sizeof p->held - p->end, p->from);
+    if (sizeof p->held - p->at < bytes) {
+        memmove(p->held, p->held + p->at, held);
+        p->at = 0;
+        p->end = held;
+    }
+    p->end += fread(p->held + p->end, 1, bytes - held, p->from);
 }
 
 static void pass(pieces *p, size_t bytes)
@@ -33,10 +38,10 @@ static void pass(pieces *p, size_t bytes)
 
 static void pass_line_ends(pieces *p)
 {
-    fill(p);
+    fill(p, 1);
     while (p->at < p->end && (p->held[p->at] == '\r' || p->held[p->at] == '\n')) {
         pass(p, 1);
-        fill(p);
+        fill(p, 1);
     }
 }
 
@@ -51,7 +56,7 @@ static int is_name(const uint8_t *bytes)
 /* Whether a report seems to begin here: also one whose line ends have lost their CR. */
 static int seems_to_begin(const uint8_t *bytes, size_t length)
 {
-    if (length < 16 || !is_name(bytes))
+    if (length < BEGINNING || !is_name(bytes))
         return 0;
     size_t line_end = bytes[8] == '\r' ? 2 : 1;
     return bytes[7 + line_end] == '\n' && memcmp(bytes + 8 + line_end, "AMDAR3", 6) == 0;
@@ -73,34 +78,41 @@ static void pass_over(pieces *p, piece *got)
     memcpy(p->passed, p->held + p->at, held < sizeof p->passed ? held : sizeof p->passed);
     do {
         pass(p, 1);
-        fill(p);
+        fill(p, BEGINNING);
     } while (p->at < p->end && !seems_to_begin(p->held + p->at, p->end - p->at));
     got->bytes = p->passed;
     got->whole = p->offset - got->offset;
     got->length = got->whole < sizeof p->passed ? (size_t)got->whole : sizeof p->passed;
 }
 
+static int is_report(const pieces *p)
+{
+    return p->end - p->at >= ESK_REPORT_BYTES &&
+           esk_report_check(p->held + p->at, ESK_REPORT_BYTES).code == ESK_ACCEPTED;
+}
+
 int next_piece(pieces *p, piece *got)
 {
     pass_line_ends(p);
-    size_t length = p->end - p->at;
-    const uint8_t *bytes = p->held + p->at;
-    if (length == 0 || ferror(p->from))
+    fill(p, ESK_REPORT_BYTES);
+    if (p->at == p->end || ferror(p->from))
         return 0;
-    got->bytes = bytes;
     got->offset = p->offset;
     got->number = ++p->number;
     got->length = ESK_REPORT_BYTES;
-    if (length >= ESK_REPORT_BYTES && esk_report_check(bytes, ESK_REPORT_BYTES).code == ESK_ACCEPTED)
+    if (is_report(p))
         p->lost = 0;
     else if (p->lost >= LOST) {
+        fill(p, LOOK);
         pass_over(p, got);
         p->lost = 0;
         return 1;
     } else {
-        got->length = damaged_length(bytes, length);
+        fill(p, LOOK);
+        got->length = damaged_length(p->held + p->at, p->end - p->at);
         p->lost++;
     }
+    got->bytes = p->held + p->at;
     got->whole = got->length;
     pass(p, got->length);
     return 1;

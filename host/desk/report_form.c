@@ -115,6 +115,8 @@ void form_report(const report_form *f, const piece *p, const char *file, const e
             json_line();
     } else if (!f->quiet)
         show_report(first);
+    if (f->csv || f->jsonl)
+        fflush(stdout); /* as it is read: the next report may come much later */
 }
 
 void form_end(const report_form *f, unsigned long refused)

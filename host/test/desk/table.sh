@@ -106,6 +106,34 @@ for form in --csv --jsonl --quiet; do
     json_has 'results.0.error=does not go with --jsonl, --csv or --quiet' status=2
 done
 
+# A report that comes through a pipe is shown before the next one comes
+has_lines() { # COUNT: within ten seconds so many lines are there
+    tries=0
+    until [ "$(wc -l <live)" = "$1" ]; do
+        tries=$((tries + 1))
+        [ $tries -lt 100 ] || fail "not $1 lines before the next report"
+        sleep 0.1
+    done
+}
+why='reports as they come' words='report --jsonl -'
+for form in --jsonl '--csv --fields designator,lat'; do
+    mkfifo feed
+    # shellcheck disable=SC2086
+    eskelvor report $form - <feed >live &
+    reader=$!
+    exec 3>feed
+    cat one.report >&3
+    [ "$form" = --jsonl ] && lines=1 || lines=3
+    has_lines $lines
+    printf '\r\n' >&3
+    head -c 440 three.reports | tail -c 220 >&3
+    has_lines $((lines + 1))
+    exec 3>&-
+    wait $reader || fail 'the reader failed'
+    rm feed live
+    cases=$((cases + 2))
+done
+
 # The memory does not grow with the file: 15 times as many reports, and less than a quarter of what they are longer
 why='constant memory'
 generate reports 2000 3 >few
