@@ -273,6 +273,46 @@ bad 1 'a downlink of 3' ', line 1, column 1, downlink: refused: code 4 at byte 1
 bad 1 'a mode of 2' ', line 1, column 1, sections.6.routine: refused: code 5 at byte 22, section 6, routine: 2 is not 0 or 1' \
     '{"sections":{"6":{"routine":2}}}'
 
+# Every figure of a command that has all sections, out of its range: the key and the field are the figure's own
+all=AWR041011119223456089/0210S45S110E155E90N90S180W180E0100N01S000E001E/01YMML0002YPADYSSY01ABCD1/301/1060902005120021/1/0/2301/
+eskelvor explain --json $all >whole
+answers 0 'as it is' compose --json whole
+out_is $all
+while IFS='|' read -r part number key field; do
+    sed "s/\(\"${part%:*}\":\)${part#*:}/\19999900/$number" whole >bad
+    ! cmp -s whole bad || fail "no such part: $part"
+    answers 1 "out of its range: $key" compose --json bad
+    err_has "bad, line 2, column 1, $key: refused: code" ", $field: 9999900 is not "
+    place=$(sed -n 's/.* at byte \([0-9]*\), .*/\1/p' "$scratch/err")
+    printf '%sx%s' "$(printf %s $all | head -c "$place")" "$(printf %s $all | tail -c +$((place + 2)))" >text
+    answers 1 'a text with another byte at that place is refused there' check --exact text
+    err_has "at byte $place, $field: "
+done <<'END'
+amdar:1||flags.amdar|flag AMDAR
+inhibit_hours:0||flags.inhibit_hours|flag inhibit hours
+regions:1||flags.regions|flag regions
+airports:1||flags.airports|flag airports
+ascent:1||flags.ascent|flag ascent
+enroute:1||flags.enroute|flag enroute
+descent:9||flags.descent|flag descent
+downlink:2||downlink|downlink
+routine:1|1|sections.3.routine|section 3, routine
+interval_minutes:30||sections.4.interval_minutes|section 4, interval
+maximum_wind:1||sections.4.maximum_wind|section 4, maximum wind
+mode:1||sections.5.mode|section 5, mode
+series_1_interval_seconds:6||sections.5.series_1_interval_seconds|section 5, series 1 interval
+series_1_duration_seconds:90||sections.5.series_1_duration_seconds|section 5, series 1 duration
+series_2_interval_seconds:20||sections.5.series_2_interval_seconds|section 5, series 2 interval
+list:2||sections.5.list|section 5, list
+timer:1||sections.5.timer|section 5, timer
+routine:1|2|sections.6.routine|section 6, routine
+routine:0||sections.8.routine|section 8, routine
+start_hour:23||sections.9.start_hour|section 9, start hour
+end_hour:1||sections.9.end_hour|section 9, end hour
+total_seconds:510||sections.5.total_seconds|section 5, total duration
+top_feet:20000||sections.5.top_feet|section 5, top
+END
+
 # Reports that are wrong, from the example's own object
 eskelvor report --jsonl "$examples/one.report" >one
 wrong() { # STATUS WHY MESSAGE FROM TO: the example with one part made another
@@ -304,6 +344,39 @@ wrong 2 'a designator of five' 'a text of 6 bytes is due' AU0137 AU137
 wrong 2 'no designator' "a report's object lacks designator" '"designator":"AU0137",' ''
 wrong 2 'a ninth' 'a report has 8 observations at most' '{"observation":8,"present":false}' \
     '{"observation":8,"present":false},{"observation":9,"present":false}'
+
+# Every figure of the first observation and of a later one, out of its range: the field is the figure's own
+while IFS='|' read -r key number field; do
+    sed "s/\(\"$key\":\)[^,]*/\19999900/$number" one >bad
+    answers 1 "out of its range: $field" compose --json bad
+    err_has "bad, line 1, column 1: refused: code 5 at byte " ", $field: "
+    place=$(sed -n 's/.* at byte \([0-9]*\), .*/\1/p' "$scratch/err")
+    { head -c "$place" "$examples/one.report" && printf x && tail -c +$((place + 2)) "$examples/one.report"; } >text
+    answers 1 'a report with another byte at that place is refused there' report text
+    err_has "at byte $place, $field: "
+done <<'END'
+latitude_minutes|1|latitude of observation 1
+longitude_minutes|1|longitude of observation 1
+seconds_into_month|1|time of observation 1
+altitude_feet|1|altitude of observation 1
+temperature_celsius|1|temperature of observation 1
+wind_direction_degrees|1|wind direction of observation 1
+wind_speed_knots|1|wind speed of observation 1
+gust_metres_per_second|1|gust of observation 1
+vapour_grams_per_kilogram|1|vapour of observation 1
+latitude_change_minutes|1|latitude change of observation 2
+longitude_change_minutes|1|longitude change of observation 2
+time_since_seconds|1|time since of observation 2
+altitude_feet|2|altitude of observation 2
+temperature_celsius|2|temperature of observation 2
+wind_direction_degrees|2|wind direction of observation 2
+wind_speed_knots|2|wind speed of observation 2
+gust_metres_per_second|2|gust of observation 2
+vapour_grams_per_kilogram|2|vapour of observation 2
+END
+sed 's/"latitude_minutes":-2226/"latitude_minutes":9999900/' one >bad
+answers 0 'what a later observation'"'"'s changes add up to is passed over' compose --json bad
+cmp -s "$scratch/out" "$examples/one.report" || fail 'it is another'
 sed 's/,{"observation":3.*}\]/]/' one >bad
 answers 0 'those that are not listed are absent' compose --json bad
 cmp -s "$scratch/out" "$examples/one.report" || fail 'it is another'
