@@ -20,7 +20,7 @@ static const value_word sample_words[] = {{"pressure-level", 0}, {"pressure leve
 
 #define OF(member) offsetof(esk_command, member), sizeof(((esk_command *)0)->member)
 #define FLAG(number, option, key) \
-    {0, 5 + number, option, key, OF(settings.flags[number]), 1, flag_words, "on, off or no-change"}
+    {0, 5 + number, option, key, OF(settings.flags[number]), 1, flag_words, "on, off or no-change", NULL}
 
 const figure_name figure_names[FIGURE_NAMES] = {
     FLAG(0, "--amdar", "amdar"),
@@ -30,22 +30,26 @@ const figure_name figure_names[FIGURE_NAMES] = {
     FLAG(4, "--ascent", "ascent"),
     FLAG(5, "--enroute", "enroute"),
     FLAG(6, "--descent", "descent"),
-    {0, 12, "--downlink", "downlink", OF(downlink), 1, downlink_words, "nothing, flags or configuration"},
-    {3, 0, "--routine-instead", "routine", OF(settings.airports.routine), 1, yes_words, "yes or no"},
-    {4, 0, "--report-every", "interval_minutes", OF(settings.enroute.interval), 1, NULL, "1 to 60 minutes"},
-    {4, 2, "--maximum-wind", "maximum_wind", OF(settings.enroute.wind), 1, yes_words, "yes or no"},
-    {5, 0, "--samples-by", "mode", OF(settings.ascent.mode), 1, sample_words, "time or pressure-level"},
-    {5, 1, "--series-1-every", "series_1_interval_seconds", OF(settings.ascent.interval1), 1, NULL, "3 to 20 seconds"},
-    {5, 3, "--series-1-for", "series_1_duration_seconds", OF(settings.ascent.duration), 1, NULL, "30 to 600 seconds"},
-    {5, 6, "--series-2-every", "series_2_interval_seconds", OF(settings.ascent.interval2), 1, NULL, "3 to 60 seconds"},
-    {5, 8, "--series-2-until", "total_seconds", OF(settings.ascent.total), 10, NULL, "510 to 1110 seconds, in tens"},
-    {5, 11, "--top", "top_feet", OF(settings.ascent.top), 100, NULL, "15000 to 35000 feet, in hundreds"},
-    {5, 14, "--level-list", "list", OF(settings.ascent.list), 1, NULL, "1 or 2"},
-    {5, 15, "--timer", "timer", OF(settings.ascent.timer), 1, on_words, "on or off"},
-    {6, 0, "--routine-in-ascent", "routine", OF(settings.routine6), 1, yes_words, "yes or no"},
-    {8, 0, "--routine-in-descent", "routine", OF(settings.routine8), 1, yes_words, "yes or no"},
-    {9, 0, "--hours", "start_hour", OF(settings.hours.start), 1, NULL, "0 to 23"},
-    {9, 2, "--hours", "end_hour", OF(settings.hours.end), 1, NULL, "0 to 23"},
+    {0, 12, "--downlink", "downlink", OF(downlink), 1, downlink_words, "nothing, flags or configuration", NULL},
+    {3, 0, "--routine-instead", "routine", OF(settings.airports.routine), 1, yes_words, "yes or no", NULL},
+    {4, 0, "--report-every", "interval_minutes", OF(settings.enroute.interval), 1, NULL, "1 to 60 minutes", "minutes"},
+    {4, 2, "--maximum-wind", "maximum_wind", OF(settings.enroute.wind), 1, yes_words, "yes or no", NULL},
+    {5, 0, "--samples-by", "mode", OF(settings.ascent.mode), 1, sample_words, "time or pressure-level", NULL},
+    {5, 1, "--series-1-every", "series_1_interval_seconds", OF(settings.ascent.interval1),
+     1, NULL, "3 to 20 seconds", "seconds"},
+    {5, 3, "--series-1-for", "series_1_duration_seconds", OF(settings.ascent.duration),
+     1, NULL, "30 to 600 seconds", "seconds"},
+    {5, 6, "--series-2-every", "series_2_interval_seconds", OF(settings.ascent.interval2),
+     1, NULL, "3 to 60 seconds", "seconds"},
+    {5, 8, "--series-2-until", "total_seconds", OF(settings.ascent.total),
+     10, NULL, "510 to 1110 seconds, in tens", "seconds"},
+    {5, 11, "--top", "top_feet", OF(settings.ascent.top), 100, NULL, "15000 to 35000 feet, in hundreds", "feet"},
+    {5, 14, "--level-list", "list", OF(settings.ascent.list), 1, NULL, "1 or 2", NULL},
+    {5, 15, "--timer", "timer", OF(settings.ascent.timer), 1, on_words, "on or off", NULL},
+    {6, 0, "--routine-in-ascent", "routine", OF(settings.routine6), 1, yes_words, "yes or no", NULL},
+    {8, 0, "--routine-in-descent", "routine", OF(settings.routine8), 1, yes_words, "yes or no", NULL},
+    {9, 0, "--hours", "start_hour", OF(settings.hours.start), 1, NULL, "0 to 23", NULL},
+    {9, 2, "--hours", "end_hour", OF(settings.hours.end), 1, NULL, "0 to 23", NULL},
 };
 
 #define LIST(member) offsetof(esk_command, settings.member)

@@ -22,6 +22,7 @@ typedef struct figure_name {
     long step;               /* of its unit to one of the record's */
     const value_word *words; /* its values, the first word of each the one that is written; NULL: it is a number */
     const char *range;       /* what may be given */
+    const char *unit;        /* as it may be typed behind the number, or NULL */
 } figure_name;
 
 /* A list of boxes (section 2) or airfields (section 3). */

@@ -38,12 +38,35 @@ static int not_taken(const char *option, const char *word, const char *range)
     return trouble(option, "%s is not %s", name_safely(word, name, sizeof name), range);
 }
 
+/* A number at the start of a text. Gives the byte behind it, or NULL where there is none. */
+static const char *number_at(const char *at, long *number)
+{
+    char digits[8];
+    size_t length = strspn(at, "0123456789");
+    if (length == 0 || length >= sizeof digits)
+        return NULL;
+    memcpy(digits, at, length);
+    digits[length] = 0;
+    *number = whole_number(digits, 0, NUMBER_MOST);
+    return *number < 0 ? NULL : at + length;
+}
+
+/* A number of a figure, with its unit or without; -1 where the word is none. */
+static long number_of(const figure_name *f, const char *word)
+{
+    long number;
+    const char *end = number_at(word, &number);
+    if (end == NULL)
+        return -1;
+    return *end == 0 || (*end == ' ' && f->unit != NULL && strcmp(end + 1, f->unit) == 0) ? number : -1;
+}
+
 /* The value of one figure. */
 static int take_figure(void *with, const char *word)
 {
     int i = *(const int *)with;
     const figure_name *f = &figure_names[i];
-    long number = f->words ? value_of_word(f->words, word) : whole_number(word, 0, NUMBER_MOST);
+    long number = f->words ? value_of_word(f->words, word) : number_of(f, word);
     if (number < 0 || number % f->step != 0)
         return not_taken(f->option, word, f->range);
     if (made.given[i])
@@ -52,26 +75,21 @@ static int take_figure(void *with, const char *word)
     return FINE;
 }
 
-/* Two numbers with these texts before, between and behind them. */
+/* Two numbers with these texts before, between and behind them; without a text between them they are one. */
 static int is_pair(const char *word, const char *const texts[3], long numbers[2])
 {
-    char digits[7];
-    for (int i = 0; i < 3; i++) {
+    for (int i = 0; i < 2; i++) {
         size_t length = strlen(texts[i]);
         if (strncmp(word, texts[i], length) != 0)
             return 0;
-        word += length;
-        length = strspn(word, "0123456789");
-        if (i == 2)
-            return *word == 0;
-        if (length == 0 || length >= sizeof digits)
+        if (i == 1 && length == 0)
+            numbers[1] = numbers[0];
+        else
+            word = number_at(word + length, &numbers[i]);
+        if (word == NULL)
             return 0;
-        memcpy(digits, word, length);
-        digits[length] = 0;
-        numbers[i] = whole_number(digits, 0, NUMBER_MOST);
-        word += length;
     }
-    return 0;
+    return strcmp(word, texts[2]) == 0;
 }
 
 /* The two hours of section 9, as explain prints them, or shorter. */
@@ -80,7 +98,8 @@ static int take_hours(void *with, const char *word)
     static const char *const spellings[][3] = {{"", "-", ""},
                                                {"", ":00-", ":00"},
                                                {"from ", ":00 up to ", ":00"},
-                                               {"from ", ":00 up to ", ":00, over midnight"}};
+                                               {"from ", ":00 up to ", ":00, over midnight"},
+                                               {"none: both are ", "", ""}};
     int start = *(const int *)with;
     long hours[2] = {0, 0};
     int found = strcmp(word, "none") == 0;

@@ -53,6 +53,14 @@ answers 0 'the hours as explain prints them' compose --hours 'from 23:00 up to 0
 out_is 'AWR049999999000000009/2301/'
 answers 0 'and by day' compose --hours 'from 02:00 up to 04:00'
 out_is 'AWR049999999000000009/0204/'
+answers 0 'and none' compose --hours 'none: both are 05'
+out_is 'AWR049999999000000009/0505/'
+answers 0 'numbers with their units' compose --report-every '30 minutes' --maximum-wind no --samples-by time \
+    --series-1-every '6 seconds' --series-1-for '90 seconds' --series-2-every '20 seconds' \
+    --series-2-until '510 seconds' --top '20000 feet' --level-list 2 --timer on
+out_is 'AWR049999999000450000/300/1060902005120021/'
+answers 2 'another unit' compose --report-every '30 seconds' --maximum-wind no
+err_is 'eskelvor: --report-every: 30 seconds is not 1 to 60 minutes'
 answers 0 'the downlink as explain prints it' compose --downlink 'the whole configuration is sent down' --amdar 'no change'
 out_is 'AWR049999999200000000/'
 answers 0 'airfields and empty lists as explain prints them' compose --selected-for-ascent 'YMML YPAD' \
