@@ -55,12 +55,12 @@ const figure_name figure_names[FIGURE_NAMES] = {
 #define LIST(member) offsetof(esk_command, settings.member)
 
 const list_name list_names[LIST_NAMES] = {
-    {2, "--reporting-box", "reporting", LIST(regions.reporting), "reporting boxes"},
-    {2, "--inhibiting-box", "inhibiting", LIST(regions.inhibiting), "inhibiting boxes"},
-    {3, "--selected-for-ascent", "ascent_selected", LIST(airports.selected.ascent), "ascent selected"},
-    {3, "--selected-for-descent", "descent_selected", LIST(airports.selected.descent), "descent selected"},
-    {3, "--inhibited-for-ascent", "ascent_inhibited", LIST(airports.inhibited.ascent), "ascent inhibited"},
-    {3, "--inhibited-for-descent", "descent_inhibited", LIST(airports.inhibited.descent), "descent inhibited"},
+    {2, "--reporting-box", "--report", "reporting", LIST(regions.reporting), "reporting boxes"},
+    {2, "--inhibiting-box", "--inhibit", "inhibiting", LIST(regions.inhibiting), "inhibiting boxes"},
+    {3, "--selected-for-ascent", NULL, "ascent_selected", LIST(airports.selected.ascent), "ascent selected"},
+    {3, "--selected-for-descent", NULL, "descent_selected", LIST(airports.selected.descent), "descent selected"},
+    {3, "--inhibited-for-ascent", NULL, "ascent_inhibited", LIST(airports.inhibited.ascent), "ascent inhibited"},
+    {3, "--inhibited-for-descent", NULL, "descent_inhibited", LIST(airports.inhibited.descent), "descent inhibited"},
 };
 
 long get_named(const esk_command *c, const figure_name *f)

@@ -28,7 +28,8 @@ typedef struct figure_name {
 /* A list of boxes (section 2) or airfields (section 3). */
 typedef struct list_name {
     int section;
-    const char *option, *key;
+    const char *option, *brief; /* and a shorter name, or NULL */
+    const char *key;
     size_t offset;    /* in esk_command */
     const char *name; /* as refusals name it */
 } list_name;

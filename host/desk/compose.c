@@ -160,13 +160,14 @@ static size_t name_options(option *known)
     size_t count = SHARED;
     for (int i = 0; i < FIGURE_NAMES; i++) {
         int hours = strcmp(figure_names[i].option, "--hours") == 0;
-        option o = EACH_OPTION(figure_names[i].option, hours ? take_hours : take_figure, &numbers[i]);
+        option o = EACH_OPTION(figure_names[i].option, NULL, hours ? take_hours : take_figure, &numbers[i]);
         numbers[i] = i;
         if (i == 0 || strcmp(figure_names[i].option, figure_names[i - 1].option) != 0)
             known[count++] = o;
     }
     for (int i = 0; i < LIST_NAMES; i++) {
-        option o = EACH_OPTION(list_names[i].option, i < BOX_LISTS ? take_box : take_airfields, &numbers[i]);
+        const list_name *l = &list_names[i];
+        option o = EACH_OPTION(l->option, l->brief, i < BOX_LISTS ? take_box : take_airfields, &numbers[i]);
         known[count++] = o;
     }
     return count;
@@ -233,8 +234,9 @@ const subcommand compose_subcommand = {
     "  --descent             on, off or no-change\n"
     "  --downlink            nothing, flags or configuration: what is sent down\n"
     "Section 2, boxes; each may be given several times, and is none by itself:\n"
-    "  --reporting-box BOX   60N-40N,10W-5E: north, south, west, east; or none\n"
-    "  --inhibiting-box BOX\n"
+    "  --report, --reporting-box BOX\n"
+    "  --inhibit, --inhibiting-box BOX\n"
+    "                        60N-40N,10W-5E: north, south, west, east; or none\n"
     "Section 3, airfields, YMML or YMML,YPAD or none; several times:\n"
     "  --selected-for-ascent, --selected-for-descent,\n"
     "  --inhibited-for-ascent, --inhibited-for-descent\n"

@@ -14,10 +14,10 @@ _eskelvor_options() {
     explain) echo "$text --options" ;;
     compose)
         echo '--config -c --amdar --inhibit-hours --regions --airports --ascent --enroute --descent --downlink'
-        echo '--reporting-box --inhibiting-box --selected-for-ascent --selected-for-descent --inhibited-for-ascent'
-        echo '--inhibited-for-descent --routine-instead --report-every --maximum-wind --samples-by --series-1-every'
-        echo '--series-1-for --series-2-every --series-2-until --top --level-list --timer --routine-in-ascent'
-        echo '--routine-in-descent --hours'
+        echo '--reporting-box --report --inhibiting-box --inhibit --selected-for-ascent --selected-for-descent'
+        echo '--inhibited-for-ascent --inhibited-for-descent --routine-instead --report-every --maximum-wind'
+        echo '--samples-by --series-1-every --series-1-for --series-2-every --series-2-until --top --level-list --timer'
+        echo '--routine-in-ascent --routine-in-descent --hours'
         ;;
     apply) echo "--config -c --out -o --wait $text" ;;
     decide) echo "$asked $text" ;;
@@ -37,8 +37,8 @@ _eskelvor_values() {
     --samples-by) echo 'time pressure-level' ;;
     --level-list) echo '1 2' ;;
     --timer) echo 'on off' ;;
-    --reporting-box | --inhibiting-box | --selected-for-ascent | --selected-for-descent | --inhibited-for-ascent | \
-        --inhibited-for-descent | --hours) echo 'none' ;;
+    --reporting-box | --report | --inhibiting-box | --inhibit | --selected-for-ascent | --selected-for-descent | \
+        --inhibited-for-ascent | --inhibited-for-descent | --hours) echo 'none' ;;
     --phase) echo 'ascent level descent' ;;
     --fields)
         echo 'file report offset departure arrival designator observation kind kind_in_words latitude_change_minutes'

@@ -20,15 +20,17 @@ static size_t name_length(const char *word)
     return word[1] == '-' ? strcspn(word, "=") : strlen(word);
 }
 
+static int is_name(const char *name, const char *word, size_t length)
+{
+    return name != NULL && strlen(name) == length && memcmp(name, word, length) == 0;
+}
+
 static const option *find(const char *word, const option *known, size_t options)
 {
     size_t length = name_length(word);
-    for (size_t i = 0; i < options; i++) {
-        if (strlen(known[i].name) == length && memcmp(known[i].name, word, length) == 0)
+    for (size_t i = 0; i < options; i++)
+        if (is_name(known[i].name, word, length) || is_name(known[i].brief, word, length))
             return &known[i];
-        if (known[i].letter != NULL && strcmp(known[i].letter, word) == 0)
-            return &known[i];
-    }
     return NULL;
 }
 
@@ -66,8 +68,8 @@ static int write_names(const option *known, size_t options)
 {
     for (size_t i = 0; i < options; i++) {
         puts(known[i].name);
-        if (known[i].letter != NULL)
-            puts(known[i].letter);
+        if (known[i].brief != NULL)
+            puts(known[i].brief);
     }
     return TROUBLE;
 }

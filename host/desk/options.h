@@ -10,16 +10,16 @@ typedef int (*value_taker)(void *with, const char *value);
 /* An option: one with a value has `value`, or `each` where it may be given several times; one without has `set`. */
 typedef struct option {
     const char *name;   /* "--config" */
-    const char *letter; /* "-c", or NULL */
+    const char *brief;  /* a shorter name, "-c", or NULL */
     const char **value; /* where its value is put */
     int *set;           /* or what becomes 1 */
     value_taker each;   /* or what is called with each value, in order */
     void *with;
 } option;
 
-#define VALUE_OPTION(name, letter, value) {name, letter, value, NULL, NULL, NULL}
+#define VALUE_OPTION(name, brief, value) {name, brief, value, NULL, NULL, NULL}
 #define SET_OPTION(name, set) {name, NULL, NULL, set, NULL, NULL}
-#define EACH_OPTION(name, each, with) {name, NULL, NULL, NULL, each, with}
+#define EACH_OPTION(name, brief, each, with) {name, brief, NULL, NULL, each, with}
 
 #define OPTIONS(known) (sizeof(known) / sizeof *(known))
 
