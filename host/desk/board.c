@@ -25,7 +25,8 @@ int board_grow(board *b, const char *file, long slots)
 {
     size_t n = (size_t)slots, had = b->n;
     if (n < had)
-        return trouble(file, "it has %lu slots, and is not made smaller", (unsigned long)had);
+        return trouble(file, "%lu slots are fewer than the %lu that it has; a board is not made smaller", (unsigned long)n,
+                       (unsigned long)had);
     memset(b->slots + had, 0, (n - had) * sizeof *b->slots);
     memset(b->area + had * ESK_COMMAND_BYTES, 0, (n - had) * ESK_COMMAND_BYTES);
     b->n = n;

@@ -24,9 +24,12 @@ typedef struct call {
 /* The number of slots that a call gives, or -1, which is told. */
 static long slots_of(const call *c, int count, char **words)
 {
+    char name[NAME_ROOM];
     long slots = count == 1 ? whole_number(words[0], 0, ESK_BOARD_SLOTS) : -1;
-    if (slots < 0)
-        trouble(c->verb, "give the number of slots, 0 to 64");
+    if (count != 1)
+        trouble(c->verb, "give the number of slots, 0 to %d", ESK_BOARD_SLOTS);
+    else if (slots < 0)
+        trouble(c->verb, "%s is not 0 to %d slots", name_safely(words[0], name, sizeof name), ESK_BOARD_SLOTS);
     return slots;
 }
 

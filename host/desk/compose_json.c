@@ -10,8 +10,8 @@
 /* The keys of an object. Those behind RESULT_KEYS say where its text came from, or follow from the others: they are
  * passed over. */
 enum {
-    RESULTS, ACCEPTED, FAILURE,             /* of any */
-    FLAGS_KEY, DOWNLINK, SECTIONS,          /* of a command */
+    RESULTS, ACCEPTED, FAILURE,                   /* of any */
+    FLAGS_KEY, DOWNLINK, SECTIONS,                /* of a command */
     DEPARTURE, ARRIVAL, DESIGNATOR, OBSERVATIONS, /* of a report */
     RESULT_KEYS
 };

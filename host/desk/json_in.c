@@ -35,7 +35,8 @@ static int tell_wrong(json_in *in, json_place at, const char *message)
     if (in->status == FINE && ferror(in->from))
         in->status = failed(in->name, "read");
     else if (in->status == FINE)
-        in->status = trouble(in->name, "line %lu, column %lu: %s", at.line, at.column, message);
+        in->status = trouble(in->name, "line %lu, column %lu: %s%s%s", at.line, at.column, in->key ? in->key : "",
+                             in->key ? ": " : "", message);
     return 0;
 }
 
@@ -102,6 +103,7 @@ static int enter(json_in *in, int opener, const char *due)
         return not_json(in, due);
     if (++in->depth > JSON_DEEPEST)
         return json_in_wrong(in, "nested deeper than %d", JSON_DEEPEST);
+    in->key = NULL;
     step(in);
     spaces(in);
     return 1;
@@ -122,6 +124,7 @@ static int another(json_in *in, int first, int closer, const char *due)
 {
     if (in->status != FINE)
         return 0;
+    in->key = NULL;
     spaces(in);
     if (in->here == closer) {
         step(in);
@@ -279,6 +282,7 @@ int json_in_key(json_in *in, const char *const *keys, unsigned long long *seen)
         return -1;
     }
     step(in);
+    in->key = keys[found];
     return found;
 }
 
@@ -324,12 +328,23 @@ static int is_digit(int byte)
     return byte >= '0' && byte <= '9';
 }
 
+/* Steps over a byte of a number, and keeps it. */
+static void take(json_in *in)
+{
+    size_t length = strlen(in->number);
+    if (length + 1 < sizeof in->number) {
+        in->number[length] = (char)in->here;
+        in->number[length + 1] = 0;
+    }
+    step(in);
+}
+
 /* Digits, at least one; `power` is what each of them takes off the number's power of ten. */
 static int digits(json_in *in, written *w, long power)
 {
     if (!is_digit(in->here))
         return not_json(in, "a digit");
-    for (; is_digit(in->here); step(in)) {
+    for (; is_digit(in->here); take(in)) {
         int fits = w->digits < FAR;
         if (fits)
             w->digits = 10 * w->digits + (in->here - '0');
@@ -343,10 +358,10 @@ static int digits(json_in *in, written *w, long power)
 static int exponent(json_in *in, written *w)
 {
     written e = {0, 0, 0, 0};
-    step(in);
+    take(in);
     e.below = in->here == '-';
     if (in->here == '-' || in->here == '+')
-        step(in);
+        take(in);
     if (!digits(in, &e, 0))
         return 0;
     long size = e.digits > 1000 ? 1000 : e.digits;
@@ -358,18 +373,19 @@ static int read_number(json_in *in, written *w)
 {
     written none = {in->here == '-', 0, 0, 0};
     *w = none;
+    in->number[0] = 0;
     if (w->below)
-        step(in);
+        take(in);
     if (in->here != '0') {
         if (!digits(in, w, 0))
             return 0;
     } else {
-        step(in);
+        take(in);
         if (is_digit(in->here))
             return not_json(in, "no digit behind a 0 that a number begins with");
     }
     if (in->here == '.') {
-        step(in);
+        take(in);
         if (!digits(in, w, 1))
             return 0;
     }
@@ -382,10 +398,10 @@ static int between_steps(json_in *in, int places, long step_size)
     for (int i = 0; i < places; i++)
         per *= 10;
     if (step_size > 1)
-        return json_in_wrong(in, "this number falls between two steps of %ld", step_size);
+        return json_in_wrong(in, "%s falls between two steps of %ld", in->number, step_size);
     if (places > 0)
-        return json_in_wrong(in, "this number falls between two steps of 1/%ld", per);
-    return json_in_wrong(in, "a whole number is due");
+        return json_in_wrong(in, "%s falls between two steps of 1/%ld", in->number, per);
+    return json_in_wrong(in, "%s is not a whole number", in->number);
 }
 
 int json_in_number(json_in *in, int places, long step_size, long *number)

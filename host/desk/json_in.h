@@ -25,6 +25,8 @@ typedef struct json_in {
     int here;         /* the byte that is due, EOF behind the last */
     json_place at;    /* of that byte */
     json_place value; /* where the value or key that was entered or read last begins */
+    const char *key;  /* the key whose value is due or was read last; NULL: none */
+    char number[24];  /* the number that was read last, as it is written, as much as there is room for */
     int depth;
     int status;
 } json_in;

@@ -67,9 +67,9 @@ answers 0 'in the next slot' board grown list XY0003
 out_has "slot 3  XY0003  26 bytes  $first"
 cp grown before-grow
 answers 2 'it is not made smaller' board grown grow 63
-err_is 'eskelvor: grown: it has 64 slots, and is not made smaller'
+err_is 'eskelvor: grown: 63 slots are fewer than the 64 that it has; a board is not made smaller'
 answers 2 'nor larger than a board may be' board grown grow 65
-err_is 'eskelvor: grow: give the number of slots, 0 to 64'
+err_is 'eskelvor: grow: 65 is not 0 to 64 slots'
 answers 2 'without a number' board grown grow
 cmp -s grown before-grow || fail 'a refused growth changed the board'
 answers 0 'as large as it is' board grown grow 64 --json

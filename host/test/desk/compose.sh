@@ -244,31 +244,31 @@ bad 2 'a key twice' ': line 1, column 13: the key flags is there a second time' 
 bad 2 'a section key twice' ': line 2, column 12: the key 9 is there a second time' \
     '{"sections":{"9":{"start_hour":1,"end_hour":2},
            "9":{"start_hour":1,"end_hour":2}}}'
-bad 2 'a wrong type: a string for a number' ': line 1, column 19: " stands here, and a number is due' '{"flags":{"amdar":"on"}}'
-bad 2 'a wrong type: a list for an object' ': line 1, column 10: [ stands here, and an object, {..}, is due' '{"flags":[1]}'
-bad 2 'a wrong type: an object for a list' ': line 1, column 31: { stands here, and a list, [..], is due' \
+bad 2 'a wrong type: a string for a number' ': line 1, column 19: amdar: " stands here, and a number is due' '{"flags":{"amdar":"on"}}'
+bad 2 'a wrong type: a list for an object' ': line 1, column 10: flags: [ stands here, and an object, {..}, is due' '{"flags":[1]}'
+bad 2 'a wrong type: an object for a list' ': line 1, column 31: reporting: { stands here, and a list, [..], is due' \
     '{"sections":{"2":{"reporting":{}}}}'
-bad 2 'a wrong type: null for a flag' ': line 1, column 19: n stands here, and a number is due' '{"flags":{"amdar":null}}'
+bad 2 'a wrong type: null for a flag' ': line 1, column 19: amdar: n stands here, and a number is due' '{"flags":{"amdar":null}}'
 bad 2 'a list at the top' ': line 1, column 1: [ stands here, and an object, {..}, is due' "[$section]"
 bad 2 'text behind it' ": line 1, column 80: x stands here, and another object, or the text's end, is due" "${section}x"
 bad 2 'cut short' ': line 1, column 20: the text ends here, and a comma or } is due' '{"flags":{"amdar":1'
 bad 2 'cut in a string' ': line 1, column 14: the text ends here, and a closing quote is due' '{"flags":{"am'
 bad 2 'a comma too many' ': line 1, column 21: } stands here, and a string is due' '{"flags":{"amdar":1,}}'
-bad 2 'a number between two steps' ': line 1, column 19: a whole number is due' '{"flags":{"amdar":0.5}}'
-bad 2 'digits far behind the point' ': line 1, column 19: a whole number is due' \
+bad 2 'a number between two steps' ': line 1, column 19: amdar: 0.5 is not a whole number' '{"flags":{"amdar":0.5}}'
+bad 2 'digits far behind the point' ': line 1, column 19: amdar: 1.000000000000000000000 is not a whole number' \
     '{"flags":{"amdar":1.00000000000000000000000000001}}'
-bad 2 'a number with a leading 0' ': line 1, column 20: 1 stands here, and no digit behind a 0 that a number begins with is due' \
+bad 2 'a number with a leading 0' ': line 1, column 20: amdar: 1 stands here, and no digit behind a 0 that a number begins with is due' \
     '{"flags":{"amdar":01}}'
 bad 2 'a part of a section is not there' ': line 1, column 18: section 4, which is replaced whole, lacks maximum_wind' \
     '{"sections":{"4":{"interval_minutes":15}}}'
 bad 2 'a box of three edges' ': line 1, column 32: a box has north, south, west and east' \
     '{"sections":{"2":{"reporting":[{"north":"1N","south":"1N","west":"1E"}],"inhibiting":[]}}}'
-bad 2 'an edge without its letter' ': line 1, column 41: an edge is degrees and a letter, as 60N' \
+bad 2 'an edge without its letter' ': line 1, column 41: north: an edge is degrees and a letter, as 60N' \
     '{"sections":{"2":{"reporting":[{"north":"10","south":"1N","west":"1E","east":"1E"}],"inhibiting":[]}}}'
 bad 2 'nested too deep' ': line 1, column 24: nested deeper than 16' '{"text":[[[[[[[[[[[[[[[[[[[[[[[[[[]]]]]]]]]]]]]]]]]]]]]]]]]]}'
 bad 2 'neither a command nor a report' ', line 1, column 1: an object of one command or one report is due' '{"code":0}'
 bad 2 'both at once' ', line 1, column 1: an object of one command or one report is due' '{"flags":{},"departure":"ABCD"}'
-bad 2 'a byte that is no letter' ': line 1, column 13: the bytes before this are no letter in UTF-8' \
+bad 2 'a byte that is no letter' ': line 1, column 13: text: the bytes before this are no letter in UTF-8' \
     "$(printf '{"text":"ab\377\376"}')"
 bad 1 'a number out of range is the writer'"'"'s' \
     ', line 1, column 1, sections.4.interval_minutes: refused: code 5 at byte 22, section 4, interval: 61 is not 1 to 60 minutes' \
@@ -342,9 +342,9 @@ wrong 1 'a wind without its speed' 'code 7 at byte 43, wind speed of observation
 wrong 1 'a kind' 'code 4 at byte 24, kind of observation 1: Q is not A, D, R, W, U or E' '"kind":"R"' '"kind":"Q"'
 wrong 1 'a departure' 'code 4 at byte 0, departure: ymml is not four letters A to Z or digits' YMML ymml
 wrong 1 'a present one behind an absent one' 'code 7 at byte' '{"observation":2,"present":true' '{"observation":2,"present":false'
-wrong 2 'feet between two steps' ': this number falls between two steps of 10' '"altitude_feet":20140' \
+wrong 2 'feet between two steps' ': altitude_feet: 20145 falls between two steps of 10' '"altitude_feet":20140' \
     '"altitude_feet":20145'
-wrong 2 'tenths' 'this number falls between two steps of 1/10' '"temperature_celsius":-27.5' '"temperature_celsius":-27.55'
+wrong 2 'tenths' ': temperature_celsius: -27.55 falls between two steps of 1/10' '"temperature_celsius":-27.5' '"temperature_celsius":-27.55'
 wrong 2 'a key is not there' 'observation 1 lacks temperature_celsius; a missing figure is null' '"temperature_celsius":-27.5,' ''
 wrong 2 'an observation is not there' 'observation 3 stands where 2 is due' '"observation":2' '"observation":3'
 wrong 2 'a change in the first' 'the first observation has no latitude_change_minutes' '"latitude_minutes":-2245' \
