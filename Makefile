@@ -69,7 +69,8 @@ at := $(DESTDIR)$(PREFIX)
 python_at := share/eskelvor/python/eskelvor
 python_files := $(notdir $(wildcard python/eskelvor/*.py) python/eskelvor/py.typed)
 installed := include/eskelvor.h lib/libeskelvor.a lib/libeskelvor.so.$(version) lib/libeskelvor.so.$(major) \
-	lib/libeskelvor.so lib/pkgconfig/eskelvor.pc share/man/man1/eskelvor.1 bin/eskelvor \
+	lib/libeskelvor.so lib/pkgconfig/eskelvor.pc share/man/man1/eskelvor.1 \
+	share/bash-completion/completions/eskelvor bin/eskelvor \
 	$(addprefix $(python_at)/,$(python_files) libeskelvor.so.$(major))
 
 possible:
@@ -83,6 +84,7 @@ install: possible $(native_program)
 	ln -sf libeskelvor.so.$(version) '$(at)/lib/libeskelvor.so.$(major)'
 	ln -sf libeskelvor.so.$(major) '$(at)/lib/libeskelvor.so'
 	install -D -m 644 host/desk/eskelvor.1 '$(at)/share/man/man1/eskelvor.1'
+	install -D -m 644 host/desk/eskelvor.bash '$(at)/share/bash-completion/completions/eskelvor'
 	install -D -m 644 host/eskelvor.pc.in '$(at)/lib/pkgconfig/eskelvor.pc'
 	sed -i -e 's|@PREFIX@|$(PREFIX)|' -e 's|@VERSION@|$(version)|' '$(at)/lib/pkgconfig/eskelvor.pc'
 	install -D -m 755 $(native_program) '$(at)/bin/eskelvor'

@@ -16,6 +16,7 @@ headers=$(sed -n 's/^#define ESK_VERSION "\(.*\)"/\1/p' "$root/host/eskelvor.h")
 major=${headers%%.*}
 for file in include/eskelvor.h lib/libeskelvor.a "lib/libeskelvor.so.$headers" "lib/libeskelvor.so.$major" \
     lib/libeskelvor.so lib/pkgconfig/eskelvor.pc bin/eskelvor share/man/man1/eskelvor.1 \
+    share/bash-completion/completions/eskelvor \
     share/eskelvor/python/eskelvor/__init__.py; do
     [ -s "$at/$file" ] || fail "$file is not there"
     cases=$((cases + 1))
