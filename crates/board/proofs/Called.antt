@@ -9,6 +9,7 @@ use lib.Dec.{leb, ltb, eqb}
 use lib.ListN.{length, getD, set, take, drop, length-drop}
 use lib.Seq.{set-out, length-take-le}
 use borrow.Author.Tests.{eq-eqb, le-leb, lt-ltb, le-ltb, leb-true, eqb-true}
+use Rattle.text.specs.Names.{isDesignator}
 use Rattle.text.specs.Parts.{part}
 use Rattle.text.specs.declared.Seen.{Seen}
 use Rattle.text.specs.declared.Seen.the-variants.{Fine, Bad}
@@ -17,7 +18,7 @@ use Rattle.command.specs.Text.{longest, checkCommand}
 use Rattle.command.proofs.Accepted.{accepted}
 use Rattle.join.specs.Join.{Joined, Joins, Refuses, joinText, join}
 use Rattle.join.proofs.Laws.{join-short}
-use Rattle.board.specs.Board.{isDesignator, WaitingSlot, emptySlot, isFree, isFor, any, lowest, waiting, isValid, Move, Stay, Put, Free, placed, handedOut, add, takeOut}
+use Rattle.board.specs.Board.{WaitingSlot, emptySlot, isFree, isFor, any, lowest, waiting, isValid, Move, Stay, Put, Free, placed, handedOut, add, takeOut}
 use Rattle.board.specs.Lent.{boardOf, lengthsFit, isShaped, addLent, takeLent, isValidLent, noSlot, onSlots}
 use Rattle.board.specs.Inner.{wantedBy, startOf, scanFrom, scanned, fitsAt, waitsAt, joinsTo, ownMove, freeMove, placedMove, handedMove, addMove, takeMove, doneOf}
 use Rattle.board.specs.declared.Slot.{Slot}

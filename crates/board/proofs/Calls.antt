@@ -6,13 +6,14 @@ use Prim.Native.Nat.{ℕ}
 use lib.Dec.{leb, eqb}
 use lib.ListN.{length, drop}
 use borrow.Author.Tests.{eqb-true}
+use Rattle.text.specs.Names.{isDesignator}
 use Rattle.text.specs.Checks.{isFine}
 use Rattle.text.specs.declared.Seen.{Seen}
 use Rattle.text.specs.declared.Seen.the-variants.{Fine, Bad}
 use Rattle.text.proofs.Cases.{by-test, both-left, both-right}
 use Rattle.command.specs.Text.{longest, checkCommand}
 use Rattle.join.specs.Join.{joinText}
-use Rattle.board.specs.Board.{isDesignator, WaitingSlot, isFree, isFor, any, lowest, waiting, isValid, Move, Stay, Put, Free, placed, handedOut, add, takeOut, onBoard, replyOf}
+use Rattle.board.specs.Board.{WaitingSlot, isFree, isFor, any, lowest, waiting, isValid, Move, Stay, Put, Free, placed, handedOut, add, takeOut, onBoard, replyOf}
 use Rattle.board.specs.History.{Event, Add, Take, move, after, logged, isEmptyBoard, calledFor}
 use Rattle.board.specs.Lent.{boardOf, isShaped, addLent, takeLent, isValidLent, onSlots, onArea}
 use Rattle.board.specs.Calls.{Lent, boardIn, call, onLent, afterCalls, loggedCalls, allFree, Demand3Lent}

@@ -6,12 +6,13 @@ use Prim.Native.Nat.{ℕ, _≤_}
 use native.Mathlib.Omega.{arith}
 use lib.Dec.{leb}
 use lib.ListN.{length}
+use Rattle.text.specs.Names.{isDesignator}
 use Rattle.text.specs.declared.Seen.{Seen}
 use Rattle.text.specs.declared.Seen.the-variants.{Fine, Bad}
 use Rattle.command.specs.Text.{checkCommand}
 use Rattle.command.proofs.Codes.{check-coded}
 use Rattle.join.specs.Join.{joinText}
-use Rattle.board.specs.Board.{isDesignator, WaitingSlot, isFree, isFor, any, lowest, waiting, isValid, Move, Stay, Put, Free, placed, handedOut, add, takeOut}
+use Rattle.board.specs.Board.{WaitingSlot, isFree, isFor, any, lowest, waiting, isValid, Move, Stay, Put, Free, placed, handedOut, add, takeOut}
 use Rattle.board.specs.History.{Event, Add, Take}
 use Rattle.board.specs.Lent.{isShaped, addLent, takeLent, onArea}
 use Rattle.board.specs.Calls.{Lent, boardIn, call}

@@ -8,7 +8,7 @@ use native.Mathlib.Omega.{arith}
 use lib.Dec.{leb, eqb}
 use lib.ListN.{length, getD}
 use borrow.Author.Tests.{eqb-true, eqb-false, eq-eqb, ne-eqb, le-leb}
-use Rattle.text.specs.Names.{allAllowed}
+use Rattle.text.specs.Names.{allAllowed, isDesignator}
 use Rattle.text.specs.Equal.{sameBytes}
 use Rattle.text.specs.declared.Seen.{Seen}
 use Rattle.text.specs.declared.Seen.the-variants.{Fine, Bad}
@@ -17,7 +17,7 @@ use Rattle.text.proofs.Cases.{by-test, by-eq, both-left, both-right}
 use Rattle.text.proofs.Equal.{same-equal, equal-same}
 use Rattle.command.specs.Text.{longest, checkCommand}
 use Rattle.join.specs.Join.{joinText}
-use Rattle.board.specs.Board.{isDesignator, WaitingSlot, emptySlot, isNone, isFree, isFor, any, lowest, waiting, isValid, Stay, Put, pastRefusals, placing, add}
+use Rattle.board.specs.Board.{WaitingSlot, emptySlot, isNone, isFree, isFor, any, lowest, waiting, isValid, Stay, Put, pastRefusals, placing, add}
 use Rattle.board.specs.History.{Add}
 use Rattle.board.specs.Lent.{boardOf, lengthsFit, isShaped, addLent, isValidLent}
 use Rattle.board.specs.Words.{slotAt, InUse, textIn, WellFormed, ValidBoard, IsOwn, Adds}

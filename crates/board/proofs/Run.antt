@@ -4,13 +4,14 @@ use mathlib.Core.Bool.{Bool, true, false, cond, not, _&&_}
 use mathlib.Core.List.{List, [], _∷_, _++_, foldl-append, append-assoc, append-nil}
 use Prim.Native.Nat.{ℕ}
 use lib.ListN.{length, length-set}
+use Rattle.text.specs.Names.{isDesignator}
 use Rattle.text.specs.Checks.{isFine}
 use Rattle.text.specs.Equal.{sameBytes}
 use Rattle.text.specs.declared.Seen.{Seen}
 use Rattle.text.specs.declared.Seen.the-variants.{Fine, Bad}
 use Rattle.text.proofs.Cases.{by-test, both-left, both-right}
 use Rattle.command.specs.Text.{checkCommand}
-use Rattle.board.specs.Board.{isDesignator, WaitingSlot, isNone, isFree, any, waiting, isSound, isValid, pastRefusals, placing, Move, Stay, Put, Free, onBoard, Reply, Given, Refused, replyOf}
+use Rattle.board.specs.Board.{WaitingSlot, isNone, isFree, any, waiting, isSound, isValid, pastRefusals, placing, Move, Stay, Put, Free, onBoard, Reply, Given, Refused, replyOf}
 use Rattle.board.specs.History.{Event, Add, Take, Entry, aircraft, heard, sinceFrom, since, onto, joined, move, after, logged, isEmptyBoard, due}
 use Rattle.board.proofs.WaitingSlots.{both, waiting-cons, free-for}
 use Rattle.board.proofs.Steps.{next, right}

@@ -9,13 +9,14 @@ use lib.Dec.{leb, ltb, eqb}
 use lib.ListN.{length, getD, take, drop, length-drop, drop-of-length-le}
 use lib.Seq.{take-take, take-suc, drop-cons, drop-drop, length-take-le}
 use borrow.Author.Tests.{eq-eqb, ne-eqb, le-leb, lt-leb, lt-ltb, le-ltb, eqb-true, leb-true, not-true, not-false}
+use Rattle.text.specs.Names.{isDesignator}
 use Rattle.text.specs.Checks.{isFine}
 use Rattle.text.specs.Parts.{part}
 use Rattle.text.specs.Equal.{sameBytes}
 use Rattle.text.proofs.Equal.{same-equal, equal-same}
 use Rattle.text.proofs.Cases.{by-test, by-lt, by-le, by-eq, both-left, both-right}
 use Rattle.command.specs.Text.{longest, checkCommand}
-use Rattle.board.specs.Board.{isDesignator, WaitingSlot, emptySlot, isNone, isFree, isFor, any, lowest, waiting, isSound, isValid}
+use Rattle.board.specs.Board.{WaitingSlot, emptySlot, isNone, isFree, isFor, any, lowest, waiting, isSound, isValid}
 use Rattle.board.specs.Lent.{boardOf, lengthsFit, noSlot}
 use Rattle.board.specs.Inner.{isUsed, usedFor, noneFor, aloneIn, soundAt, firstOf, withFree, withUsed, stepOf, scanFrom}
 use Rattle.board.specs.declared.Slot.{Slot}

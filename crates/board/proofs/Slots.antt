@@ -6,12 +6,13 @@ use Prim.Native.Nat.{ℕ, _≤_, _<_}
 use lib.Dec.{leb}
 use lib.ListN.{length, getD}
 use borrow.Author.Tests.{leb-true}
+use Rattle.text.specs.Names.{isDesignator}
 use Rattle.text.specs.declared.Seen.{Seen}
 use Rattle.text.specs.declared.Seen.the-variants.{Fine, Bad}
 use Rattle.text.proofs.Cases.{by-test}
 use Rattle.command.specs.Text.{checkCommand}
 use Rattle.join.specs.Join.{joinText}
-use Rattle.board.specs.Board.{isDesignator, WaitingSlot, emptySlot, isNone, isFree, isFor, any, lowest, waiting, isValid, Stay, Put, Free, pastRefusals, placing, add, takeOut}
+use Rattle.board.specs.Board.{WaitingSlot, emptySlot, isNone, isFree, isFor, any, lowest, waiting, isValid, Stay, Put, Free, pastRefusals, placing, add, takeOut}
 use Rattle.board.proofs.WaitingSlots.{never, lowest-passes, lowest-first, waiting-any, some-for}
 
 -- ---- Adding

@@ -6,6 +6,7 @@ use Prim.Native.Nat.{ℕ}
 use native.Mathlib.Omega.{arith}
 use lib.Dec.{leb}
 use lib.ListN.{length, getD}
+use Rattle.text.specs.Names.{isDesignator}
 use Rattle.text.specs.Checks.{isFine}
 use Rattle.text.specs.Equal.{sameBytes}
 use Rattle.text.specs.declared.Seen.{Seen}
@@ -16,7 +17,7 @@ use Rattle.command.specs.Text.{checkCommand}
 use Rattle.command.proofs.Accepted.{accepted}
 use Rattle.join.specs.Join.{joinText}
 use Rattle.join.proofs.Laws.{join-fine}
-use Rattle.board.specs.Board.{isDesignator, WaitingSlot, emptySlot, isNone, isFree, isFor, any, lowest, waiting, isValid, Move, Stay, Put, Free, unlessRefused, placed, add, takeOut, onBoard, Reply, Given, Refused, replyOf}
+use Rattle.board.specs.Board.{WaitingSlot, emptySlot, isNone, isFree, isFor, any, lowest, waiting, isValid, Move, Stay, Put, Free, unlessRefused, placed, add, takeOut, onBoard, Reply, Given, Refused, replyOf}
 use Rattle.board.specs.History.{Event, Add, Take, aircraft, onto, move, due}
 use Rattle.board.proofs.WaitingSlots.{never, none-is, free-for, for-one, lowest-passes, lowest-inside, none-passes, waiting-any, waiting-kept, waiting-set}
 use Rattle.board.proofs.Valid.{waiting-fine, only, valid-set, freed-none}

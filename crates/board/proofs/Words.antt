@@ -7,6 +7,7 @@ use native.Mathlib.Omega.{arith}
 use lib.Dec.{leb}
 use lib.ListN.{length}
 use borrow.Author.Tests.{le-leb}
+use Rattle.text.specs.Names.{isDesignator}
 use Rattle.text.specs.Checks.{isFine}
 use Rattle.text.specs.declared.Seen.{Seen}
 use Rattle.text.specs.declared.Seen.the-variants.{Fine, Bad}
@@ -15,7 +16,7 @@ use Rattle.settings.specs.declared.Settings.{Settings}
 use Rattle.command.specs.Text.{checkCommand}
 use Rattle.command.proofs.Codes.{check-coded}
 use Rattle.config.specs.Config.{applyTo}
-use Rattle.board.specs.Board.{isDesignator, WaitingSlot, isNone, isFree, any, waiting, isValid, pastRefusals, placing, handing, Move, Stay, Put, Free, onBoard, Reply, Given, Refused, replyOf}
+use Rattle.board.specs.Board.{WaitingSlot, isNone, isFree, any, waiting, isValid, pastRefusals, placing, handing, Move, Stay, Put, Free, onBoard, Reply, Given, Refused, replyOf}
 use Rattle.board.specs.History.{Event, Add, Take, Entry, aircraft, heard, since, onto, joined, move, after, logged, isEmptyBoard, due, noCommands, calledFor, act}
 use Rattle.board.proofs.WaitingSlots.{never, none-is, some-for}
 use Rattle.board.proofs.Valid.{waiting-fine, waiting-named}

@@ -5,16 +5,12 @@ use Prim.Native.Nat.{ℕ, zero, suc}
 use lib.Dec.{leb, eqb}
 use lib.ListN.{length, getD, set}
 use Rattle.text.specs.Checks.{isFine}
-use Rattle.text.specs.Names.{allAllowed}
+use Rattle.text.specs.Names.{isDesignator}
 use Rattle.text.specs.Equal.{sameBytes}
 use Rattle.text.specs.declared.Seen.{Seen}
 use Rattle.text.specs.declared.Seen.the-variants.{Fine, Bad}
 use Rattle.command.specs.Text.{checkCommand}
 use Rattle.join.specs.Join.{joinText}
-
--- a designator is six allowed bytes
-abbrev pub isDesignator : List ℕ → Bool
-isDesignator d = eqb (length d) 6 && allAllowed d
 
 -- the most slots of a board
 abbrev pub mostSlots : ℕ

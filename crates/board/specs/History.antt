@@ -5,6 +5,7 @@ use mathlib.Core.List.{List, [], _∷_, _++_, foldl}
 use Prim.Native.Nat.{ℕ, zero, suc, _≤_}
 use lib.Dec.{leb, ltb}
 use lib.ListN.{length}
+use Rattle.text.specs.Names.{isDesignator}
 use Rattle.text.specs.Checks.{isFine}
 use Rattle.text.specs.Equal.{sameBytes}
 use Rattle.text.specs.declared.Seen.the-variants.{Fine}
@@ -12,7 +13,7 @@ use Rattle.settings.specs.declared.Settings.{Settings}
 use Rattle.command.specs.Text.{checkCommand, longest}
 use Rattle.config.specs.Config.{applyTo}
 use Rattle.join.specs.Join.{joinText}
-use Rattle.board.specs.Board.{isDesignator, WaitingSlot, isNone, isFree, any, waiting, pastRefusals, placing, handing, Move, Reply, Given, Refused, replyOf, onBoard, add, takeOut}
+use Rattle.board.specs.Board.{WaitingSlot, isNone, isFree, any, waiting, pastRefusals, placing, handing, Move, Reply, Given, Refused, replyOf, onBoard, add, takeOut}
 
 -- ---- Events, and the log of events with their replies
 

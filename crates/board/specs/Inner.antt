@@ -4,13 +4,14 @@ use mathlib.Core.List.{List, [], _∷_}
 use Prim.Native.Nat.{ℕ, suc, _+_, _*_}
 use lib.Dec.{leb, ltb, eqb}
 use lib.ListN.{length, take, replicate}
+use Rattle.text.specs.Names.{isDesignator}
 use Rattle.text.specs.Checks.{isFine}
 use Rattle.text.specs.Parts.{part}
 use Rattle.text.specs.Equal.{sameBytes}
 use Rattle.text.specs.declared.Seen.the-variants.{Fine}
 use Rattle.command.specs.Text.{longest, checkCommand}
 use Rattle.join.specs.Join.{Joined, Joins, Refuses, join}
-use Rattle.board.specs.Board.{mostSlots, isDesignator, Move, Stay, Put, Free, pastRefusals, placing, handing}
+use Rattle.board.specs.Board.{mostSlots, Move, Stay, Put, Free, pastRefusals, placing, handing}
 use Rattle.board.specs.Lent.{noSlot}
 use Rattle.board.specs.declared.Slot.{Slot}
 use Rattle.board.specs.declared.Wanted.{Wanted}

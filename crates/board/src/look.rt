@@ -9,6 +9,7 @@ use command::check::check;
 use field::record::middle;
 use text::Seen;
 use text::all_allowed;
+use text::is_designator;
 ghost use mathlib.Core.Path.{_≡_};
 ghost use mathlib.Core.Bool.{not, _&&_};
 ghost use Prim.Native.Nat.{_<_};
@@ -23,13 +24,7 @@ pub fn wanted(designator: &[u8]) -> Wanted
     ensures { λ r. ⌜ r ≡ wantedBy (now (designator .entry)) ⌝ }
 {
     let mut bytes = [0u8; 6];
-    if designator.len() != 6 {
-        return Wanted {
-            designator: bytes,
-            fine: false,
-        };
-    }
-    if !all_allowed(designator) {
+    if !is_designator(designator) {
         return Wanted {
             designator: bytes,
             fine: false,

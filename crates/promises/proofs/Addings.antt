@@ -5,6 +5,7 @@ use mathlib.Core.List.{List, [], _∷_, _++_, foldl, foldl-append}
 use Prim.Native.Nat.{ℕ, _*_, _<_}
 use native.Mathlib.Omega.{arith}
 use lib.ListN.{length, set}
+use Rattle.text.specs.Names.{isDesignator}
 use Rattle.text.specs.Over.{over}
 use Rattle.text.specs.declared.Seen.the-variants.{Fine}
 use Rattle.text.proofs.Cases.{by-test, by-eq}
@@ -12,7 +13,7 @@ use Rattle.text.proofs.Equal.{same-self}
 use Rattle.command.specs.Text.{longest, checkCommand}
 use Rattle.join.specs.Join.{joinText}
 use Rattle.decide.proofs.Tests.{Says, says-no, reworded, not-said, both-said}
-use Rattle.board.specs.Board.{isDesignator, isNone, isFree, isFor, any, lowest, waiting, placing, Move, Put, add, Given, Refused, replyOf}
+use Rattle.board.specs.Board.{isNone, isFree, isFor, any, lowest, waiting, placing, Move, Put, add, Given, Refused, replyOf}
 use Rattle.board.specs.History.{Add as AddFor, onto}
 use Rattle.board.specs.Lent.{onSlots, onArea}
 use Rattle.board.specs.Calls.{Lent, boardIn}

@@ -8,6 +8,7 @@ use native.Mathlib.Omega.{arith}
 use lib.Dec.{eqb}
 use lib.ListN.{length}
 use borrow.Author.Tests.{eqb-true, eq-eqb, ne-eqb}
+use Rattle.text.specs.Names.{isDesignator}
 use Rattle.text.specs.Checks.{isFine}
 use Rattle.text.specs.declared.Seen.{Seen}
 use Rattle.text.specs.declared.Seen.the-variants.{Fine, Bad}
@@ -15,7 +16,7 @@ use Rattle.command.specs.Text.{checkCommand}
 use Rattle.command.proofs.Codes.{check-coded}
 use Rattle.decide.proofs.Tests.{Says, reworded, both-said, eq-said}
 use Rattle.decide.proofs.Words.{bytes-said}
-use Rattle.board.specs.Board.{isDesignator, unlessRefused, pastRefusals, placing, handing, Reply, Given, Refused}
+use Rattle.board.specs.Board.{unlessRefused, pastRefusals, placing, handing, Reply, Given, Refused}
 use Rattle.board.proofs.Steps.{is-fine}
 use Rattle.desk.specs.Numbers.{checkNumbers}
 use Rattle.desk.specs.Waiting.{replyNumbers}

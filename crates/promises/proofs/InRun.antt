@@ -3,12 +3,13 @@ use mathlib.Core.Path.{_≡_, refl, sym, ap, _∙_}
 use mathlib.Core.Bool.{true}
 use mathlib.Core.List.{List, [], _∷_, foldl, map}
 use Prim.Native.Nat.{ℕ}
+use Rattle.text.specs.Names.{isDesignator}
 use Rattle.text.specs.Checks.{isFine}
 use Rattle.text.proofs.Cases.{both-left, both-right}
 use Rattle.command.specs.Text.{checkCommand}
 use Rattle.join.specs.Join.{joinText}
 use Rattle.decide.proofs.Tests.{Says, says-no}
-use Rattle.board.specs.Board.{isDesignator, WaitingSlot, isNone, isFree, any, waiting, isValid, replyOf}
+use Rattle.board.specs.Board.{WaitingSlot, isNone, isFree, any, waiting, isValid, replyOf}
 use Rattle.board.specs.History.{Event, since, onto, joined, noCommands, after, logged, due, aircraft as aircraftOf}
 use Rattle.board.specs.Lent.{isShaped}
 use Rattle.board.specs.Calls.{Lent, boardIn}

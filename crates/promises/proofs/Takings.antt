@@ -7,9 +7,10 @@ use native.Mathlib.Omega.{arith}
 use lib.Dec.{leb}
 use lib.ListN.{length, set, take, drop}
 use borrow.Author.Tests.{le-leb}
+use Rattle.text.specs.Names.{isDesignator}
 use Rattle.text.proofs.Equal.{same-self}
 use Rattle.decide.proofs.Tests.{Says, says-no, reworded, not-said, both-said, le-said}
-use Rattle.board.specs.Board.{isDesignator, isNone, isFor, any, lowest, waiting, Move, Free, takeOut, replyOf}
+use Rattle.board.specs.Board.{isNone, isFor, any, lowest, waiting, Move, Free, takeOut, replyOf}
 use Rattle.board.specs.History.{Take as TakeFor}
 use Rattle.board.specs.Lent.{onSlots}
 use Rattle.board.specs.Calls.{Lent, boardIn}

@@ -2,7 +2,8 @@
 use Prim.Native.Nat.{ℕ}
 use mathlib.Core.Bool.{Bool, true, _&&_, _||_}
 use mathlib.Core.List.{List, [], _∷_}
-use lib.Dec.{leb}
+use lib.Dec.{leb, eqb}
+use lib.ListN.{length}
 
 -- b is one of the bytes from lo up to hi
 abbrev pub between : ℕ → ℕ → ℕ → Bool
@@ -16,3 +17,7 @@ allowed b = between 65 90 b || between 48 57 b
 unfoldable pub allAllowed : List ℕ → Bool
 allAllowed [] = true
 allAllowed (b ∷ bs) = allowed b && allAllowed bs
+
+-- a designator is six allowed bytes
+abbrev pub isDesignator : List ℕ → Bool
+isDesignator d = eqb (length d) 6 && allAllowed d

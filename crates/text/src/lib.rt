@@ -3,7 +3,7 @@ ghost use mathlib.Core.Path.{_≡_};
 ghost use mathlib.Core.Bool.{cond};
 ghost use lib.ListN.{length};
 ghost use lib.Dec.{leb};
-ghost use Rattle.text.specs.Names.{allowed, allAllowed};
+ghost use Rattle.text.specs.Names.{allowed, allAllowed, isDesignator};
 ghost use Rattle.text.specs.Over.{over};
 
 // What a check finds: all fine, or a refusal with its code and its place.
@@ -35,6 +35,17 @@ pub fn all_allowed(s: &[u8]) -> bool
     }
     fine
 }
+
+// Whether it is a designator: six allowed bytes.
+pub fn is_designator(s: &[u8]) -> bool
+    ensures { λ r. ⌜ r ≡ isDesignator (now (s .entry)) ⌝ }
+{
+    if s.len() != 6 {
+        return false;
+    }
+    all_allowed(s)
+}
+
 // Writes `s` over the start of `d`; where it has no room there, `d` stays as it is.
 pub fn copy(d: &mut [u8], s: &[u8])
     ensures { λ _. ⌜
