@@ -1,0 +1,4 @@
+pub mod Journal
+pub mod Calls
+pub mod Printed
+pub mod Inner
