@@ -1,5 +1,8 @@
 -- The laws that the layers above cite.
 pub mod Bytes
+pub mod Dropped
 pub mod Ends
 pub mod Entries
+pub mod Lines
+pub mod Replays
 pub mod Walk
