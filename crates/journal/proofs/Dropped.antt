@@ -17,7 +17,7 @@ use Rattle.journal.specs.Inner.{keptAt, keptTold}
 use Rattle.journal.specs.declared.Kept.{Kept}
 use Rattle.journal.specs.declared.Told.the-variants.{Length, Refused}
 use Rattle.journal.proofs.Bytes.{from-end, journal-append, journal-more, entries-append}
-use Rattle.journal.proofs.Entries.{gathers, reads}
+use Rattle.journal.proofs.Entries.{gathers, read-is, broken-walk}
 
 -- the first of a journal's entries are the journal of their bytes
 pub first-entries : (s : List ℕ) (end m : ℕ) (es : List Entry) → IsJournal s end es
@@ -103,3 +103,12 @@ kept-told s end n es j =
     (gathers keptAt s (keptAll 0) (λ k. refl) (λ fs e k same. kept-more 0 fs e k ∙ rw (zero-plus (length (journalBytes fs)))) es end
     (record { wanted = n; end = end }) j)
     ∙ rw long (from-end Right right-none right-more es n)
+
+-- what is dropped, by the walk
+pub drop-walks : (s : List ℕ) (end n : ℕ) → dropped s end n ≡ keptTold (walk keptAt s end (record { wanted = n; end = end }))
+unfolding dropped keptTold
+drop-walks s end n = go (entriesIn s end) refl
+  where
+    go : (r : Read (List Entry)) → entriesIn s end ≡ r → dropTold r n ≡ keptTold (walk keptAt s end (record { wanted = n; end = end }))
+    go (Sound es) e = sym (kept-told s end n es (read-is s end es e))
+    go (Broken place) e = ap keptTold (sym (broken-walk keptAt s end place (record { wanted = n; end = end }) e))

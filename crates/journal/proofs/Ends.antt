@@ -1,15 +1,17 @@
 -- One step from the end of a journal: what it says of the bytes, and that it looks at no others.
 use mathlib.Core.Path.{_≡_, refl, sym, ap, _∙_}
-use mathlib.Core.Bool.{true, _&&_}
+use mathlib.Core.Bool.{true, _&&_, and-true}
 use mathlib.Core.List.{List}
-use Prim.Native.Nat.{ℕ, _+_, _-_, _/_, _%_, _≤_}
+use Prim.Native.Nat.{ℕ, _+_, _-_, _/_, _%_, _≤_, _<_}
 use native.Mathlib.Omega.{arith}
 use native.Mathlib.Nat.{add-zero}
 use lib.Dec.{leb, eqb, lit<}
 use lib.ListN.{length, getD}
-use borrow.Author.Tests.{leb-true, eqb-true, ne-eqb, le-leb}
+use borrow.Author.Tests.{leb-true, eqb-true, eq-eqb, ne-eqb, le-leb}
+use Rattle.text.specs.Equal.{sameBytes}
 use Rattle.text.specs.Parts.{part}
 use Rattle.text.proofs.Cases.{by-test, both-left, both-right}
+use Rattle.text.proofs.Parts.{part-bytes}
 use Rattle.text.proofs.Equal.{same-equal, equal-same}
 use Rattle.field.proofs.Local.{part-byte}
 use Rattle.journal.specs.Journal.{isEntry, most, entryAt, trailer, lengthIn, isTrailer, beforeTrailer, atTrailer, lastEntry}
@@ -113,3 +115,16 @@ nothing s end e =
 pub nothing-there : (s : List ℕ) → lastEntry s 0 ≡ Nothing
 unfolding lastEntry
 nothing-there s = refl
+
+-- of bytes, the last of the three is all that a trailer is told by
+pub trailer-test : (s : List ℕ) (place : ℕ) → place + 3 ≤ length s → getD s (place + 1) 0 < 256
+    → isTrailer s place ≡ eqb (getD s (place + 2) 0) 74
+unfolding sameBytes
+trailer-test s place h low =
+    rw (
+      part-bytes 3 place s h,
+      add-zero place,
+      eq-eqb (getD s place 0) (lengthIn s place / 256) (omega arith),
+      eq-eqb (getD s (place + 1) 0) (lengthIn s place % 256) (omega arith),
+    )
+    (and-true (eqb (getD s (place + 2) 0) 74))

@@ -141,3 +141,17 @@ sound-where s end es = (read-is s end es, reads s end es)
 -- no bytes are the journal of two different lists of entries
 pub one-list : (s : List ℕ) (end : ℕ) (es fs : List Entry) → IsJournal s end es → IsJournal s end fs → es ≡ fs
 one-list s end es fs j k = sound-same es fs (sym (reads s end es j) ∙ reads s end fs k)
+
+-- where reading fails, every walk does
+pub broken-walk : {A : Type 0} (gather : ℕ → ℕ → A → A) (s : List ℕ) (end place : ℕ) (a : A) → entriesIn s end ≡ Broken place
+    → walk gather s end a ≡ Broken place
+unfolding entriesIn
+broken-walk gather s end place a e =
+    all-broken (λ (at n : ℕ) (later : List Entry). entryAt s at n ∷ later) gather s (suc end) end place [] a e
+
+-- and reading fails where one does
+pub walk-broken : {A : Type 0} (gather : ℕ → ℕ → A → A) (s : List ℕ) (end place : ℕ) (a : A) → walk gather s end a ≡ Broken place
+    → entriesIn s end ≡ Broken place
+unfolding entriesIn
+walk-broken gather s end place a e =
+    all-broken gather (λ (at n : ℕ) (later : List Entry). entryAt s at n ∷ later) s (suc end) end place a [] e

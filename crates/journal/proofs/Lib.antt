@@ -1,4 +1,5 @@
 -- The laws that the layers above cite.
+pub mod Added
 pub mod Bytes
 pub mod Dropped
 pub mod Ends

@@ -5,17 +5,18 @@ use mathlib.Core.List.{List, [], _∷_, _++_, append-assoc, append-nil}
 use Prim.Native.Nat.{ℕ, suc, _+_, _/_, _%_, _≤_, _<_}
 use native.Mathlib.Omega.{arith}
 use native.Mathlib.Nat.{add-assoc, add-zero}
-use lib.Dec.{lit<}
 use lib.ListN.{length, getD, length-append}
 use borrow.Author.Tests.{lt-ltb, le-ltb}
 use Rattle.text.proofs.Cases.{by-lt}
-use Rattle.field.specs.Decimal.{allDigits, value, digitsBefore, decimal}
-use Rattle.field.proofs.Decimal.{decimal-length, decimal-digits, value-decimal}
-use Rattle.journal.specs.Journal.{Entry, entryBytes, journalBytes, isEntry, most, IsJournal, entryAt, Sound, walk}
+use Rattle.field.specs.Decimal.{allDigits, value, digitsBefore}
+use Rattle.field.proofs.Decimal.{part-long, decimal-length, decimal-digits, value-decimal}
+use Rattle.journal.specs.Journal.{Entry, entryBytes, journalBytes, most, IsJournal, entryAt, Read, Sound, Broken, walk, entriesIn}
 use Rattle.journal.specs.Printed.{digitsOf, offsetText, line, printed}
-use Rattle.journal.specs.Inner.{withLine, withSize}
+use Rattle.journal.specs.Inner.{lengthTold, withLine, withSize}
+use Rattle.journal.specs.declared.Told.the-variants.{Length, Refused}
 use Rattle.journal.proofs.Bytes.{entry-who}
-use Rattle.journal.proofs.Entries.{gathers, sound-is}
+use Rattle.journal.proofs.Entries.{gathers, sound-is, walk-broken}
+use Rattle.journal.proofs.Ends.{Ends}
 
 -- ---- Lines
 
@@ -68,6 +69,41 @@ pub line-length : (at : ℕ) (e : Entry) → length (e .who) ≡ 6 → length (l
 unfolding line
 line-length at e six =
     simp (length-append, decimal-length (digitsOf at) at, six) (omega arith)
+
+-- the line of an entry that a step from the end finds
+pub found-line : (s : List ℕ) (end at n : ℕ) → Ends s end at n → length (line at (entryAt s at n)) ≡ digitsOf at + (9 + n)
+found-line s end at n h =
+    let w = h .whole in
+    let i = h .inside in
+    line-length at (entryAt s at n) (entry-who (entryAt s at n) (h .fine)) ∙ rw (part-long s (at + 6) n (omega arith))
+
+-- ---- What the walk over the lines tells
+
+told-sound : (r : Read ℕ) (n : ℕ) → lengthTold r ≡ Length n → r ≡ Sound n
+told-sound (Sound m) n e = let z : m ≡ n = cc in rw z
+told-sound (Broken place) n e = let z : _≡_ {A = ℕ} 0 1 = cc in absurd (omega arith)
+
+told-broken : (r : Read ℕ) (code place : ℕ) → lengthTold r ≡ Refused code place → (code ≡ 14) × (r ≡ Broken place)
+told-broken (Sound m) code place e = let z : _≡_ {A = ℕ} 0 1 = cc in absurd (omega arith)
+told-broken (Broken p) code place e = (cc, cc)
+
+sound-number : (m n : ℕ) → Sound m ≡ Sound n → m ≡ n
+sound-number m n e = cc
+
+-- a length is told of a sound journal alone
+pub size-sound : (s : List ℕ) (end n : ℕ) → lengthTold (walk (withSize s) s end 0) ≡ Length n
+    → (es : List Entry) × IsJournal s end es × (n ≡ length (printed 0 es))
+size-sound s end n e =
+    let told = told-sound (walk (withSize s) s end 0) n e in
+    let f = sound-is (withSize s) s (suc end) end 0 n told in
+    (f .0, f .1, omega (arith, sound-number (0 + length (printed 0 (f .0))) n (sym (sizes-all s (f .0) end 0 (f .1)) ∙ told)))
+
+-- and 14 of a broken one
+pub size-broken : (s : List ℕ) (end code place : ℕ) → lengthTold (walk (withSize s) s end 0) ≡ Refused code place
+    → (code ≡ 14) × (entriesIn s end ≡ Broken place)
+size-broken s end code place e =
+    let told = told-broken (walk (withSize s) s end 0) code place e in
+    (told .0, walk-broken (withSize s) s end place 0 (told .1))
 
 -- ---- An offset
 

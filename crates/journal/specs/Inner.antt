@@ -29,13 +29,15 @@ withLine s at n lines = lines ++ line at (entryAt s at n)
 abbrev pub withSize : List ℕ → ℕ → ℕ → ℕ → ℕ
 withSize s at n size = size + length (line at (entryAt s at n))
 
--- there is room for the lines of a sound journal
+-- the lines of a sound journal, and room for them
 pub record LinesFit (s : List ℕ) (end room : ℕ) : Type 0 where
-  pub fits : (t : List ℕ) → walk (withLine s) s end [] ≡ Sound t → length t ≤ room
+  pub lines : List ℕ
+  pub sound : walk (withLine s) s end [] ≡ Sound lines
+  pub fits : length lines ≤ room
 
 -- they stand over the start of a buffer
 pub record LinesOver (s : List ℕ) (end : ℕ) (before after : List ℕ) : Type 0 where
-  pub written : (t : List ℕ) → walk (withLine s) s end [] ≡ Sound t → after ≡ over before 0 t
+  pub written : (lines : List ℕ) → walk (withLine s) s end [] ≡ Sound lines → after ≡ over before 0 lines
 
 -- ---- Dropping: how many entries are still to go, and where the journal then ends
 

@@ -19,9 +19,15 @@ digitsOf n = cond (ltb n 10) 1 (cond (ltb n 100) 2 (cond (ltb n 1000) 3 (cond (l
 abbrev pub offsetText : ℕ → List ℕ
 offsetText at = decimal (digitsOf at) at
 
--- a space is 32, LF is 10
+-- a text and the byte behind it: a space is 32, LF is 10
+abbrev pub word : List ℕ → ℕ → List ℕ
+word s behind = s ++ (behind ∷ [])
+
+abbrev pub offsetWord : ℕ → List ℕ
+offsetWord at = word (offsetText at) 32
+
 unfoldable pub line : ℕ → Entry → List ℕ
-line at e = offsetText at ++ (32 ∷ []) ++ e .who ++ (32 ∷ []) ++ e .text ++ (10 ∷ [])
+line at e = offsetWord at ++ word (e .who) 32 ++ word (e .text) 10
 
 -- the lines of entries of which the first one's offset is given: those of the later ones come before its own
 unfoldable pub printed : ℕ → List Entry → List ℕ

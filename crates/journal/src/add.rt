@@ -9,8 +9,17 @@ ghost use mathlib.Core.Path.{_≡_};
 ghost use Prim.Native.Nat.{_+_, _≤_};
 ghost use lib.ListN.{length};
 ghost use Rattle.text.specs.Over.{over};
-ghost use Rattle.journal.specs.Journal.{entryBytes};
+ghost use Rattle.journal.specs.Journal.{trailer, entryBytes};
 ghost use Rattle.journal.specs.Calls.{taken, added, addedOver};
+
+fn put_trailer(n: usize, d: &mut [u8])
+    requires { ⌜ (n ≤ 65535) × (length (now d) ≡ 3) ⌝ }
+    ensures { λ _. ⌜ now (d .exit) ≡ trailer n ⌝ }
+{
+    d[0] = (n / 256) as u8;
+    d[1] = (n % 256) as u8;
+    d[2] = b'J';
+}
 
 // Designator, text and trailer, over the start of `d`.
 fn put_entry(designator: &[u8], text: &[u8], d: &mut [u8])
@@ -19,11 +28,10 @@ fn put_entry(designator: &[u8], text: &[u8], d: &mut [u8])
 {
     let n = text.len();
     let place = 6 + n;
+    let end = place + 3;
     copy(&mut d[0..6], designator);
     copy(&mut d[6..place], text);
-    d[place] = (n / 256) as u8;
-    d[place + 1] = (n % 256) as u8;
-    d[place + 2] = b'J';
+    put_trailer(n, &mut d[place..end]);
 }
 
 // 14, 4, the command's own refusals, 2; then the entry is written and the journal's new length answered.

@@ -9,7 +9,7 @@ ghost use Prim.Native.Nat.{_+_, _≤_};
 ghost use lib.ListN.{length};
 ghost use Rattle.text.specs.Over.{over};
 ghost use Rattle.journal.specs.Journal.{entryAt, walk};
-ghost use Rattle.journal.specs.Printed.{digitsOf, line, printTold, printedOver};
+ghost use Rattle.journal.specs.Printed.{digitsOf, word, offsetWord, line, printTold, printedOver};
 ghost use Rattle.journal.specs.Inner.{lengthTold, withSize, LinesFit, LinesOver};
 
 // How many digits an offset has.
@@ -53,24 +53,41 @@ pub fn printed_size(journal: &[u8], end: usize) -> Told
     }
 }
 
+// An offset's digits and a space, over the start of `d`.
+fn put_offset(at: usize, d: &mut [u8]) -> usize
+    requires { ⌜ digitsOf at + 1 ≤ length (now d) ⌝ }
+    ensures { λ r. ⌜ (r ≡ digitsOf at + 1) × (now (d .exit) ≡ over (now (d .entry)) 0 (offsetWord at)) ⌝ }
+{
+    let w = digits_of(at);
+    put_decimal(&mut d[0..w], at);
+    d[w] = b' ';
+    w + 1
+}
+
+// A text and the byte behind it, over the start of `d`.
+fn put_word(s: &[u8], behind: u8, d: &mut [u8])
+    requires { ⌜ length (now s) + 1 ≤ length (now d) ⌝ }
+    ensures { λ _. ⌜ now (d .exit) ≡ over (now (d .entry)) 0 (word (now (s .entry)) behind) ⌝ }
+{
+    let n = s.len();
+    copy(&mut d[0..n], s);
+    d[n] = behind;
+}
+
 // One entry's line, over the start of `d`.
 fn put_line(journal: &[u8], at: usize, n: usize, d: &mut [u8]) -> usize
-    requires { ⌜ (at + 6 + n ≤ length (now journal)) × (length (line at (entryAt (now journal) at n)) ≤ length (now d)) ⌝ }
+    requires { ⌜ (at + 6 + n ≤ length (now journal)) × (digitsOf at + (9 + n) ≤ length (now d)) ⌝ }
     ensures { λ r. ⌜
-        (r ≡ length (line at (entryAt (now (journal .entry)) at n)))
-        × (now (d .exit) ≡ over (now (d .entry)) 0 (line at (entryAt (now (journal .entry)) at n)))
+        (r ≡ digitsOf at + (9 + n)) × (now (d .exit) ≡ over (now (d .entry)) 0 (line at (entryAt (now (journal .entry)) at n)))
         ⌝ }
 {
-    let who = digits_of(at) + 1;
-    let text = who + 7;
+    let text = at + 6;
     let end = text + n;
-    put_decimal(&mut d[0..who - 1], at);
-    d[who - 1] = b' ';
-    copy(&mut d[who..text - 1], &journal[at..at + 6]);
-    d[text - 1] = b' ';
-    copy(&mut d[text..end], &journal[at + 6..at + 6 + n]);
-    d[end] = b'\n';
-    end + 1
+    let who = put_offset(at, d);
+    put_word(&journal[at..text], b' ', &mut d[who..]);
+    let rest = who + 7;
+    put_word(&journal[text..end], b'\n', &mut d[rest..]);
+    rest + (n + 1)
 }
 
 // The lines of all entries of a sound journal, over the start of `out`.
@@ -82,12 +99,15 @@ fn put_lines(journal: &[u8], end: usize, out: &mut [u8])
     let mut written: usize = 0;
     loop {
         match last(journal, here) {
+            Last::Nothing => {
+                return;
+            }
+            Last::Fails(_) => {
+                return;
+            }
             Last::Starts(at, n) => {
                 written += put_line(journal, at, n, &mut out[written..]);
                 here = at;
-            }
-            _ => {
-                return;
             }
         }
     }

@@ -1,15 +1,16 @@
+-- `journal::remove::kept_told` meets its contract: its test is that of `keptTold`.
+use borrow.Author.Tests.{eq-eqb, ne-eqb}
+use Rattle.journal.specs.Inner.{keptTold}
 use Rattle.journal.proofs.remove.kept_told.Statement.{statement}
 use Rattle.journal.proofs.remove.kept_told.Tie as tie
-use Rattle.journal.proofs.remove.kept_told.Reads as reads
-use Rattle.journal.proofs.remove.kept_told.Lts as lts
 
--- src/remove.rt:28:9
 returns : tie.Need-returns
-returns c = ?
+unfolding keptTold
+returns c = rw (eq-eqb (c .before .before .args .k .wanted) 0 (c .if1 .taken))
 
--- src/remove.rt:24:1
 returns-2 : tie.Need-returns-2
-returns-2 c = ?
+unfolding keptTold
+returns-2 c = rw (ne-eqb (c .before .before .args .k .wanted) 0 (c .if1 .left))
 
 pub kept-told-spec : {M : Type 1} → statement M
 kept-told-spec = tie.close (tie.spec returns returns-2)

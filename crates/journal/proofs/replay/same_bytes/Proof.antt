@@ -1,57 +1,50 @@
+-- `journal::replay::same_bytes` meets its contract. The loop's invariant: what was compared so far, and what is left, are together the test of all.
+use borrow.Author.Tests.{ne-eqb}
+use mathlib.Core.Path.{_≡_, refl, sym, ap, _∙_}
+use mathlib.Core.Bool.{Bool, _&&_, and-true}
+use Prim.Native.Nat.{_≤_, _-_}
+use native.Mathlib.Omega.{arith}
+use lib.ListN.{length, drop}
+use denote.Ref.{now}
+use Rattle.text.specs.Equal.{sameBytes}
+use Rattle.text.proofs.Equal.{same-length, same-turn, same-end}
 use Rattle.journal.proofs.replay.same_bytes.Statement.{statement}
 use Rattle.journal.proofs.replay.same_bytes.Tie as tie
-use Rattle.journal.proofs.replay.same_bytes.Reads as reads
-use Rattle.journal.proofs.replay.same_bytes.Lts as lts
 
 abbrev Inv-loop : tie.InvT-loop
-Inv-loop a b same₀ i₀ same i = ?
+Inv-loop a b same₀ i₀ same i = (i ≤ length a) × (sameBytes a b ≡ (same && sameBytes (drop i a) (drop i b)))
 
 abbrev μ-loop : tie.MeasureT-loop
-μ-loop a b same₀ i₀ same i = ?
+μ-loop a b same₀ i₀ same i = length a - i
 
--- src/replay.rt:33:9
 returns : tie.Need-returns Inv-loop μ-loop
-returns c = ?
+returns c = let a = c .before .args in sym (same-length (now (a .a)) (now (a .b)) (c .if1 .taken))
 
--- src/replay.rt:37:5
 loop-holds : tie.Need-loop-holds Inv-loop μ-loop
-loop-holds c = ?
+loop-holds c = (omega arith, refl)
 
--- src/replay.rt:38:24
 shared-slice-read-same : tie.Need-shared-slice-read-same Inv-loop μ-loop
-shared-slice-read-same c = ?
+shared-slice-read-same c = omega arith
 
--- src/replay.rt:38:32
 shared-slice-read-same-2 : tie.Need-shared-slice-read-same-2 Inv-loop μ-loop
-shared-slice-read-same-2 c = ?
+shared-slice-read-same-2 c = omega arith
 
--- src/replay.rt:39:9
 add-i : tie.Need-add-i Inv-loop μ-loop
-add-i c = ?
+add-i c = omega arith
 
--- src/replay.rt:37:5
 loop-less : tie.Need-loop-less Inv-loop μ-loop
-loop-less c = ?
+loop-less c = omega arith
 
--- src/replay.rt:37:5
 loop-again : tie.Need-loop-again Inv-loop μ-loop
-loop-again c = ?
+loop-again c =
+    let l = c .before .before .before .loop in
+    (omega arith, l .inv .1 ∙ same-turn (l .same) _ _ (l .i) (c .before .before .loop-test .taken) (omega arith))
 
--- src/replay.rt:29:1
 returns-2 : tie.Need-returns-2 Inv-loop μ-loop
-returns-2 c = ?
+returns-2 c =
+    let a = c .before .before .before .args in
+    let l = c .before .loop in
+    sym (l .inv .1 ∙ rw (same-end (now (a .a)) (now (a .b)) (l .i) (c .loop-test .left) (omega arith)) (and-true (l .same)))
 
 pub same-bytes-spec : {M : Type 1} → statement M
-same-bytes-spec =
-    tie.close
-    (tie.spec
-    Inv-loop
-    μ-loop
-    returns
-    loop-holds
-    shared-slice-read-same
-    shared-slice-read-same-2
-    add-i
-    loop-less
-    loop-again
-    returns-2)
+same-bytes-spec = tie.close (tie.spec Inv-loop μ-loop returns loop-holds shared-slice-read-same shared-slice-read-same-2 add-i loop-less loop-again returns-2)

@@ -1,42 +1,46 @@
+-- `journal::step::at_trailer` meets its contract: of bytes, the letter alone tells a trailer.
 use borrow.Author.Needs.{needs}
+use borrow.Author.Tests.{eq-eqb, ne-eqb}
+use mathlib.Core.Path.{_≡_, sym, ap, _∙_}
+use mathlib.Core.Bool.{true, false}
+use Prim.Native.Nat.{ℕ, _+_}
+use native.Mathlib.Omega.{arith}
+use lib.ListN.{getD}
+use denote.Ref.{now}
+use Rattle.journal.specs.Journal.{isTrailer, beforeTrailer, atTrailer}
+use Rattle.journal.proofs.Ends.{trailer-test}
 use Rattle.journal.proofs.step.at_trailer.Statement.{statement}
 use Rattle.journal.proofs.step.at_trailer.Tie as tie
-use Rattle.journal.proofs.step.at_trailer.Reads as reads
-use Rattle.journal.proofs.step.at_trailer.Lts as lts
-use Rattle.journal.proofs.step.before_trailer.Reads as before-trailer-reads
-use Rattle.journal.proofs.step.length_in.Reads as length-in-reads
 
--- src/step.rt:61:16
 add-if1 : tie.Need-add-if1
 add-if1 c = search needs
 
--- src/step.rt:61:8
 shared-slice-read-if1 : tie.Need-shared-slice-read-if1
 shared-slice-read-if1 c = search needs
 
--- src/step.rt:62:9
 returns : tie.Need-returns
-returns c = ?
+unfolding atTrailer
+returns c =
+    let a = c .before .before .before .args in
+    let s = now (a .journal) in
+    let told : isTrailer s (a .place) ≡ false =
+    trailer-test s (a .place) (c .before .before .before .pre) (omega (arith, c .before .before .shared-slice-known .given (a .place + 1))) ∙ ne-eqb (getD s (a .place + 2) 0) 74 (c .if1 .taken) in
+    rw told
 
--- src/step.rt:64:36
 length-in-requires : tie.Need-length-in-requires
 length-in-requires c κs = search needs
 
--- src/step.rt:64:5
 before-trailer-requires : tie.Need-before-trailer-requires
 before-trailer-requires c κs = search needs
 
--- src/step.rt:57:1
 returns-2 : tie.Need-returns-2
-returns-2 c = ?
+unfolding atTrailer
+returns-2 c =
+    let a = c .before .before .before .before .before .args in
+    let s = now (a .journal) in
+    let told : isTrailer s (a .place) ≡ true =
+    trailer-test s (a .place) (c .before .before .before .before .before .pre) (omega (arith, c .before .before .before .before .shared-slice-known .given (a .place + 1))) ∙ eq-eqb (getD s (a .place + 2) 0) 74 (c .before .before .if1 .left) in
+    rw told (c .before-trailer .ensures ∙ ap (λ (k : ℕ). beforeTrailer s (a .place) k) (c .before .length-in .ensures .0))
 
 pub at-trailer-spec : {M : Type 1} → statement M
-at-trailer-spec =
-    tie.close
-    (tie.spec
-    add-if1
-    shared-slice-read-if1
-    returns
-    length-in-requires
-    before-trailer-requires
-    returns-2)
+at-trailer-spec = tie.close (tie.spec add-if1 shared-slice-read-if1 returns length-in-requires before-trailer-requires returns-2)
