@@ -10,13 +10,15 @@ use borrow.Author.Tests.{lt-ltb, le-ltb}
 use Rattle.text.proofs.Cases.{by-lt}
 use Rattle.field.specs.Decimal.{allDigits, value, digitsBefore}
 use Rattle.field.proofs.Decimal.{part-long, decimal-length, decimal-digits, value-decimal}
-use Rattle.journal.specs.Journal.{Entry, entryBytes, journalBytes, most, IsJournal, entryAt, Read, Sound, Broken, walk, entriesIn}
-use Rattle.journal.specs.Printed.{digitsOf, offsetText, line, printed}
+use Rattle.journal.specs.Journal.{Entry, entryBytes, journalBytes, most, IsJournal, entryAt, lastEntry, Read, Sound, Broken, walk, entriesIn}
+use Rattle.journal.specs.Printed.{digitsOf, offsetText, word, offsetWord, line, printed}
 use Rattle.journal.specs.Inner.{lengthTold, withLine, withSize}
+use Rattle.journal.specs.declared.Last.the-variants.{Starts}
 use Rattle.journal.specs.declared.Told.the-variants.{Length, Refused}
 use Rattle.journal.proofs.Bytes.{entry-who}
 use Rattle.journal.proofs.Entries.{gathers, sound-is, walk-broken}
-use Rattle.journal.proofs.Ends.{Ends}
+use Rattle.journal.proofs.Ends.{Ends, starts}
+use Rattle.journal.proofs.Walk.{walk-starts}
 
 -- ---- Lines
 
@@ -54,7 +56,7 @@ sizes-all s =
     rw (newest-first es e, same, length-append (line (length (journalBytes es)) e) (printed 0 es))
     (sym (add-assoc size (length (line (length (journalBytes es)) e)) (length (printed 0 es)))))
 
-sound-list : (t u : List ℕ) → Sound t ≡ Sound u → t ≡ u
+pub sound-list : (t u : List ℕ) → Sound t ≡ Sound u → t ≡ u
 sound-list t u e = cc
 
 -- what was gathered stays at the front
@@ -76,6 +78,23 @@ found-line s end at n h =
     let w = h .whole in
     let i = h .inside in
     line-length at (entryAt s at n) (entry-who (entryAt s at n) (h .fine)) ∙ rw (part-long s (at + 6) n (omega arith))
+
+-- how long its words are
+pub word-length : (s : List ℕ) (behind : ℕ) → length (word s behind) ≡ length s + 1
+word-length s behind = length-append s (behind ∷ [])
+
+pub offset-length : (at : ℕ) → length (offsetWord at) ≡ digitsOf at + 1
+offset-length at = word-length (offsetText at) 32 ∙ rw (decimal-length (digitsOf at) at)
+
+-- there is room for the next line where there is room for all
+pub line-fits : (s : List ℕ) (end here at n : ℕ) (lines t : List ℕ) → walk (withLine s) s end [] ≡ Sound t
+    → walk (withLine s) s end [] ≡ walk (withLine s) s here lines → lastEntry s here ≡ Starts at n
+    → length lines + (digitsOf at + (9 + n)) ≤ length t
+line-fits s end here at n lines t all so e =
+    let h = starts s here at n e in
+    let more = line at (entryAt s at n) in
+    let on : walk (withLine s) s at (lines ++ more) ≡ Sound t = sym (walk-starts (withLine s) s here at n lines e) ∙ sym so ∙ all in
+    omega (arith, lines-grow s at (lines ++ more) t on, length-append lines more, found-line s here at n h)
 
 -- ---- What the walk over the lines tells
 

@@ -4,7 +4,7 @@ use mathlib.Core.Bool.{true, cond}
 use mathlib.Core.List.{List, [], _∷_, _++_, foldl}
 use Prim.Native.Nat.{ℕ, _+_, _≤_}
 use native.Mathlib.Omega.{arith}
-use lib.ListN.{length}
+use lib.ListN.{length, take}
 use lib.Seq.{length-take-le}
 use borrow.Author.Tests.{le-leb}
 use Rattle.text.specs.Equal.{sameBytes}
@@ -19,6 +19,7 @@ use Rattle.command.proofs.Accepted.{accepted}
 use Rattle.config.specs.Config.{applyTo, applied}
 use Rattle.config.proofs.Valid.{reset-valid}
 use Rattle.join.specs.Join.{Joins, join, joinText, noChange}
+use Rattle.join.specs.declared.Told.the-variants.{Text, Refused as Refuses}
 use Rattle.join.proofs.Laws.{join-fine, join-short, join-acts, no-change-fine, no-change-applies}
 use Rattle.journal.specs.Journal.{Entry, isEntry, allEntries, IsJournal, Read, Sound, Broken, walk, entriesIn}
 use Rattle.journal.specs.Calls.{textsFor, replay}
@@ -148,6 +149,13 @@ pub joins : (a b : List ℕ) → checkCommand a ≡ Fine → checkCommand b ≡ 
 unfolding join
 joins a b x y = rw (x, y, le-leb (length (joinText a b)) 835 (join-short a b x y))
 
+-- so that the join is never refused, and its length is told
+pub text-refused : {P : Type 0} (n code place which : ℕ) → Text n ≡ Refuses code place which → P
+text-refused n code place which e = let z : _≡_ {A = ℕ} 0 1 = cc in absurd (omega arith)
+
+pub text-same : (m n : ℕ) → Text m ≡ Text n → m ≡ n
+text-same m n e = cc
+
 -- what a command applied after reset answers
 pub applied-reset : (t : List ℕ) → checkCommand t ≡ Fine → applied reset t .settings ≡ applyTo reset t
 unfolding applied
@@ -164,3 +172,7 @@ held-over bytes t long fine =
       found = found-over bytes 0 t fits;
       fine = fine;
     }
+
+-- a buffer that holds a command holds its own first bytes
+pub held-same : {bytes : List ℕ} {n : ℕ} {t : List ℕ} → Holds bytes n t → Holds bytes n (take n bytes)
+held-same h = record { room = h .room; short = h .short; found = refl; fine = rw (h .found) (h .fine) }

@@ -1,63 +1,165 @@
+-- `journal::print::put_lines` meets its contract. The loop's invariant: some lines stand over the start, and the walk over the rest goes on from them.
+use borrow.Author.Needs.{needs}
+use mathlib.Core.Path.{_≡_, refl, sym, ap, _∙_}
+use mathlib.Core.List.{List, [], _++_}
+use Prim.Native.Nat.{ℕ, _+_, _-_, _≤_}
+use native.Mathlib.Omega.{arith}
+use lib.ListN.{length, take, drop, length-append}
+use denote.Ref.{now}
+use borrow.Rule.Slice.PartMut.{putMid}
+use Rattle.text.specs.Over.{over}
+use Rattle.text.proofs.Over.{over-none, length-then, rest-room, rest-written}
+use Rattle.journal.specs.Journal.{Sound, entryAt, walk}
+use Rattle.journal.specs.Printed.{line}
+use Rattle.journal.specs.Inner.{withLine}
+use Rattle.journal.proofs.Ends.{starts}
+use Rattle.journal.proofs.Walk.{walk-starts, walk-nothing, walk-fails}
+use Rattle.journal.proofs.Entries.{sound-broken}
+use Rattle.journal.proofs.Lines.{found-line, line-fits, sound-list}
 use Rattle.journal.proofs.print.put_lines.Statement.{statement}
 use Rattle.journal.proofs.print.put_lines.Tie as tie
-use Rattle.journal.proofs.print.put_lines.Reads as reads
-use Rattle.journal.proofs.print.put_lines.Lts as lts
-use Rattle.journal.proofs.print.put_line.Reads as put-line-reads
-use Rattle.journal.proofs.step.last.Reads as last-reads
 
 abbrev Inv-loop : tie.InvT-loop
-Inv-loop journal end out₀ here₀ written₀ out here written = ?
+Inv-loop journal end out₀ here₀ written₀ out here written =
+    (lines : List ℕ) × (written ≡ length lines) × (out ≡ over out₀ 0 lines) × (walk (withLine journal) journal end [] ≡ walk (withLine journal) journal here lines)
+    × (length out ≡ length out₀)
 
 abbrev μ-loop : tie.MeasureT-loop
-μ-loop journal end out₀ here₀ written₀ out here written = ?
+μ-loop journal end out₀ here₀ written₀ out here written = here
 
--- src/print.rt:100:5
 loop-holds : tie.Need-loop-holds Inv-loop μ-loop
-loop-holds c = ?
+loop-holds c = ([], refl, over-none _ 0, refl, refl)
 
--- src/print.rt:101:15
 last-requires : tie.Need-last-requires Inv-loop μ-loop
-last-requires c κs = ?
+last-requires c κs = search needs
 
--- src/print.rt:102:26
-enum-known-at : tie.Need-enum-known-at Inv-loop μ-loop
-enum-known-at c = ?
+enum-told : tie.Need-enum-told Inv-loop μ-loop
+enum-told c = search needs
 
--- src/print.rt:103:53
-sub-put-line : tie.Need-sub-put-line Inv-loop μ-loop
-sub-put-line c = ?
-
--- src/print.rt:103:53
-part-put-line-start : tie.Need-part-put-line-start Inv-loop μ-loop
-part-put-line-start c = ?
-
--- src/print.rt:103:53
-part-put-line-end : tie.Need-part-put-line-end Inv-loop μ-loop
-part-put-line-end c = ?
-
--- src/print.rt:103:28
-put-line-requires : tie.Need-put-line-requires Inv-loop μ-loop
-put-line-requires c κs = ?
-
--- src/print.rt:103:17
-add-written : tie.Need-add-written Inv-loop μ-loop
-add-written c = ?
-
--- src/print.rt:100:5
-loop-less : tie.Need-loop-less Inv-loop μ-loop
-loop-less c = ?
-
--- src/print.rt:100:5
-loop-again : tie.Need-loop-again Inv-loop μ-loop
-loop-again c = ?
-
--- src/print.rt:107:17
 same-length : tie.Need-same-length Inv-loop μ-loop
-same-length c = ?
+same-length c = c .before .before .before .loop .inv .4
 
--- src/print.rt:107:17
 returns : tie.Need-returns Inv-loop μ-loop
-returns c = ?
+returns c =
+    let l = c .before .before .before .loop in
+    let s = now (c .before .before .before .before .before .before .args .journal) in
+    let done = l .inv .3 ∙ walk-nothing (withLine s) s (l .here) (l .inv .0) (sym (c .before .before .last .ensures) ∙ c .enum-told .given .1) in
+    record { written = λ t w. l .inv .2 ∙ ap (over (now (c .before .before .before .before .before .before .args .out)) 0) (sound-list (l .inv .0) t (sym done ∙ w)) }
+
+enum-told-2 : tie.Need-enum-told-2 Inv-loop μ-loop
+enum-told-2 c = search needs
+
+same-length-2 : tie.Need-same-length-2 Inv-loop μ-loop
+same-length-2 c = c .before .before .before .loop .inv .4
+
+returns-2 : tie.Need-returns-2 Inv-loop μ-loop
+returns-2 c =
+    let l = c .before .before .before .loop in
+    let s = now (c .before .before .before .before .before .before .args .journal) in
+    let failed = l .inv .3 ∙ walk-fails (withLine s) s (l .here) _ (l .inv .0) (sym (c .before .before .last .ensures) ∙ c .enum-told2 .given .1) in
+    record { written = λ t w. sound-broken t _ (sym w ∙ failed) }
+
+enum-known-at : tie.Need-enum-known-at Inv-loop μ-loop
+enum-known-at c = search needs
+
+sub-put-line : tie.Need-sub-put-line Inv-loop μ-loop
+sub-put-line c =
+    let l = c .before .before .before .before .loop in
+    let s = now (c .before .before .before .before .before .before .before .args .journal) in
+    let p = c .before .before .before .before .before .before .before .pre in
+    let at = c .before .at .given .0 .0 in
+    let n = c .before .at .given .0 .1 .0 in
+    let e = sym (c .before .before .before .last .ensures) ∙ c .before .at .given .1 in
+    let h = starts s (l .here) at n e in
+    let fits = line-fits s (c .before .before .before .before .before .before .before .args .end) (l .here) at n (l .inv .0) (p .lines) (p .sound) (l .inv .3) e in
+    omega (arith, p .fits, fits, l .inv .1, l .inv .4)
+
+part-put-line-start : tie.Need-part-put-line-start Inv-loop μ-loop
+part-put-line-start c =
+    let l = c .before .before .before .before .loop in
+    let s = now (c .before .before .before .before .before .before .before .args .journal) in
+    let p = c .before .before .before .before .before .before .before .pre in
+    let at = c .before .at .given .0 .0 in
+    let n = c .before .at .given .0 .1 .0 in
+    let e = sym (c .before .before .before .last .ensures) ∙ c .before .at .given .1 in
+    let h = starts s (l .here) at n e in
+    let fits = line-fits s (c .before .before .before .before .before .before .before .args .end) (l .here) at n (l .inv .0) (p .lines) (p .sound) (l .inv .3) e in
+    omega (arith, p .fits, fits, l .inv .1, l .inv .4)
+
+part-put-line-end : tie.Need-part-put-line-end Inv-loop μ-loop
+part-put-line-end c =
+    let l = c .before .before .before .before .loop in
+    let s = now (c .before .before .before .before .before .before .before .args .journal) in
+    let p = c .before .before .before .before .before .before .before .pre in
+    let at = c .before .at .given .0 .0 in
+    let n = c .before .at .given .0 .1 .0 in
+    let e = sym (c .before .before .before .last .ensures) ∙ c .before .at .given .1 in
+    let h = starts s (l .here) at n e in
+    let fits = line-fits s (c .before .before .before .before .before .before .before .args .end) (l .here) at n (l .inv .0) (p .lines) (p .sound) (l .inv .3) e in
+    omega (arith, p .fits, fits, l .inv .1, l .inv .4)
+
+put-line-requires : tie.Need-put-line-requires Inv-loop μ-loop
+put-line-requires c κs =
+    let l = c .before .before .before .before .before .loop in
+    let s = now (c .before .before .before .before .before .before .before .before .args .journal) in
+    let p = c .before .before .before .before .before .before .before .before .pre in
+    let at = c .before .before .at .given .0 .0 in
+    let n = c .before .before .at .given .0 .1 .0 in
+    let e = sym (c .before .before .before .before .last .ensures) ∙ c .before .before .at .given .1 in
+    let h = starts s (l .here) at n e in
+    let fits = line-fits s (c .before .before .before .before .before .before .before .before .args .end) (l .here) at n (l .inv .0) (p .lines) (p .sound) (l .inv .3) e in
+    (
+      omega (arith, h .whole, h .inside),
+      rest-room (now (c .before .before .before .before .before .before .before .before .args .out)) (l .out) (l .inv .0) (l .written) (l .inv .2) (l .inv .1) _ (omega (arith, p .fits, fits, l .inv .1)),
+    )
+
+add-written : tie.Need-add-written Inv-loop μ-loop
+add-written c =
+    let l = c .before .before .before .before .before .before .before .before .loop in
+    let s = now (c .before .before .before .before .before .before .before .before .before .before .before .args .journal) in
+    let p = c .before .before .before .before .before .before .before .before .before .before .before .pre in
+    let at = c .before .before .before .before .before .at .given .0 .0 in
+    let n = c .before .before .before .before .before .at .given .0 .1 .0 in
+    let e = sym (c .before .before .before .before .before .before .before .last .ensures) ∙ c .before .before .before .before .before .at .given .1 in
+    let h = starts s (l .here) at n e in
+    let fits = line-fits s (c .before .before .before .before .before .before .before .before .before .before .before .args .end) (l .here) at n (l .inv .0) (p .lines) (p .sound) (l .inv .3) e in
+    omega (arith, p .fits, fits, l .inv .1, l .inv .4, c .before .before .put-line .ensures .0)
+
+loop-less : tie.Need-loop-less Inv-loop μ-loop
+loop-less c =
+    let l = c .before .before .before .before .before .before .before .before .loop in
+    let s = now (c .before .before .before .before .before .before .before .before .before .before .before .args .journal) in
+    let p = c .before .before .before .before .before .before .before .before .before .before .before .pre in
+    let at = c .before .before .before .before .before .at .given .0 .0 in
+    let n = c .before .before .before .before .before .at .given .0 .1 .0 in
+    let e = sym (c .before .before .before .before .before .before .before .last .ensures) ∙ c .before .before .before .before .before .at .given .1 in
+    let h = starts s (l .here) at n e in
+    let fits = line-fits s (c .before .before .before .before .before .before .before .before .before .before .before .args .end) (l .here) at n (l .inv .0) (p .lines) (p .sound) (l .inv .3) e in
+    omega (arith, h .whole)
+
+loop-again : tie.Need-loop-again Inv-loop μ-loop
+loop-again c =
+    let l = c .before .before .before .before .before .before .before .before .loop in
+    let s = now (c .before .before .before .before .before .before .before .before .before .before .before .args .journal) in
+    let p = c .before .before .before .before .before .before .before .before .before .before .before .pre in
+    let at = c .before .before .before .before .before .at .given .0 .0 in
+    let n = c .before .before .before .before .before .at .given .0 .1 .0 in
+    let e = sym (c .before .before .before .before .before .before .before .last .ensures) ∙ c .before .before .before .before .before .at .given .1 in
+    let h = starts s (l .here) at n e in
+    let fits = line-fits s (c .before .before .before .before .before .before .before .before .before .before .before .args .end) (l .here) at n (l .inv .0) (p .lines) (p .sound) (l .inv .3) e in
+    let out = now (c .before .before .before .before .before .before .before .before .before .before .before .args .out) in
+    let more = line at (entryAt s at n) in
+    let long : length more ≡ c .before .before .put-line .result = found-line s (l .here) at n h ∙ sym (c .before .before .put-line .ensures .0) in
+    let stands : putMid (l .written) (length (l .out) - l .written) (l .out) (c .before .before .put-line .last .1 .1 .1 .0) ≡ over out 0 (l .inv .0 ++ more) =
+    rest-written out (l .out) (l .inv .0) (l .written) (l .inv .2) (l .inv .1) (c .before .before .put-line .last .1 .1 .1 .0) more (omega (arith, p .fits, fits, l .inv .1, long))
+    (c .before .before .put-line .ensures .1) in
+    (
+      l .inv .0 ++ more,
+      omega (arith, l .inv .1, long, length-append (l .inv .0) more),
+      stands,
+      l .inv .3 ∙ walk-starts (withLine s) s (l .here) at n (l .inv .0) e,
+      length-then out _ (l .inv .0 ++ more) 0 stands (omega (arith, p .fits, fits, l .inv .1, long, length-append (l .inv .0) more)),
+    )
 
 pub put-lines-spec : {M : Type 1} → statement M
 put-lines-spec =
@@ -67,6 +169,12 @@ put-lines-spec =
     μ-loop
     loop-holds
     last-requires
+    enum-told
+    same-length
+    returns
+    enum-told-2
+    same-length-2
+    returns-2
     enum-known-at
     sub-put-line
     part-put-line-start
@@ -74,6 +182,4 @@ put-lines-spec =
     put-line-requires
     add-written
     loop-less
-    loop-again
-    same-length
-    returns)
+    loop-again)

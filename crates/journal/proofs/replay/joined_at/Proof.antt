@@ -1,62 +1,83 @@
+-- `journal::replay::joined_at` meets its contract: the entry's command is joined where the entry is for the aircraft.
 use borrow.Author.Needs.{needs}
+use mathlib.Core.Path.{_≡_, sym, ap, _∙_}
+use mathlib.Core.Bool.{true, false}
+use mathlib.Core.List.{List}
+use Prim.Native.Nat.{ℕ, _+_, _-_}
+use native.Mathlib.Omega.{arith}
+use lib.ListN.{take, drop}
+use denote.Ref.{now}
+use Rattle.text.specs.Equal.{sameBytes}
+use Rattle.text.specs.Parts.{part}
+use Rattle.text.specs.declared.Seen.the-variants.{Fine}
+use Rattle.command.specs.Text.{checkCommand}
+use Rattle.join.specs.Join.{joinText}
+use Rattle.journal.specs.Journal.{entryAt}
+use Rattle.journal.specs.Inner.{joinedAt, Holds}
+use Rattle.journal.proofs.Bytes.{entry-text}
 use Rattle.journal.proofs.replay.joined_at.Statement.{statement}
 use Rattle.journal.proofs.replay.joined_at.Tie as tie
-use Rattle.journal.proofs.replay.joined_at.Reads as reads
-use Rattle.journal.proofs.replay.joined_at.Lts as lts
-use Rattle.journal.proofs.replay.join_before.Reads as join-before-reads
-use Rattle.journal.proofs.replay.same_bytes.Reads as same-bytes-reads
 
--- src/replay.rt:76:16
 add-text : tie.Need-add-text
 add-text c = search needs
 
--- src/replay.rt:77:15
 add-end : tie.Need-add-end
 add-end c = search needs
 
--- src/replay.rt:78:31
 sub-same-bytes : tie.Need-sub-same-bytes
 sub-same-bytes c = search needs
 
--- src/replay.rt:78:31
 part-same-bytes-start : tie.Need-part-same-bytes-start
 part-same-bytes-start c = search needs
 
--- src/replay.rt:78:31
 part-same-bytes-end : tie.Need-part-same-bytes-end
 part-same-bytes-end c = search needs
 
--- src/replay.rt:78:8
 same-bytes-requires : tie.Need-same-bytes-requires
 same-bytes-requires c κs = search needs
 
--- src/replay.rt:79:28
 sub-join-before : tie.Need-sub-join-before
 sub-join-before c = search needs
 
--- src/replay.rt:79:28
 part-join-before-start : tie.Need-part-join-before-start
 part-join-before-start c = search needs
 
--- src/replay.rt:79:28
 part-join-before-end : tie.Need-part-join-before-end
 part-join-before-end c = search needs
 
--- src/replay.rt:79:9
 join-before-requires : tie.Need-join-before-requires
-join-before-requires c κs = ?
+join-before-requires c κs =
+    let a = c .before .before .before .before .before .before .before .before .args in
+    let s = now (a .journal) in
+    let long : a .at + 6 + a .n - (a .at + 6) ≡ a .n = omega arith in
+    (
+      ap (λ (k : ℕ). checkCommand (part (a .at + 6) k s)) long ∙ entry-text (entryAt s (a .at) (a .n)) (c .before .before .before .before .before .before .before .before .pre .0 .1),
+      c .before .before .before .before .before .before .before .before .pre .1,
+    )
 
--- src/replay.rt:79:9
 same-length : tie.Need-same-length
 same-length c = search needs
 
--- src/replay.rt:79:9
 returns : tie.Need-returns
-returns c = ?
+unfolding joinedAt
+returns c =
+    let a = c .before .before .before .before .before .before .before .before .before .before .before .args in
+    let s = now (a .journal) in
+    let six : a .at + 6 - a .at ≡ 6 = omega arith in
+    let long : a .at + 6 + a .n - (a .at + 6) ≡ a .n = omega arith in
+    let told : sameBytes (now (a .designator)) (part (a .at) 6 s) ≡ true =
+    ap (λ (k : ℕ). sameBytes (now (a .designator)) (part (a .at) k s)) (sym six) ∙ sym (c .before .before .before .before .before .before .same-bytes .ensures) ∙ c .before .before .before .before .before .if1 .taken in
+    rw told (rw long at (c .before .before .join-before .ensures))
 
--- src/replay.rt:69:1
 returns-2 : tie.Need-returns-2
-returns-2 c = ?
+unfolding joinedAt
+returns-2 c =
+    let a = c .before .before .before .before .before .before .args in
+    let s = now (a .journal) in
+    let six : a .at + 6 - a .at ≡ 6 = omega arith in
+    let told : sameBytes (now (a .designator)) (part (a .at) 6 s) ≡ false =
+    ap (λ (k : ℕ). sameBytes (now (a .designator)) (part (a .at) k s)) (sym six) ∙ sym (c .before .same-bytes .ensures) ∙ c .if1 .left in
+    rw told (c .before .before .before .before .before .before .pre .1)
 
 pub joined-at-spec : {M : Type 1} → statement M
 joined-at-spec =

@@ -1,68 +1,106 @@
+-- `journal::replay::joined_back` meets its contract. The loop's invariant: the buffer holds a command, from which the walk over the rest goes on.
+use borrow.Author.Needs.{needs}
+use mathlib.Core.Path.{_≡_, refl, sym, ap, subst, _∙_}
+use mathlib.Core.List.{List}
+use Prim.Native.Nat.{ℕ, _+_}
+use native.Mathlib.Omega.{arith}
+use lib.ListN.{length, take}
+use denote.Ref.{now}
+use Rattle.join.specs.Join.{noChange}
+use Rattle.journal.specs.Journal.{walk}
+use Rattle.journal.specs.Inner.{joinedAt, Holds}
+use Rattle.journal.proofs.Ends.{starts}
+use Rattle.journal.proofs.Walk.{walk-starts, walk-nothing, walk-fails}
+use Rattle.journal.proofs.Replays.{held-same, gathered-sound, gathered-broken}
 use Rattle.journal.proofs.replay.joined_back.Statement.{statement}
 use Rattle.journal.proofs.replay.joined_back.Tie as tie
-use Rattle.journal.proofs.replay.joined_back.Reads as reads
-use Rattle.journal.proofs.replay.joined_back.Lts as lts
-use Rattle.journal.proofs.replay.joined_at.Reads as joined-at-reads
-use Rattle.journal.proofs.replay.put_no_change.Reads as put-no-change-reads
-use Rattle.journal.proofs.step.last.Reads as last-reads
 
 abbrev Inv-loop : tie.InvT-loop
-Inv-loop journal end designator later₀ here₀ m₀ later here m = ?
+Inv-loop journal end designator later₀ here₀ m₀ later here m =
+    Holds later m (take m later)
+    × (walk (joinedAt journal designator) journal end noChange ≡ walk (joinedAt journal designator) journal here (take m later))
 
 abbrev μ-loop : tie.MeasureT-loop
-μ-loop journal end designator later₀ here₀ m₀ later here m = ?
+μ-loop journal end designator later₀ here₀ m₀ later here m = here
 
--- src/replay.rt:90:9
 put-no-change-requires : tie.Need-put-no-change-requires Inv-loop μ-loop
-put-no-change-requires c κs = ?
+put-no-change-requires c κs = c .before .before .before .before .pre
 
--- src/replay.rt:91:5
 loop-holds : tie.Need-loop-holds Inv-loop μ-loop
-loop-holds c = ?
+loop-holds c =
+    let a = c .before .before .before .before .before .before .before .args in
+    let h = c .before .before .put-no-change .ensures in
+    (held-same h, ap (walk (joinedAt (now (a .journal)) (now (a .designator))) (now (a .journal)) (a .end)) (sym (h .found)))
 
--- src/replay.rt:92:15
 last-requires : tie.Need-last-requires Inv-loop μ-loop
-last-requires c κs = ?
+last-requires c κs = search needs
 
--- src/replay.rt:94:17
 enum-told : tie.Need-enum-told Inv-loop μ-loop
-enum-told c = ?
+enum-told c = search needs
 
--- src/replay.rt:94:17
 same-length : tie.Need-same-length Inv-loop μ-loop
-same-length c = ?
+same-length c = c .before .before .before .loop .inv .0 .room ∙ sym (c .before .before .before .before .before .before .before .before .before .before .before .pre)
 
--- src/replay.rt:94:17
 returns : tie.Need-returns Inv-loop μ-loop
-returns c = ?
+returns c =
+    let l = c .before .before .before .loop in
+    let a = c .before .before .before .before .before .before .before .before .before .before .before .args in
+    let s = now (a .journal) in
+    let d = now (a .designator) in
+    gathered-sound s d (a .end) (l .m) (l .later) (take (l .m) (l .later))
+    (l .inv .1 ∙ walk-nothing (joinedAt s d) s (l .here) (take (l .m) (l .later)) (sym (c .before .before .last .ensures) ∙ c .enum-told .given .1)) (l .inv .0)
 
--- src/replay.rt:96:25
 enum-known-place : tie.Need-enum-known-place Inv-loop μ-loop
-enum-known-place c = ?
+enum-known-place c = search needs
 
--- src/replay.rt:97:17
 same-length-2 : tie.Need-same-length-2 Inv-loop μ-loop
-same-length-2 c = ?
+same-length-2 c = c .before .before .before .before .loop .inv .0 .room ∙ sym (c .before .before .before .before .before .before .before .before .before .before .before .before .pre)
 
--- src/replay.rt:97:17
 returns-2 : tie.Need-returns-2 Inv-loop μ-loop
-returns-2 c = ?
+returns-2 c =
+    let l = c .before .before .before .before .loop in
+    let a = c .before .before .before .before .before .before .before .before .before .before .before .before .args in
+    let s = now (a .journal) in
+    let d = now (a .designator) in
+    gathered-broken s d (a .end) _ (l .later)
+    (l .inv .1 ∙ walk-fails (joinedAt s d) s (l .here) _ (take (l .m) (l .later)) (sym (c .before .before .before .last .ensures) ∙ c .before .place .given .1))
 
--- src/replay.rt:99:26
 enum-known-at : tie.Need-enum-known-at Inv-loop μ-loop
-enum-known-at c = ?
+enum-known-at c = search needs
 
--- src/replay.rt:100:17
 joined-at-requires : tie.Need-joined-at-requires Inv-loop μ-loop
-joined-at-requires c κs = ?
+joined-at-requires c κs =
+    let l = c .before .before .before .before .before .loop in
+    let a = c .before .before .before .before .before .before .before .before .before .before .before .before .before .args in
+    let s = now (a .journal) in
+    let d = now (a .designator) in
+    let h = starts s (l .here) _ _ (sym (c .before .before .before .before .last .ensures) ∙ c .before .before .at .given .1) in
+    ((omega (arith, h .whole, h .inside), h .fine), l .inv .0)
 
--- src/replay.rt:91:5
 loop-less : tie.Need-loop-less Inv-loop μ-loop
-loop-less c = ?
+loop-less c =
+    let l = c .before .before .before .before .before .before .before .before .loop in
+    let a = c .before .before .before .before .before .before .before .before .before .before .before .before .before .before .before .before .args in
+    let s = now (a .journal) in
+    let d = now (a .designator) in
+    let h = starts s (l .here) _ _ (sym (c .before .before .before .before .before .before .before .last .ensures) ∙ c .before .before .before .before .before .at .given .1) in
+    omega (arith, h .whole)
 
--- src/replay.rt:91:5
 loop-again : tie.Need-loop-again Inv-loop μ-loop
-loop-again c = ?
+loop-again c =
+    let l = c .before .before .before .before .before .before .before .before .loop in
+    let a = c .before .before .before .before .before .before .before .before .before .before .before .before .before .before .before .before .args in
+    let s = now (a .journal) in
+    let d = now (a .designator) in
+    let at = c .before .before .before .before .before .at .given .0 .0 in
+    let n = c .before .before .before .before .before .at .given .0 .1 .0 in
+    let h = c .before .before .joined-at .ensures in
+    (
+      held-same h,
+      l .inv .1
+      ∙ walk-starts (joinedAt s d) s (l .here) at n (take (l .m) (l .later)) (sym (c .before .before .before .before .before .before .before .last .ensures) ∙ c .before .before .before .before .before .at .given .1)
+      ∙ ap (walk (joinedAt s d) s at) (sym (h .found)),
+    )
 
 pub joined-back-spec : {M : Type 1} → statement M
 joined-back-spec =

@@ -1,25 +1,34 @@
+-- `journal::replay::put_no_change` meets its contract: the bytes are those of the no-change command.
 use borrow.Author.Needs.{needs}
+use mathlib.Core.Path.{_≡_, refl, _∙_}
+use native.Mathlib.Omega.{arith}
+use lib.ListN.{length}
+use denote.Ref.{now}
+use borrow.Author.Tests.{le-leb}
+use Rattle.text.specs.Over.{over}
+use Rattle.join.specs.Join.{noChange}
+use Rattle.join.proofs.Laws.{no-change-fine}
+use Rattle.journal.proofs.Replays.{held-over}
 use Rattle.journal.proofs.replay.put_no_change.Statement.{statement}
 use Rattle.journal.proofs.replay.put_no_change.Tie as tie
-use Rattle.journal.proofs.replay.put_no_change.Reads as reads
-use Rattle.journal.proofs.replay.put_no_change.Lts as lts
-use Rattle.text.proofs.copy.Reads as copy-reads
 
--- src/replay.rt:49:17
 slice-aggregate-copy : tie.Need-slice-aggregate-copy
 slice-aggregate-copy c = search needs
 
--- src/replay.rt:49:5
 copy-requires : tie.Need-copy-requires
 copy-requires c κs = search needs
 
--- src/replay.rt:45:1
 same-length : tie.Need-same-length
 same-length c = search needs
 
--- src/replay.rt:45:1
 returns : tie.Need-returns
-returns c = ?
+unfolding noChange
+returns c =
+    let a = c .before .before .before .before .before .before .args in
+    let d = now (a .later) in
+    let copied : c .before .before .copy .last .0 ≡ over d 0 noChange =
+    c .before .before .copy .ensures ∙ rw (le-leb 22 (length d) (omega (arith, c .before .before .before .before .before .before .pre))) in
+    rw copied (held-over d noChange (c .before .before .before .before .before .before .pre) no-change-fine)
 
 pub put-no-change-spec : {M : Type 1} → statement M
 put-no-change-spec = tie.close (tie.spec slice-aggregate-copy copy-requires same-length returns)
