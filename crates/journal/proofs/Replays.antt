@@ -99,8 +99,8 @@ module _ (s d : List ℕ) (end : ℕ) where
       record {
         broken = λ place b. sound-broken t place (sym e ∙ b);
         sound = λ u w.
-          let same : t ≡ u = sound-text t u (sym e ∙ w) in
-          (ap Length (sym (ap length (sym same) ∙ long)), subst (λ (v : List ℕ). Holds bytes (length v) v) same (rw long h));
+            let same : t ≡ u = sound-text t u (sym e ∙ w) in
+            (ap Length (sym (ap length (sym same) ∙ long)), subst (λ (v : List ℕ). Holds bytes (length v) v) same (rw long h));
       }
 
   -- it failed

@@ -1,9 +1,9 @@
 // A journal of the commands that were taken: entries one behind the other, each with its trailer, read from the end.
 pub mod add;
-pub mod step;
 pub mod print;
 pub mod remove;
 pub mod replay;
+pub mod step;
 
 use settings::Settings;
 

@@ -66,7 +66,14 @@ fn join_before(text: &[u8], later: &mut [u8], m: usize) -> usize
 }
 
 // One entry more: where it is for the aircraft its command comes before what was read already.
-fn joined_at(journal: &[u8], designator: &[u8], at: usize, n: usize, later: &mut [u8], m: usize) -> usize
+fn joined_at(
+    journal: &[u8],
+    designator: &[u8],
+    at: usize,
+    n: usize,
+    later: &mut [u8],
+    m: usize,
+) -> usize
     requires { ⌜ (at + 6 + n ≤ length (now journal)) × (isEntry (entryAt (now journal) at n) ≡ true) ⌝ }
     requires { ⌜ Holds (now later) m (take m (now later)) ⌝ }
     ensures { λ r. ⌜

@@ -81,12 +81,11 @@ loop-again c =
     let h = starts s (l .here) _ _ found in
     let at = c .before .before .at .given .0 .0 in
     let n = c .before .before .at .given .0 .1 .0 in
-    let long : length (line at (entryAt s at n)) ≡ c .digits-of .result + (9 + n) = found-line s (l .here) at n h ∙ rw (c .digits-of .ensures .0) in
-    (
+    let long : length (line at (entryAt s at n)) ≡ c .digits-of .result + (9 + n) = found-line s (l .here) at n h ∙ rw (c .digits-of .ensures .0) in (
       omega (arith, l .inv .0, h .whole, h .few, c .digits-of .ensures .1),
       l .inv .1
-      ∙ walk-starts (withSize s) s (l .here) _ _ (l .size) found
-      ∙ ap (λ (k : ℕ). walk (withSize s) s at (l .size + k)) long,
+          ∙ walk-starts (withSize s) s (l .here) _ _ (l .size) found
+          ∙ ap (λ (k : ℕ). walk (withSize s) s at (l .size + k)) long,
     )
 
 pub printed-size-spec : {M : Type 1} → statement M

@@ -102,11 +102,10 @@ returns c =
     rest-written d D (offsetWord (a .at)) p first (is ∙ sym (offset-length (a .at))) zs who (omega arith)
     (c .before .before .before .before .before .before .before .put-word .ensures ∙ ap (λ (k : ℕ). over (take (length D - p) (drop p D)) 0 (word (part (a .at) k s) 32)) six) in
     let E = putMid p (length D - p) D zs in
-    let q : p + 7 ≡ length (offsetWord (a .at) ++ who) = omega (arith, is, length-append (offsetWord (a .at)) who, offset-length (a .at), seven) in
-    (
+    let q : p + 7 ≡ length (offsetWord (a .at) ++ who) = omega (arith, is, length-append (offsetWord (a .at)) who, offset-length (a .at), seven) in (
       omega (arith, is),
       rest-written d E (offsetWord (a .at) ++ who) (p + 7) second q (c .before .before .put-word2 .last .1 .1 .0) text (omega arith)
-      (c .before .before .put-word2 .ensures ∙ ap (λ (k : ℕ). over (take (length E - (p + 7)) (drop (p + 7) E)) 0 (word (part (a .at + 6) k s) 10)) many),
+          (c .before .before .put-word2 .ensures ∙ ap (λ (k : ℕ). over (take (length E - (p + 7)) (drop (p + 7) E)) 0 (word (part (a .at + 6) k s) 10)) many),
     )
 
 pub put-line-spec : {M : Type 1} → statement M

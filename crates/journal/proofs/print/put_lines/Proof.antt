@@ -107,8 +107,7 @@ put-line-requires c κs =
     let n = c .before .before .at .given .0 .1 .0 in
     let e = sym (c .before .before .before .before .last .ensures) ∙ c .before .before .at .given .1 in
     let h = starts s (l .here) at n e in
-    let fits = line-fits s (c .before .before .before .before .before .before .before .before .args .end) (l .here) at n (l .inv .0) (p .lines) (p .sound) (l .inv .3) e in
-    (
+    let fits = line-fits s (c .before .before .before .before .before .before .before .before .args .end) (l .here) at n (l .inv .0) (p .lines) (p .sound) (l .inv .3) e in (
       omega (arith, h .whole, h .inside),
       rest-room (now (c .before .before .before .before .before .before .before .before .args .out)) (l .out) (l .inv .0) (l .written) (l .inv .2) (l .inv .1) _ (omega (arith, p .fits, fits, l .inv .1)),
     )
@@ -152,8 +151,7 @@ loop-again c =
     let long : length more ≡ c .before .before .put-line .result = found-line s (l .here) at n h ∙ sym (c .before .before .put-line .ensures .0) in
     let stands : putMid (l .written) (length (l .out) - l .written) (l .out) (c .before .before .put-line .last .1 .1 .1 .0) ≡ over out 0 (l .inv .0 ++ more) =
     rest-written out (l .out) (l .inv .0) (l .written) (l .inv .2) (l .inv .1) (c .before .before .put-line .last .1 .1 .1 .0) more (omega (arith, p .fits, fits, l .inv .1, long))
-    (c .before .before .put-line .ensures .1) in
-    (
+    (c .before .before .put-line .ensures .1) in (
       l .inv .0 ++ more,
       omega (arith, l .inv .1, long, length-append (l .inv .0) more),
       stands,

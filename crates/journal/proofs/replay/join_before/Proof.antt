@@ -28,8 +28,7 @@ joined-is : (c : tie.After-known-told)
 joined-is c =
     let a = c .before .before .before .before .before .before .before .before .before .args in
     let h = c .before .before .before .before .before .before .before .before .before .pre in
-    let j = joins (now (a .text)) (take (a .m) (now (a .later))) (h .0) (h .1 .fine) in
-    (
+    let j = joins (now (a .text)) (take (a .m) (now (a .later))) (h .0) (h .1 .fine) in (
       text-same _ _ (ap told (sym j) ∙ sym (c .before .before .before .before .join-texts .ensures .0) ∙ c .before .n .given .1),
       c .before .before .before .before .join-texts .ensures .1 ∙ ap (λ (x : Joined). joinedOver x blank) j,
       join-short (now (a .text)) (take (a .m) (now (a .later))) (h .0) (h .1 .fine),

@@ -49,8 +49,7 @@ join-before-requires : tie.Need-join-before-requires
 join-before-requires c κs =
     let a = c .before .before .before .before .before .before .before .before .args in
     let s = now (a .journal) in
-    let long : a .at + 6 + a .n - (a .at + 6) ≡ a .n = omega arith in
-    (
+    let long : a .at + 6 + a .n - (a .at + 6) ≡ a .n = omega arith in (
       ap (λ (k : ℕ). checkCommand (part (a .at + 6) k s)) long ∙ entry-text (entryAt s (a .at) (a .n)) (c .before .before .before .before .before .before .before .before .pre .0 .1),
       c .before .before .before .before .before .before .before .before .pre .1,
     )

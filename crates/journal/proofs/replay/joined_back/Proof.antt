@@ -94,12 +94,11 @@ loop-again c =
     let d = now (a .designator) in
     let at = c .before .before .before .before .before .at .given .0 .0 in
     let n = c .before .before .before .before .before .at .given .0 .1 .0 in
-    let h = c .before .before .joined-at .ensures in
-    (
+    let h = c .before .before .joined-at .ensures in (
       held-same h,
       l .inv .1
-      ∙ walk-starts (joinedAt s d) s (l .here) at n (take (l .m) (l .later)) (sym (c .before .before .before .before .before .before .before .last .ensures) ∙ c .before .before .before .before .before .at .given .1)
-      ∙ ap (walk (joinedAt s d) s at) (sym (h .found)),
+          ∙ walk-starts (joinedAt s d) s (l .here) at n (take (l .m) (l .later)) (sym (c .before .before .before .before .before .before .before .last .ensures) ∙ c .before .before .before .before .before .at .given .1)
+          ∙ ap (walk (joinedAt s d) s at) (sym (h .found)),
     )
 
 pub joined-back-spec : {M : Type 1} → statement M

@@ -33,8 +33,7 @@ add-result c =
 returns : tie.Need-returns
 returns c =
     let a = c .before .before .before .before .before .args in
-    let byte = c .before .before .before .before .shared-slice-known .given in
-    (
+    let byte = c .before .before .before .before .shared-slice-known .given in (
       omega (arith, c .wide2 .ensures, c .before .before .wide .ensures),
       omega (arith, c .wide2 .ensures, c .before .before .wide .ensures, byte (a .place), byte (a .place + 1)),
     )
