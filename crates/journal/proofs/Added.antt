@@ -58,6 +58,11 @@ checked-sound : (r : Read (List Entry)) → seenOf r (λ (es : List Entry). Fine
 checked-sound (Sound es) e = (es, refl)
 checked-sound (Broken place) e = bad-fine 14 place e
 
+-- a journal that is accepted has entries
+pub checked-journal : (s : List ℕ) (end : ℕ) → checkJournal s end ≡ Fine → (es : List Entry) × (entriesIn s end ≡ Sound es)
+unfolding checkJournal
+checked-journal s end e = checked-sound (entriesIn s end) e
+
 pub accepted : (s : List ℕ) (end : ℕ) (d t : List ℕ) → addSeen s end d t ≡ Fine → Accepted s end d t
 unfolding addSeen checkJournal
 accepted s end d t e =

@@ -102,7 +102,7 @@ part-first s end at n i h =
     ∙ part-extend n (take end s) (drop end s) at (omega (arith, length-take-le end s i)))
 
 -- and where the bytes of an entry stand behind others, a step from the end finds it
-module _ (s : List ℕ) (end : ℕ) (front : List ℕ) (e : Entry) (few : end ≤ most) (inside : end ≤ length s)
+module _ (s : List ℕ) (end : ℕ) (front : List ℕ) (e : Entry) (inside : end ≤ length s)
     (is : take end s ≡ front ++ entryBytes e) (ok : isEntry e ≡ true) where
   abbrev at : ℕ
   at = length front
@@ -136,7 +136,7 @@ module _ (s : List ℕ) (end : ℕ) (front : List ℕ) (e : Entry) (few : end �
       (split ∙ sym (append-assoc front (e .who) (e .text ++ trailer n)) ∙ sym (append-assoc (front ++ e .who) (e .text) (trailer n)))
       ∙ part-middle (front ++ e .who) (e .text) (trailer n) (at + 6) n (length-append front (e .who) ∙ rw six) refl
 
-  stands-trailer : part (end - 3) 3 s ≡ trailer n
+  pub stands-trailer : part (end - 3) 3 s ≡ trailer n
   unfolding entryBytes
   stands-trailer =
       let w = stands-whole in
@@ -152,8 +152,8 @@ module _ (s : List ℕ) (end : ℕ) (front : List ℕ) (e : Entry) (few : end �
   pub stands-entry : entryAt s at n ≡ e
   stands-entry = rw (stands-who, stands-text)
 
-  pub stands-ends : Ends s end at n
-  stands-ends = record { whole = stands-whole; few = few; inside = inside; marked = stands-trailer; fine = rw stands-entry ok }
+  pub stands-ends : end ≤ most → Ends s end at n
+  stands-ends few = record { whole = stands-whole; few = few; inside = inside; marked = stands-trailer; fine = rw stands-entry ok }
 
   -- and before it the others
   pub stands-front : take at s ≡ front

@@ -1,23 +1,22 @@
 -- Without its last entries a journal is the journal of the others.
-use mathlib.Core.Path.{_≡_, refl, sym, ap, subst, _∙_}
-use mathlib.Core.Bool.{Bool, true, cond, _&&_}
+use mathlib.Core.Path.{_≡_, refl, sym, ap, _∙_}
+use mathlib.Core.Bool.{true}
 use mathlib.Core.List.{List, [], _∷_, _++_}
-use Prim.Native.Nat.{ℕ, zero, suc, _+_, _-_, _≤_}
+use Prim.Native.Nat.{ℕ, zero, suc, _+_, _-_, _≤_, _<_}
 use native.Mathlib.Omega.{arith}
 use native.Mathlib.Nat.{add-zero}
-use lib.Dec.{leb, eqb}
 use lib.ListN.{length, take, drop, length-append, take-append-drop}
 use lib.Seq.{take-append-le, take-all, take-take, take-at, length-take-le}
 use borrow.Author.Tests.{le-leb, lt-leb, ne-eqb}
-use Rattle.text.specs.Checks.{must}
+use Rattle.text.specs.Names.{isDesignator}
 use Rattle.text.proofs.Cases.{by-le, both-left}
-use Rattle.journal.specs.Journal.{Entry, entryBytes, journalBytes, allEntries, most, IsJournal, Read, Sound, Broken, walk, entriesIn}
-use Rattle.journal.specs.Calls.{told, without, dropTold, dropped}
+use Rattle.journal.specs.Journal.{Entry, entryBytes, journalBytes, allEntries, IsJournal, Read, Sound, Broken, walk, entriesIn}
+use Rattle.journal.specs.Calls.{without, dropTold, dropped, replay, replayed}
 use Rattle.journal.specs.Inner.{keptAt, keptTold}
 use Rattle.journal.specs.declared.Kept.{Kept}
 use Rattle.journal.specs.declared.Told.the-variants.{Length, Refused}
 use Rattle.journal.proofs.Bytes.{from-end, journal-append, journal-more, entries-append}
-use Rattle.journal.proofs.Entries.{gathers, read-is, broken-walk}
+use Rattle.journal.proofs.Entries.{gathers, reads, read-is, broken-walk}
 
 -- the first of a journal's entries are the journal of their bytes
 pub first-entries : (s : List ℕ) (end m : ℕ) (es : List Entry) → IsJournal s end es
@@ -112,3 +111,43 @@ drop-walks s end n = go (entriesIn s end) refl
     go : (r : Read (List Entry)) → entriesIn s end ≡ r → dropTold r n ≡ keptTold (walk keptAt s end (record { wanted = n; end = end }))
     go (Sound es) e = sym (kept-told s end n es (read-is s end es e))
     go (Broken place) e = ap keptTold (sym (broken-walk keptAt s end place (record { wanted = n; end = end }) e))
+
+-- ---- Dropping the last n entries, on the bytes
+
+-- a journal is the same without the bytes behind it
+pub alone : (s : List ℕ) (end : ℕ) (es : List Entry) → IsJournal s end es → IsJournal (take end s) end es
+alone s end es j =
+    record {
+      few = j .few;
+      inside = omega (arith, length-take-le end s (j .inside));
+      bytes = take-take end end s (omega arith) ∙ j .bytes;
+      entries = j .entries;
+    }
+
+-- what is left after dropping the last n of these entries: its length, its bytes, and the state that it gives
+pub record Leaves (s : List ℕ) (end n : ℕ) (es : List Entry) (d : List ℕ) : Type 0 where
+  pub size : ℕ
+  pub answer : dropped s end n ≡ Length size
+  pub bytes : take size s ≡ journalBytes (without n es)
+  pub entries : entriesIn (take size s) size ≡ Sound (without n es)
+  pub state : isDesignator d ≡ true → replayed (take size s) size d ≡ record { code = 0; place = 0; settings = replay d (without n es) }
+
+-- up to the count, exactly the first of the entries are left, and their state
+pub drop-leaves : (s : List ℕ) (end n : ℕ) (es : List Entry) (d : List ℕ) → entriesIn s end ≡ Sound es → n ≤ length es → Leaves s end n es d
+unfolding dropped replayed
+drop-leaves s end n es d e h =
+    let k = length (journalBytes (without n es)) in
+    let j = first-entries s end (length es - n) es (read-is s end es e) in
+    let same : entriesIn (take k s) k ≡ Sound (without n es) = reads (take k s) k (without n es) (alone s k (without n es) j) in
+    record {
+      size = k;
+      answer = rw (e, le-leb n (length es) h);
+      bytes = j .bytes;
+      entries = same;
+      state = λ named. rw (same, named);
+    }
+
+-- and above it the answer is 5 at 0
+pub drop-refused : (s : List ℕ) (end n : ℕ) (es : List Entry) → entriesIn s end ≡ Sound es → length es < n → dropped s end n ≡ Refused 5 0
+unfolding dropped
+drop-refused s end n es e h = rw (e, lt-leb n (length es) h)

@@ -71,7 +71,7 @@ starts s end at n e =
     (λ l. fails-starts 0 at n (rw (z, l) at e)))
 
 -- the length that a trailer tells
-told-length : (s : List ℕ) (place n : ℕ) → part place 3 s ≡ trailer n → lengthIn s place ≡ n
+pub told-length : (s : List ℕ) (place n : ℕ) → part place 3 s ≡ trailer n → lengthIn s place ≡ n
 told-length s place n e =
     let high : getD s place 0 ≡ n / 256 =
     ap (λ (i : ℕ). getD s i 0) (sym (add-zero place)) ∙ sym (part-byte 3 s place 0 (lit< tt)) ∙ ap (λ (l : List ℕ). getD l 0 0) e in

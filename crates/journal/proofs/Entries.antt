@@ -91,17 +91,17 @@ module _ {A : Type 0} (gather : ℕ → ℕ → A → A) (s : List ℕ) (all : L
       let is : take end s ≡ front ++ entryBytes e = j .bytes ∙ journal-more es e in
       let both : (allEntries es && isEntry e) ≡ true = sym (entries-more es e) ∙ j .entries in
       let ok = both-right (allEntries es) (isEntry e) both in
-      let whole = stands-whole s end front e (j .few) (j .inside) is ok in
+      let whole = stands-whole s end front e (j .inside) is ok in
       let shorter : IsJournal s (length front) es =
       record {
         few = omega (arith, j .few);
         inside = omega (arith, j .inside);
-        bytes = stands-front s end front e (j .few) (j .inside) is ok;
+        bytes = stands-front s end front e (j .inside) is ok;
         entries = both-left (allEntries es) (isEntry e) both;
       } in
-      walk-starts gather s end (length front) n a (finds s end (length front) n (stands-ends s end front e (j .few) (j .inside) is ok))
+      walk-starts gather s end (length front) n a (finds s end (length front) n (stands-ends s end front e (j .inside) is ok (j .few)))
       ∙ before (length front) (gather (length front) n a) shorter
-      ∙ ap Sound (sym (more es e a (stands-entry s end front e (j .few) (j .inside) is ok)))
+      ∙ ap Sound (sym (more es e a (stands-entry s end front e (j .inside) is ok)))
 
   no-more : Gathers []
   unfolding Gathers

@@ -6,4 +6,6 @@ pub mod Ends
 pub mod Entries
 pub mod Lines
 pub mod Replays
+pub mod Shown
+pub mod Unique
 pub mod Walk

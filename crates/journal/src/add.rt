@@ -1,6 +1,6 @@
 // An entry written behind the others.
 use crate::Told;
-use crate::print::printed_size;
+use crate::check::check_journal;
 use command::check::check;
 use text::Seen;
 use text::copy;
@@ -41,11 +41,11 @@ pub fn add(journal: &mut [u8], end: usize, designator: &[u8], text: &[u8]) -> To
         × (now (journal .exit) ≡ addedOver (now (journal .entry)) end (now (designator .entry)) (now (text .entry)))
         ⌝ }
 {
-    match printed_size(journal, end) {
-        Told::Refused(code, place) => {
+    match check_journal(journal, end) {
+        Seen::Bad(code, place) => {
             return Told::Refused(code, place);
         }
-        Told::Length(_) => {}
+        Seen::Fine => {}
     }
     if !is_designator(designator) {
         return Told::Refused(4, 0);

@@ -1,5 +1,6 @@
 // A journal of the commands that were taken: entries one behind the other, each with its trailer, read from the end.
 pub mod add;
+pub mod check;
 pub mod print;
 pub mod remove;
 pub mod replay;

@@ -16,10 +16,9 @@ use Rattle.command.specs.Text.{checkCommand}
 use Rattle.command.proofs.Accepted.{accepted}
 use Rattle.journal.specs.Journal.{Entry, entryBytes, most, IsJournal, Sound, entriesIn}
 use Rattle.journal.specs.Calls.{checkJournal, taken, newEnd, addSeen, added, addedOver}
-use Rattle.journal.specs.declared.Told.the-variants.{Length, Refused}
-use Rattle.journal.proofs.Entries.{reads}
-use Rattle.journal.proofs.Lines.{size-sound, size-broken}
-use Rattle.journal.proofs.Added.{designator-long, new-end}
+use Rattle.journal.specs.declared.Told.the-variants.{Length}
+use Rattle.journal.proofs.Entries.{read-is}
+use Rattle.journal.proofs.Added.{checked-journal, designator-long, new-end}
 use Rattle.journal.proofs.add.add.Statement.{statement}
 use Rattle.journal.proofs.add.add.Tie as tie
 
@@ -29,8 +28,8 @@ sound : (c : tie.After-enum-told)
     (es : List Entry) × (entriesIn (now (a .journal)) (a .end) ≡ Sound es) × IsJournal (now (a .journal)) (a .end) es
 sound c =
     let a = c .before .before .before .before .before .before .before .args in
-    let f = size-sound (now (a .journal)) (a .end) _ (sym (c .before .before .printed-size .ensures) ∙ c .enum-told .given .1) in
-    (f .0, reads (now (a .journal)) (a .end) (f .0) (f .1), f .1)
+    let f = checked-journal (now (a .journal)) (a .end) (sym (c .before .before .check-journal .ensures) ∙ c .enum-told .given .1) in
+    (f .0, f .1, read-is (now (a .journal)) (a .end) (f .0) (f .1))
 
 -- the designator is well formed
 named : (c : tie.Else1) → isDesignator (now (c .before .before .before .before .before .before .before .before .before .args .designator)) ≡ true
@@ -40,8 +39,8 @@ named c = sym (c .before .is-designator .ensures) ∙ not-false _ (c .if1 .left)
 fine : (c : tie.After-enum-told2) → checkCommand (now (c .before .before .before .before .before .before .before .before .before .before .before .before .args .text)) ≡ Fine
 fine c = sym (c .before .before .check .ensures) ∙ c .enum-told2 .given .1
 
-printed-size-requires : tie.Need-printed-size-requires
-printed-size-requires c κs = search needs
+check-journal-requires : tie.Need-check-journal-requires
+check-journal-requires c κs = search needs
 
 enum-known-code : tie.Need-enum-known-code
 enum-known-code c = search needs
@@ -50,11 +49,8 @@ same-length : tie.Need-same-length
 same-length c = search needs
 
 returns : tie.Need-returns
-unfolding added addedOver addSeen checkJournal
-returns c =
-    let a = c .before .before .before .before .before .before .before .before .args in
-    let g = size-broken (now (a .journal)) (a .end) _ _ (sym (c .before .before .before .printed-size .ensures) ∙ c .before .code .given .1) in
-    rw (g .1) (ap (λ (k : ℕ). Refused k (c .before .code .given .0 .1 .0)) (g .0), refl)
+unfolding added addedOver addSeen
+returns c = rw (sym (c .before .before .before .check-journal .ensures) ∙ c .before .code .given .1) (refl, refl)
 
 enum-told : tie.Need-enum-told
 enum-told c = search needs
@@ -166,7 +162,7 @@ pub add-spec : {M : Type 1} → statement M
 add-spec =
     tie.close
     (tie.spec
-    printed-size-requires
+    check-journal-requires
     enum-known-code
     same-length
     returns

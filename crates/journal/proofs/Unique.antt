@@ -1,0 +1,208 @@
+-- No bytes are the entries of two different lists, however long; and where reading fails.
+use mathlib.Core.Path.{_≡_, refl, sym, ap, subst, _∙_}
+use mathlib.Core.Logic.{_⊎_, inl, inr}
+use mathlib.Core.Bool.{Bool, true, false, _&&_}
+use mathlib.Core.List.{List, [], _∷_, _++_, append-assoc, append-nil}
+use Prim.Native.Nat.{ℕ, zero, suc, _+_, _-_, _≤_, _<_}
+use native.Mathlib.Omega.{arith}
+use lib.Dec.{leb, eqb}
+use lib.ListN.{length, take, length-append}
+use lib.Seq.{take-length}
+use borrow.Author.Tests.{leb-true, le-leb}
+use Rattle.text.proofs.Cases.{by-test, by-le, both-left, both-right}
+use Rattle.journal.specs.Journal.{Entry, entryBytes, journalBytes, isEntry, allEntries, most, entryAt, isTrailer, lengthIn, beforeTrailer, atTrailer, lastEntry, Read, Sound, Broken, onLast, walkBack, entriesIn}
+use Rattle.journal.specs.declared.Last.{Last}
+use Rattle.journal.specs.declared.Last.the-variants.{Nothing, Starts, Fails}
+use Rattle.journal.proofs.Ends.{starts, finds, told-length}
+use Rattle.journal.proofs.Bytes.{from-end, journal-append, journal-one, journal-more, entries-more, entry-who, bytes-length, found-bytes, stands-whole, stands-trailer, stands-entry, stands-ends, stands-front}
+use Rattle.journal.proofs.Entries.{sound-broken}
+
+-- ---- One list
+
+-- entries behind others are told by the bytes alone
+module _ (a b : List ℕ) (e f : Entry) (ok : isEntry e ≡ true) (fine : isEntry f ≡ true) (same : a ++ entryBytes e ≡ b ++ entryBytes f) where
+  abbrev s : List ℕ
+  s = a ++ entryBytes e
+
+  one : take (length s) s ≡ a ++ entryBytes e
+  one = take-length s
+
+  two : take (length s) s ≡ b ++ entryBytes f
+  two = take-length s ∙ same
+
+  within : length s ≤ length s
+  within = omega arith
+
+  texts-long : length (e .text) ≡ length (f .text)
+  texts-long =
+      sym (told-length s (length s - 3) (length (e .text)) (stands-trailer s (length s) a e within one ok))
+      ∙ told-length s (length s - 3) (length (f .text)) (stands-trailer s (length s) b f within two fine)
+
+  fronts-long : length a ≡ length b
+  fronts-long =
+      let x = stands-whole s (length s) a e within one ok in
+      let y = stands-whole s (length s) b f within two fine in
+      let z = texts-long in
+      omega arith
+
+  pub same-last : e ≡ f
+  same-last =
+      sym (stands-entry s (length s) a e within one ok)
+      ∙ rw (fronts-long, texts-long) (stands-entry s (length s) b f within two fine)
+
+  pub same-front : a ≡ b
+  same-front =
+      sym (stands-front s (length s) a e within one ok)
+      ∙ ap (λ (k : ℕ). take k s) fronts-long
+      ∙ stands-front s (length s) b f within two fine
+
+some-bytes : (es : List Entry) (e : Entry) → isEntry e ≡ true → 1 ≤ length (journalBytes (es ++ (e ∷ [])))
+some-bytes es e ok =
+    omega (arith, ap length (journal-more es e), length-append (journalBytes es) (entryBytes e), bytes-length e (entry-who e ok))
+
+no-bytes : length (journalBytes []) ≡ 0
+unfolding journalBytes
+no-bytes = refl
+
+Alone : List Entry → Type 0
+Alone es = (fs : List Entry) → allEntries es ≡ true → allEntries fs ≡ true → journalBytes es ≡ journalBytes fs → es ≡ fs
+
+alone-none : Alone []
+unfolding Alone
+alone-none =
+    from-end (λ (fs : List Entry). allEntries [] ≡ true → allEntries fs ≡ true → journalBytes [] ≡ journalBytes fs → [] ≡ fs)
+    (λ h k e. refl)
+    (λ fs f on h k e.
+    let ok = both-right (allEntries fs) (isEntry f) (sym (entries-more fs f) ∙ k) in
+    absurd (omega (arith, some-bytes fs f ok, ap length e, no-bytes)))
+
+alone-more : (es : List Entry) (e : Entry) → Alone es → Alone (es ++ (e ∷ []))
+unfolding Alone
+alone-more es e before =
+    from-end
+    (λ (fs : List Entry). allEntries (es ++ (e ∷ [])) ≡ true → allEntries fs ≡ true → journalBytes (es ++ (e ∷ [])) ≡ journalBytes fs
+    → es ++ (e ∷ []) ≡ fs)
+    (λ h k q.
+    let ok = both-right (allEntries es) (isEntry e) (sym (entries-more es e) ∙ h) in
+    absurd (omega (arith, some-bytes es e ok, ap length q, no-bytes)))
+    (λ fs f on h k q.
+    let x = sym (entries-more es e) ∙ h in
+    let y = sym (entries-more fs f) ∙ k in
+    let ok = both-right (allEntries es) (isEntry e) x in
+    let fine = both-right (allEntries fs) (isEntry f) y in
+    let bytes = sym (journal-more es e) ∙ q ∙ journal-more fs f in
+    let last : e ≡ f = same-last (journalBytes es) (journalBytes fs) e f ok fine bytes in
+    let front : es ≡ fs =
+    before fs (both-left (allEntries es) (isEntry e) x) (both-left (allEntries fs) (isEntry f) y)
+    (same-front (journalBytes es) (journalBytes fs) e f ok fine bytes) in
+    rw (front, last))
+
+-- the entries are unique
+pub unique : (es fs : List Entry) → allEntries es ≡ true → allEntries fs ≡ true → journalBytes es ≡ journalBytes fs → es ≡ fs
+unfolding Alone
+unique = from-end Alone alone-none alone-more
+
+-- ---- Where reading from the end first fails
+
+-- why a step from the end fails, and at which place
+pub data Why (s : List ℕ) (here place : ℕ) : Type 0 where
+  Limits : place ≡ 0 → ((here < 3) ⊎ (most < here)) ⊎ (length s < here) → Why s here place
+  Trailer : place + 3 ≡ here → ((front : List ℕ) (e : Entry) → isEntry e ≡ true → take here s ≡ front ++ entryBytes e → ⊥) → Why s here place
+
+fails-same : (p q : ℕ) → Fails p ≡ Fails q → p ≡ q
+fails-same p q e = cc
+
+starts-fails : {P : Type 0} (at n place : ℕ) → Starts at n ≡ Fails place → P
+starts-fails at n place e = let z : _≡_ {A = ℕ} 0 1 = cc in absurd (omega arith)
+
+nothing-fails : {P : Type 0} (place : ℕ) → Nothing ≡ Fails place → P
+nothing-fails place e = let z : _≡_ {A = ℕ} 0 1 = cc in absurd (omega arith)
+
+trailer-place : (s : List ℕ) (p place : ℕ) → atTrailer s p ≡ Fails place → p ≡ place
+unfolding atTrailer beforeTrailer
+trailer-place s p place e =
+    by-test (isTrailer s p)
+    (λ t. by-test (leb (6 + lengthIn s p) p && isEntry (entryAt s (p - (6 + lengthIn s p)) (lengthIn s p)))
+    (λ u. starts-fails _ _ place (rw (t, u) at e))
+    (λ u. fails-same p place (rw (t, u) at e)))
+    (λ t. fails-same p place (rw t at e))
+
+outside : (s : List ℕ) (here : ℕ) → (leb 3 here && leb here most && leb here (length s)) ≡ false
+    → ((here < 3) ⊎ (most < here)) ⊎ (length s < here)
+outside s here l =
+    by-le 3 here
+    (λ three. by-le here most
+    (λ few. by-le here (length s)
+    (λ inside. let z : true ≡ false = rw (le-leb 3 here three, le-leb here most few, le-leb here (length s) inside) at l in true-false z)
+    (λ beyond. inr beyond))
+    (λ many. inl (inr many)))
+    (λ short. inl (inl short))
+  where
+    true-false : {P : Type 0} → true ≡ false → P
+    true-false e = let z : _≡_ {A = ℕ} 0 1 = cc in absurd (omega arith)
+
+pub why : (s : List ℕ) (here place : ℕ) → lastEntry s here ≡ Fails place → Why s here place
+unfolding lastEntry
+why s here place e =
+    by-test (eqb here 0)
+    (λ z. nothing-fails place (rw z at e))
+    (λ z. by-test (leb 3 here && leb here most && leb here (length s))
+    (λ l.
+    let two = both-left (leb 3 here && leb here most) (leb here (length s)) l in
+    let three = leb-true 3 here (both-left (leb 3 here) (leb here most) two) in
+    let few = leb-true here most (both-right (leb 3 here) (leb here most) two) in
+    let inside = leb-true here (length s) (both-right (leb 3 here && leb here most) (leb here (length s)) l) in
+    let p = trailer-place s (here - 3) place (rw (z, l) at e) in
+    Trailer (omega (arith, p, three))
+    (λ front x ok is.
+    let found = finds s here (length front) (length (x .text)) (stands-ends s here front x inside is ok few) in
+    starts-fails (length front) (length (x .text)) place (sym found ∙ e)))
+    (λ l. Limits (sym (fails-same 0 place (rw (z, l) at e))) (outside s here l)))
+
+-- reading stopped: some entries were read from the end, and before them a step failed
+pub record Stopped (s : List ℕ) (end place : ℕ) : Type 0 where
+  pub here : ℕ
+  pub later : List Entry
+  pub read : take end s ≡ take here s ++ journalBytes later
+  pub entries : allEntries later ≡ true
+  pub fails : lastEntry s here ≡ Fails place
+
+stopped-now : (s : List ℕ) (end place : ℕ) → lastEntry s end ≡ Fails place → Stopped s end place
+unfolding journalBytes allEntries
+stopped-now s end place e = record { here = end; later = []; read = sym (append-nil (take end s)); entries = refl; fails = e }
+
+stopped-on : (s : List ℕ) (end at n place : ℕ) → lastEntry s end ≡ Starts at n → Stopped s at place → Stopped s end place
+stopped-on s end at n place e x =
+    let h = starts s end at n e in
+    record {
+      here = x .here;
+      later = x .later ++ (entryAt s at n ∷ []);
+      read =
+          found-bytes s end at n h
+          ∙ rw (x .read, journal-more (x .later) (entryAt s at n)) (append-assoc (take (x .here) s) (journalBytes (x .later)) (entryBytes (entryAt s at n)));
+      entries = entries-more (x .later) (entryAt s at n) ∙ rw (x .entries) (h .fine);
+      fails = x .fails;
+    }
+
+walk-stopped : {A : Type 0} (gather : ℕ → ℕ → A → A) (s : List ℕ) (steps end place : ℕ) (a : A) → end < steps
+    → walkBack gather s steps end a ≡ Broken place → Stopped s end place
+unfolding walkBack
+walk-stopped gather s zero end place a k e = absurd (omega arith)
+walk-stopped {A} gather s (suc steps) end place a k e =
+    go (lastEntry s end) refl e (λ (at n : ℕ) (l : at < end). walk-stopped gather s steps at place (gather at n a) (omega arith))
+  where
+    go : (l : Last) → lastEntry s end ≡ l
+        → onLast l (Sound a) (λ (at n : ℕ). walkBack gather s steps at (gather at n a)) ≡ Broken place
+        → ((at n : ℕ) → at < end → walkBack gather s steps at (gather at n a) ≡ Broken place → Stopped s at place)
+        → Stopped s end place
+    go Nothing q w on = sound-broken a place w
+    go (Starts at n) q w on =
+        let h = starts s end at n q .whole in
+        stopped-on s end at n place q (on at n (omega arith) w)
+    go (Fails p) q w on = let z : p ≡ place = cc in stopped-now s end place (q ∙ ap Fails z)
+
+-- a journal that is broken at a place has its first failure from the end there
+pub broken-where : (s : List ℕ) (end place : ℕ) → entriesIn s end ≡ Broken place → Stopped s end place
+unfolding entriesIn
+broken-where s end place e =
+    walk-stopped (λ (at n : ℕ) (later : List Entry). entryAt s at n ∷ later) s (suc end) end place [] (omega arith) e
