@@ -1,11 +1,11 @@
 -- One step from the end of a journal: what it says of the bytes, and that it looks at no others.
 use mathlib.Core.Path.{_≡_, refl, sym, ap, _∙_}
 use mathlib.Core.Bool.{true, _&&_, and-true}
-use mathlib.Core.List.{List}
+use mathlib.Core.List.{List, [], _∷_}
 use Prim.Native.Nat.{ℕ, _+_, _-_, _/_, _%_, _≤_, _<_}
 use native.Mathlib.Omega.{arith}
 use native.Mathlib.Nat.{add-zero}
-use lib.Dec.{leb, eqb, lit<}
+use lib.Dec.{leb, eqb}
 use lib.ListN.{length, getD}
 use borrow.Author.Tests.{leb-true, eqb-true, eq-eqb, ne-eqb, le-leb}
 use Rattle.text.specs.Equal.{sameBytes}
@@ -13,7 +13,6 @@ use Rattle.text.specs.Parts.{part}
 use Rattle.text.proofs.Cases.{by-test, both-left, both-right}
 use Rattle.text.proofs.Parts.{part-bytes}
 use Rattle.text.proofs.Equal.{same-equal, equal-same}
-use Rattle.field.proofs.Local.{part-byte}
 use Rattle.journal.specs.Journal.{isEntry, most, entryAt, trailer, lengthIn, isTrailer, beforeTrailer, atTrailer, lastEntry}
 use Rattle.journal.specs.declared.Last.the-variants.{Nothing, Starts, Fails}
 
@@ -70,13 +69,19 @@ starts s end at n e =
     (λ j. fails-starts (end - 3) at n (rw (z, l, j) at e)))
     (λ l. fails-starts 0 at n (rw (z, l) at e)))
 
+-- three bytes, one by one
+three-bytes : (s : List ℕ) (place : ℕ) → place + 3 ≤ length s
+    → part place 3 s ≡ getD s place 0 ∷ getD s (place + 1) 0 ∷ getD s (place + 2) 0 ∷ []
+three-bytes s place h = part-bytes 3 place s h ∙ rw (add-zero place)
+
+same-two : (a b c x y z : ℕ) → a ∷ b ∷ c ∷ [] ≡ x ∷ y ∷ z ∷ [] → (a ≡ x) × (b ≡ y)
+same-two a b c x y z e = (cc, cc)
+
 -- the length that a trailer tells
-pub told-length : (s : List ℕ) (place n : ℕ) → part place 3 s ≡ trailer n → lengthIn s place ≡ n
-told-length s place n e =
-    let high : getD s place 0 ≡ n / 256 =
-    ap (λ (i : ℕ). getD s i 0) (sym (add-zero place)) ∙ sym (part-byte 3 s place 0 (lit< tt)) ∙ ap (λ (l : List ℕ). getD l 0 0) e in
-    let low : getD s (place + 1) 0 ≡ n % 256 = sym (part-byte 3 s place 1 (lit< tt)) ∙ ap (λ (l : List ℕ). getD l 1 0) e in
-    rw (high, low) (omega arith)
+pub told-length : (s : List ℕ) (place n : ℕ) → place + 3 ≤ length s → part place 3 s ≡ trailer n → lengthIn s place ≡ n
+told-length s place n h e =
+    let two = same-two _ _ _ _ _ _ (sym (three-bytes s place h) ∙ e) in
+    rw (two .0, two .1) (omega arith)
 
 -- and back: a step finds every entry whose bytes end there
 pub finds : (s : List ℕ) (end at n : ℕ) → Ends s end at n → lastEntry s end ≡ Starts at n
@@ -89,7 +94,7 @@ finds s end at n h =
       le-leb 3 end (omega arith),
       le-leb end most (h .few),
       le-leb end (length s) (h .inside),
-      told-length s (end - 3) n (h .marked),
+      told-length s (end - 3) n (omega (arith, h .inside)) (h .marked),
       equal-same (part (end - 3) 3 s) (trailer n) (h .marked),
       le-leb (6 + n) (end - 3) (omega arith),
       p,
@@ -116,15 +121,13 @@ pub nothing-there : (s : List ℕ) → lastEntry s 0 ≡ Nothing
 unfolding lastEntry
 nothing-there s = refl
 
--- of bytes, the last of the three is all that a trailer is told by
-pub trailer-test : (s : List ℕ) (place : ℕ) → place + 3 ≤ length s → getD s (place + 1) 0 < 256
-    → isTrailer s place ≡ eqb (getD s (place + 2) 0) 74
+same-three : (a b c x y z : ℕ) → a ≡ x → b ≡ y → sameBytes (a ∷ b ∷ c ∷ []) (x ∷ y ∷ z ∷ []) ≡ eqb c z
 unfolding sameBytes
-trailer-test s place h low =
-    rw (
-      part-bytes 3 place s h,
-      add-zero place,
-      eq-eqb (getD s place 0) (lengthIn s place / 256) (omega arith),
-      eq-eqb (getD s (place + 1) 0) (lengthIn s place % 256) (omega arith),
-    )
-    (and-true (eqb (getD s (place + 2) 0) 74))
+same-three a b c x y z e f = rw (eq-eqb a x e, eq-eqb b y f) (and-true (eqb c z))
+
+-- of bytes, the last of the three is all that a trailer is told by
+pub trailer-test : (s : List ℕ) (place : ℕ) → place + 3 ≤ length s → getD s place 0 < 256 → getD s (place + 1) 0 < 256
+    → isTrailer s place ≡ eqb (getD s (place + 2) 0) 74
+trailer-test s place h high low =
+    rw (three-bytes s place h)
+    (same-three (getD s place 0) (getD s (place + 1) 0) (getD s (place + 2) 0) _ _ _ (omega arith) (omega arith))

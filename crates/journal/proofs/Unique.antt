@@ -35,8 +35,9 @@ module _ (a b : List ℕ) (e f : Entry) (ok : isEntry e ≡ true) (fine : isEntr
 
   texts-long : length (e .text) ≡ length (f .text)
   texts-long =
-      sym (told-length s (length s - 3) (length (e .text)) (stands-trailer s (length s) a e within one ok))
-      ∙ told-length s (length s - 3) (length (f .text)) (stands-trailer s (length s) b f within two fine)
+      let x = stands-whole s (length s) a e within one ok in
+      sym (told-length s (length s - 3) (length (e .text)) (omega arith) (stands-trailer s (length s) a e within one ok))
+      ∙ told-length s (length s - 3) (length (f .text)) (omega arith) (stands-trailer s (length s) b f within two fine)
 
   fronts-long : length a ≡ length b
   fronts-long =

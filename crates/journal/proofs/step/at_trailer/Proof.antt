@@ -24,7 +24,7 @@ returns c =
     let a = c .before .before .before .args in
     let s = now (a .journal) in
     let told : isTrailer s (a .place) ≡ false =
-    trailer-test s (a .place) (c .before .before .before .pre) (omega (arith, c .before .before .shared-slice-known .given (a .place + 1))) ∙ ne-eqb (getD s (a .place + 2) 0) 74 (c .if1 .taken) in
+    trailer-test s (a .place) (c .before .before .before .pre) (omega (arith, c .before .before .shared-slice-known .given (a .place))) (omega (arith, c .before .before .shared-slice-known .given (a .place + 1))) ∙ ne-eqb (getD s (a .place + 2) 0) 74 (c .if1 .taken) in
     rw told
 
 length-in-requires : tie.Need-length-in-requires
@@ -39,7 +39,7 @@ returns-2 c =
     let a = c .before .before .before .before .before .args in
     let s = now (a .journal) in
     let told : isTrailer s (a .place) ≡ true =
-    trailer-test s (a .place) (c .before .before .before .before .before .pre) (omega (arith, c .before .before .before .before .shared-slice-known .given (a .place + 1))) ∙ eq-eqb (getD s (a .place + 2) 0) 74 (c .before .before .if1 .left) in
+    trailer-test s (a .place) (c .before .before .before .before .before .pre) (omega (arith, c .before .before .before .before .shared-slice-known .given (a .place))) (omega (arith, c .before .before .before .before .shared-slice-known .given (a .place + 1))) ∙ eq-eqb (getD s (a .place + 2) 0) 74 (c .before .before .if1 .left) in
     rw told (c .before-trailer .ensures ∙ ap (λ (k : ℕ). beforeTrailer s (a .place) k) (c .before .length-in .ensures .0))
 
 pub at-trailer-spec : {M : Type 1} → statement M
