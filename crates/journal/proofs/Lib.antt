@@ -6,6 +6,7 @@ pub mod Ends
 pub mod Entries
 pub mod Lines
 pub mod Replays
+pub mod Short
 pub mod Shown
 pub mod Unique
 pub mod Walk
