@@ -1,6 +1,7 @@
 pub mod Commands
 pub mod Decisions
 pub mod Joins
+pub mod Journal
 pub mod Numbers
 pub mod Outcomes
 pub mod Reports

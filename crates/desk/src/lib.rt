@@ -5,6 +5,7 @@ mod command_calls;
 mod config_calls;
 mod decide_calls;
 mod join_calls;
+mod journal_calls;
 mod packed_calls;
 mod report_calls;
 
@@ -73,4 +74,17 @@ pub struct HostDecided {
     pub decision: u8,
     pub spare: u16,
     pub rest: u32,
+}
+
+// The answer of a step from the end of a journal: where an entry starts, where its text does and how long that is. `given` is 0
+// where no entry is left, and in a refusal.
+#[repr(C)]
+pub struct HostEntry {
+    pub place: usize,
+    pub offset: usize,
+    pub text: usize,
+    pub length: u32,
+    pub code: u8,
+    pub given: u8,
+    pub spare: u16,
 }

@@ -7,7 +7,7 @@ use native.Mathlib.Omega.{arith}
 use lib.Dec.{leb, eqb}
 use lib.ListN.{length, take}
 use lib.Seq.{take-add}
-use borrow.Author.Tests.{leb-true, eqb-true}
+use borrow.Author.Tests.{leb-true, le-leb, eqb-true}
 use Rattle.text.specs.Checks.{must, _andThen_, isFine}
 use Rattle.text.specs.Names.{allAllowed, isDesignator}
 use Rattle.text.specs.Over.{over}
@@ -91,3 +91,10 @@ add-reads s end d t es e sound =
     rw e
     (reads (over s end (entryBytes (taken d t))) (newEnd end (taken d t)) (es ++ (taken d t ∷ []))
     (one-written s end es (taken d t) (read-is s end es sound) (rw (a .named, a .fine)) (a .few) (a .room)))
+
+-- where nothing is refused
+pub add-fine : (s : List ℕ) (end : ℕ) (d t : List ℕ) (es : List Entry) → entriesIn s end ≡ Sound es → isDesignator d ≡ true
+    → checkCommand t ≡ Fine → newEnd end (taken d t) ≤ most → newEnd end (taken d t) ≤ length s → addSeen s end d t ≡ Fine
+unfolding addSeen checkJournal
+add-fine s end d t es sound named fine few room =
+    rw (sound, named, fine, le-leb (newEnd end (taken d t)) most few, le-leb (newEnd end (taken d t)) (length s) room)

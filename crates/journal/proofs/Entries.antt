@@ -74,6 +74,37 @@ all-broken {A} {B} f g s (suc steps) end place a b e =
     go (Starts at n) w on = on at n w
     go (Fails p) w on = cc
 
+-- ---- The newest entry of a journal
+
+-- it is found from the end, and the others are the journal before it
+pub record Newest (s : List ℕ) (end : ℕ) (es : List Entry) (e : Entry) : Type 0 where
+  pub found : lastEntry s end ≡ Starts (length (journalBytes es)) (length (e .text))
+  pub read : entryAt s (length (journalBytes es)) (length (e .text)) ≡ e
+  pub before : IsJournal s (length (journalBytes es)) es
+
+pub newest : (s : List ℕ) (end : ℕ) (es : List Entry) (e : Entry) → IsJournal s end (es ++ (e ∷ [])) → Newest s end es e
+newest s end es e j =
+    let front = journalBytes es in
+    let is : take end s ≡ front ++ entryBytes e = j .bytes ∙ journal-more es e in
+    let both : (allEntries es && isEntry e) ≡ true = sym (entries-more es e) ∙ j .entries in
+    let ok = both-right (allEntries es) (isEntry e) both in
+    let whole = stands-whole s end front e (j .inside) is ok in
+    record {
+      found = finds s end (length front) (length (e .text)) (stands-ends s end front e (j .inside) is ok (j .few));
+      read = stands-entry s end front e (j .inside) is ok;
+      before =
+          record {
+            few = omega (arith, j .few);
+            inside = omega (arith, j .inside);
+            bytes = stands-front s end front e (j .inside) is ok;
+            entries = both-left (allEntries es) (isEntry e) both;
+          };
+    }
+
+-- no entries end at byte 0
+pub none-left : (s : List ℕ) (end : ℕ) → IsJournal s end [] → end ≡ 0
+none-left s end j = sym (length-take-le end s (j .inside)) ∙ ap length (j .bytes ∙ no-bytes)
+
 -- ---- What a walk gathers from a journal's entries
 
 -- `all` says what is gathered from a list of entries: nothing from none, and from one more what that one adds first
@@ -86,28 +117,14 @@ module _ {A : Type 0} (gather : ℕ → ℕ → A → A) (s : List ℕ) (all : L
   one-more : (es : List Entry) (e : Entry) → Gathers es → Gathers (es ++ (e ∷ []))
   unfolding Gathers
   one-more es e before end a j =
-      let front = journalBytes es in
+      let x = newest s end es e j in
+      let at = length (journalBytes es) in
       let n = length (e .text) in
-      let is : take end s ≡ front ++ entryBytes e = j .bytes ∙ journal-more es e in
-      let both : (allEntries es && isEntry e) ≡ true = sym (entries-more es e) ∙ j .entries in
-      let ok = both-right (allEntries es) (isEntry e) both in
-      let whole = stands-whole s end front e (j .inside) is ok in
-      let shorter : IsJournal s (length front) es =
-      record {
-        few = omega (arith, j .few);
-        inside = omega (arith, j .inside);
-        bytes = stands-front s end front e (j .inside) is ok;
-        entries = both-left (allEntries es) (isEntry e) both;
-      } in
-      walk-starts gather s end (length front) n a (finds s end (length front) n (stands-ends s end front e (j .inside) is ok (j .few)))
-      ∙ before (length front) (gather (length front) n a) shorter
-      ∙ ap Sound (sym (more es e a (stands-entry s end front e (j .inside) is ok)))
+      walk-starts gather s end at n a (x .found) ∙ before at (gather at n a) (x .before) ∙ ap Sound (sym (more es e a (x .read)))
 
   no-more : Gathers []
   unfolding Gathers
-  no-more end a j =
-      let z : end ≡ 0 = sym (length-take-le end s (j .inside)) ∙ ap length (j .bytes ∙ no-bytes) in
-      rw (z, walk-nothing gather s 0 a (nothing-there s), none a)
+  no-more end a j = rw (none-left s end j, walk-nothing gather s 0 a (nothing-there s), none a)
 
   pub gathers : (es : List Entry) (end : ℕ) (a : A) → IsJournal s end es → walk gather s end a ≡ Sound (all es a)
   unfolding Gathers

@@ -1,12 +1,13 @@
 -- The lengths that are answered are small: of a journal at most 65,535, of what is printed at most twice that.
 use mathlib.Core.Path.{_≡_, refl, sym, ap, _∙_}
-use mathlib.Core.Bool.{Bool, true, false}
+use mathlib.Core.Bool.{true}
 use mathlib.Core.List.{List, [], _∷_, _++_}
 use Prim.Native.Nat.{ℕ, _+_, _-_, _*_, _≤_}
 use native.Mathlib.Omega.{arith}
 use lib.Dec.{leb, ltb}
 use lib.ListN.{length, length-append}
 use lib.Seq.{length-take-le}
+use borrow.Author.Tests.{leb-true}
 use Rattle.text.specs.Checks.{must}
 use Rattle.text.specs.declared.Seen.{Seen}
 use Rattle.text.specs.declared.Seen.the-variants.{Fine, Bad}
@@ -85,3 +86,15 @@ printed-short s end room n e = go (entriesIn s end) refl e
         let long : length (journalBytes es) ≡ end = sym (sym (length-take-le end s (j .inside)) ∙ ap length (j .bytes)) in
         omega (arith, f .1, lines-short 0 es (j .entries), j .few)
     go (Broken place) q w = let z : _≡_ {A = ℕ} 0 1 = cc in absurd (omega arith)
+
+-- what is printed fits its buffer
+pub printed-fits : (s : List ℕ) (end room n : ℕ) → printTold s end room ≡ Length n → n ≤ room
+unfolding printTold printSeen
+printed-fits s end room n e = go (entriesIn s end) e
+  where
+    go : (r : Read (List Entry))
+        → told (seenOf r (λ (es : List Entry). must (leb (length (printed 0 es)) room) 2 0)) (length (printedIn r)) ≡ Length n → n ≤ room
+    go (Sound es) w =
+        let f = told-fine (must (leb (length (printed 0 es)) room) 2 0) (length (printed 0 es)) n w in
+        omega (arith, f .1, leb-true (length (printed 0 es)) room (must-held (leb (length (printed 0 es)) room) 2 0 (f .0)))
+    go (Broken place) w = let z : _≡_ {A = ℕ} 0 1 = cc in absurd (omega arith)

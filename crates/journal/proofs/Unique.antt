@@ -108,15 +108,17 @@ unique = from-end Alone alone-none alone-more
 -- why a step from the end fails, and at which place
 pub data Why (s : List ℕ) (here place : ℕ) : Type 0 where
   Limits : place ≡ 0 → ((here < 3) ⊎ (most < here)) ⊎ (length s < here) → Why s here place
-  Trailer : place + 3 ≡ here → ((front : List ℕ) (e : Entry) → isEntry e ≡ true → take here s ≡ front ++ entryBytes e → ⊥) → Why s here place
+  Trailer : place + 3 ≡ here → here ≤ most → here ≤ length s
+      → ((front : List ℕ) (e : Entry) → isEntry e ≡ true → take here s ≡ front ++ entryBytes e → ⊥)
+      → Why s here place
 
 fails-same : (p q : ℕ) → Fails p ≡ Fails q → p ≡ q
 fails-same p q e = cc
 
-starts-fails : {P : Type 0} (at n place : ℕ) → Starts at n ≡ Fails place → P
+pub starts-fails : {P : Type 0} (at n place : ℕ) → Starts at n ≡ Fails place → P
 starts-fails at n place e = let z : _≡_ {A = ℕ} 0 1 = cc in absurd (omega arith)
 
-nothing-fails : {P : Type 0} (place : ℕ) → Nothing ≡ Fails place → P
+pub nothing-fails : {P : Type 0} (place : ℕ) → Nothing ≡ Fails place → P
 nothing-fails place e = let z : _≡_ {A = ℕ} 0 1 = cc in absurd (omega arith)
 
 trailer-place : (s : List ℕ) (p place : ℕ) → atTrailer s p ≡ Fails place → p ≡ place
@@ -154,7 +156,7 @@ why s here place e =
     let few = leb-true here most (both-right (leb 3 here) (leb here most) two) in
     let inside = leb-true here (length s) (both-right (leb 3 here && leb here most) (leb here (length s)) l) in
     let p = trailer-place s (here - 3) place (rw (z, l) at e) in
-    Trailer (omega (arith, p, three))
+    Trailer (omega (arith, p, three)) few inside
     (λ front x ok is.
     let found = finds s here (length front) (length (x .text)) (stands-ends s here front x inside is ok few) in
     starts-fails (length front) (length (x .text)) place (sym found ∙ e)))

@@ -9,6 +9,7 @@ pub mod Decision
 pub mod Explain
 mod InRun
 pub mod Join
+pub mod Journal
 pub mod Packed
 pub mod Report
 mod Sections

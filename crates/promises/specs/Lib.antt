@@ -5,6 +5,8 @@ pub mod Configuration
 pub mod Decision
 pub mod Explain
 pub mod Join
+pub mod Journal
+pub mod JournalBytes
 pub mod Packed
 pub mod Report
 pub mod Sections
