@@ -14,7 +14,7 @@ use Rattle.text.proofs.Over.{length-over, found-over}
 use Rattle.text.proofs.Cases.{by-test, both-left, both-right}
 use Rattle.settings.specs.Valid.{reset}
 use Rattle.settings.specs.declared.Settings.{Settings}
-use Rattle.command.specs.Text.{checkCommand}
+use Rattle.command.specs.Text.{longest, checkCommand}
 use Rattle.command.proofs.Accepted.{accepted}
 use Rattle.config.specs.Config.{applyTo, applied}
 use Rattle.config.proofs.Valid.{reset-valid}
@@ -145,9 +145,9 @@ module _ (s d : List ℕ) (end : ℕ) where
 -- ---- The join that is written
 
 -- two accepted commands are joined in 835 bytes
-pub joins : (a b : List ℕ) → checkCommand a ≡ Fine → checkCommand b ≡ Fine → join a b 835 ≡ Joins (joinText a b)
+pub joins : (a b : List ℕ) → checkCommand a ≡ Fine → checkCommand b ≡ Fine → join a b longest ≡ Joins (joinText a b)
 unfolding join
-joins a b x y = rw (x, y, le-leb (length (joinText a b)) 835 (join-short a b x y))
+joins a b x y = rw (x, y, le-leb (length (joinText a b)) longest (join-short a b x y))
 
 -- so that the join is never refused, and its length is told
 pub text-refused : {P : Type 0} (n code place which : ℕ) → Text n ≡ Refuses code place which → P
@@ -162,9 +162,9 @@ unfolding applied
 applied-reset t e = rw (reset-valid, e)
 
 -- a command written over the start of a buffer for any command
-pub held-over : (bytes t : List ℕ) → length bytes ≡ 835 → checkCommand t ≡ Fine → Holds (over bytes 0 t) (length t) t
+pub held-over : (bytes t : List ℕ) → length bytes ≡ longest → checkCommand t ≡ Fine → Holds (over bytes 0 t) (length t) t
 held-over bytes t long fine =
-    let short : length t ≤ 835 = accepted t fine .short in
+    let short : length t ≤ longest = accepted t fine .short in
     let fits : 0 + length t ≤ length bytes = omega arith in
     record {
       room = length-over bytes 0 t fits ∙ long;

@@ -8,7 +8,7 @@ use lib.ListN.{length, take}
 use Rattle.text.specs.Equal.{sameBytes}
 use Rattle.text.specs.Over.{over}
 use Rattle.text.specs.declared.Seen.the-variants.{Fine}
-use Rattle.command.specs.Text.{checkCommand}
+use Rattle.command.specs.Text.{longest, checkCommand}
 use Rattle.join.specs.Join.{joinText, noChange}
 use Rattle.journal.specs.Journal.{entryAt, walk, Read, Sound, Broken}
 use Rattle.journal.specs.Printed.{line}
@@ -55,8 +55,8 @@ joinedAt s d at n later = cond (sameBytes d (entryAt s at n .who)) (joinText (en
 
 -- an accepted command in the first n bytes of a buffer that holds any command
 pub record Holds (bytes : List ℕ) (n : ℕ) (t : List ℕ) : Type 0 where
-  pub room : length bytes ≡ 835
-  pub short : n ≤ 835
+  pub room : length bytes ≡ longest
+  pub short : n ≤ longest
   pub found : take n bytes ≡ t
   pub fine : checkCommand t ≡ Fine
 

@@ -11,6 +11,7 @@ ghost use lib.ListN.{length};
 ghost use Rattle.text.specs.Over.{over};
 ghost use Rattle.journal.specs.Journal.{trailer, entryBytes};
 ghost use Rattle.journal.specs.Calls.{taken, added, addedOver};
+ghost use Rattle.command.specs.Text.{longest};
 
 fn put_trailer(n: usize, d: &mut [u8])
     requires { ⌜ (n ≤ 65535) × (length (now d) ≡ 3) ⌝ }
@@ -23,7 +24,7 @@ fn put_trailer(n: usize, d: &mut [u8])
 
 // Designator, text and trailer, over the start of `d`.
 fn put_entry(designator: &[u8], text: &[u8], d: &mut [u8])
-    requires { ⌜ (length (now designator) ≡ 6) × (length (now text) ≤ 835) × (9 + length (now text) ≤ length (now d)) ⌝ }
+    requires { ⌜ (length (now designator) ≡ 6) × (length (now text) ≤ longest) × (9 + length (now text) ≤ length (now d)) ⌝ }
     ensures { λ _. ⌜ now (d .exit) ≡ over (now (d .entry)) 0 (entryBytes (taken (now (designator .entry)) (now (text .entry)))) ⌝ }
 {
     let n = text.len();

@@ -7,6 +7,7 @@ use crate::Last;
 use crate::Replayed;
 use crate::Told;
 use crate::step::last;
+use command::LONGEST;
 use config::applying::apply;
 use join::Told as Joined;
 use join::join_texts;
@@ -19,7 +20,7 @@ ghost use mathlib.Core.Bool.{true};
 ghost use Prim.Native.Nat.{_+_, _≤_};
 ghost use lib.ListN.{length, take};
 ghost use Rattle.text.specs.declared.Seen.the-variants.{Fine};
-ghost use Rattle.command.specs.Text.{checkCommand};
+ghost use Rattle.command.specs.Text.{longest, checkCommand};
 ghost use Rattle.text.specs.Equal.{sameBytes};
 ghost use Rattle.join.specs.Join.{joinText, noChange};
 ghost use Rattle.journal.specs.Journal.{isEntry, entryAt};
@@ -43,7 +44,7 @@ fn same_bytes(a: &[u8], b: &[u8]) -> bool
 
 // The command that changes nothing, over the start of `later`.
 fn put_no_change(later: &mut [u8]) -> usize
-    requires { ⌜ length (now later) ≡ 835 ⌝ }
+    requires { ⌜ length (now later) ≡ longest ⌝ }
     ensures { λ r. ⌜ Holds (now (later .exit)) r noChange ⌝ }
 {
     copy(later, b"AWR049999999000000000/");
@@ -55,7 +56,7 @@ fn join_before(text: &[u8], later: &mut [u8], m: usize) -> usize
     requires { ⌜ (checkCommand (now text) ≡ Fine) × Holds (now later) m (take m (now later)) ⌝ }
     ensures { λ r. ⌜ Holds (now (later .exit)) r (joinText (now (text .entry)) (take m (now (later .entry)))) ⌝ }
 {
-    let mut joined = [0u8; 835];
+    let mut joined = [0u8; LONGEST];
     match join_texts(text, &later[..m], &mut joined) {
         Joined::Refused(_, _, _) => m,
         Joined::Text(n) => {
@@ -90,7 +91,7 @@ fn joined_at(
 
 // One command that acts as all that were taken for the aircraft, over the start of `later`.
 fn joined_back(journal: &[u8], end: usize, designator: &[u8], later: &mut [u8]) -> Told
-    requires { ⌜ length (now later) ≡ 835 ⌝ }
+    requires { ⌜ length (now later) ≡ longest ⌝ }
     ensures { λ r. ⌜ Gathered (now (journal .entry)) (now (designator .entry)) end r (now (later .exit)) ⌝ }
 {
     let mut here = end;
@@ -125,7 +126,7 @@ fn no_replay(code: u8, place: usize) -> Replayed
 pub fn replay(journal: &[u8], end: usize, designator: &[u8]) -> Replayed
     ensures { λ r. ⌜ r ≡ replayed (now (journal .entry)) end (now (designator .entry)) ⌝ }
 {
-    let mut later = [0u8; 835];
+    let mut later = [0u8; LONGEST];
     match joined_back(journal, end, designator, &mut later) {
         Told::Refused(code, place) => no_replay(code, place),
         Told::Length(m) => {

@@ -16,15 +16,16 @@ use Rattle.journal.specs.Inner.{Holds}
 use Rattle.journal.proofs.Replays.{joins, held-over, text-refused, text-same}
 use Rattle.journal.proofs.replay.join_before.Statement.{statement}
 use Rattle.journal.proofs.replay.join_before.Tie as tie
+use Rattle.command.specs.Text.{longest}
 
 -- the buffer before
 abbrev blank : List ℕ
-blank = replicate 835 0
+blank = replicate longest 0
 
 -- the joined text, in the buffer that it was written over
 joined-is : (c : tie.After-known-told)
     → let u = joinText (now (c .before .before .before .before .before .before .before .before .before .args .text)) (take (c .before .before .before .before .before .before .before .before .before .args .m) (now (c .before .before .before .before .before .before .before .before .before .args .later))) in
-    (length u ≡ c .before .n .given .0 .0) × (c .before .before .before .before .join-texts .last .1 .1 .0 ≡ over blank 0 u) × (length u ≤ 835)
+    (length u ≡ c .before .n .given .0 .0) × (c .before .before .before .before .join-texts .last .1 .1 .0 ≡ over blank 0 u) × (length u ≤ longest)
 joined-is c =
     let a = c .before .before .before .before .before .before .before .before .before .args in
     let h = c .before .before .before .before .before .before .before .before .before .pre in
