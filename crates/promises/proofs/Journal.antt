@@ -200,17 +200,28 @@ module _ (s : List ℕ) (end : ℕ) (d t : List ℕ) where
       let room-new : newEnd end e ≤ length s = omega (arith, ends) in
       let all = add-fine s end d t es (reads-of s end es j) named fine few-new room-new in
       let long : length (entryBytes e) ≡ 9 + length t = omega (arith, ends) in
-      rw all
-      (record {
-        answer = ap accepted ends;
-        before = before-over s end (entryBytes e) room-new;
-        entry = ap (λ (k : ℕ). part end k (over s end (entryBytes e))) (sym long) ∙ found-over s end (entryBytes e) room-new ∙ sym (entry-same e);
-        behind = ap (λ (k : ℕ). drop (end + k) (over s end (entryBytes e))) (sym long) ∙ after-over s end (entryBytes e) room-new ∙ ap (λ (k : ℕ). drop (end + k) s) long;
+      let D : List ℕ = over s end (entryBytes e) in
+      let answered : addAnswer s end d t ≡ accepted (newEnd end e) = rw all in
+      let left : addedOver s end d t ≡ D = rw all in
+      record {
+        answer = answered ∙ ap accepted ends;
+        before = ap (take end) left ∙ before-over s end (entryBytes e) room-new;
+        entry =
+            ap (part end (9 + length t)) left
+            ∙ ap (λ (k : ℕ). part end k D) (sym long)
+            ∙ found-over s end (entryBytes e) room-new
+            ∙ sym (entry-same e);
+        behind =
+            ap (drop (end + (9 + length t))) left
+            ∙ ap (λ (k : ℕ). drop (end + k) D) (sym long)
+            ∙ after-over s end (entryBytes e) room-new
+            ∙ ap (λ (k : ℕ). drop (end + k) s) long;
         journal =
-            subst (λ (k : ℕ). JournalOf (over s end (entryBytes e)) k (es ++ (e ∷ []))) ends
-            (journal-of (over s end (entryBytes e)) (newEnd end e) (es ++ (e ∷ []))
-            (one-written s end es e (is-journal s end es j) (entry-sound e (record { who = six; text = ok })) few-new room-new));
-      })
+            subst (λ (b : List ℕ). JournalOf b (end + (9 + length t)) (es ++ (e ∷ []))) (sym left)
+            (subst (λ (k : ℕ). JournalOf D k (es ++ (e ∷ []))) ends
+            (journal-of D (newEnd end e) (es ++ (e ∷ []))
+            (one-written s end es e (is-journal s end es j) (entry-sound e (record { who = six; text = ok })) few-new room-new)));
+      }
 
   add-broken : ¬ (checkAnswer s end .code ≡ 0) → addAnswer s end d t ≡ checkAnswer s end
   unfolding added addSeen checkJournal
