@@ -29,8 +29,9 @@
 /* 3.0.0: a record has one form for a missing figure and an absent observation, and another is refused with 7;
  * esk_settings_valid answers 0 or 12 and esk_decide a place, as all other calls do; esk_command has no padding.
  * 3.1.0: esk_explain.
- * 3.2.0: esk_words, esk_reason_words, esk_version and esk_size_of; a shared library, libeskelvor.so.3. */
-#define ESK_VERSION "3.2.0"
+ * 3.2.0: esk_words, esk_reason_words, esk_version and esk_size_of; a shared library, libeskelvor.so.3.
+ * 3.3.0: the journal, six calls and code 14. */
+#define ESK_VERSION "3.3.0"
 
 #ifdef __cplusplus
 extern "C" {
@@ -48,13 +49,14 @@ enum {
     ESK_ACCEPTED = 0,  /* accepted; place 0 */
     ESK_LENGTH = 1,    /* report not 220 bytes; command over 835 bytes; packed field not 1 to 5 bytes; place 0. Looked
                           for before any byte is; a command that is too short is 8 */
-    ESK_ROOM = 2,      /* output buffer shorter than the text to be written; place 0. Looked for last */
+    ESK_ROOM = 2,      /* output buffer shorter than the text to be written, or a journal without room for the entry; place
+                          0. Looked for last */
     ESK_FIXED = 3,     /* a fixed byte is wrong (AWR04, AMDAR3, CR LF, a delimiter); place: the group's first byte */
     ESK_BYTE = 4,      /* a byte not allowed in its field: another letter, a digit that is no flag, a non-digit in a
                           number, a small letter in a name; place: the field's first byte, and 0 for a designator or
                           an airfield that is handed over by itself */
-    ESK_RANGE = 5,     /* number outside its range; place: the field's first byte, and 0 for what esk_decide and
-                          esk_explain are asked */
+    ESK_RANGE = 5,     /* number outside its range; place: the field's first byte, and 0 for what esk_decide, esk_explain
+                          and esk_journal_drop are asked */
     ESK_SPELLING = 6,  /* a number in a spelling other than its one spelling: a packed figure in more digits than it
                           needs, zero degrees spelt south or west; place: the field's first byte */
     ESK_DISAGREE = 7,  /* fields disagree: wind direction without speed, a present observation behind an absent one, a
@@ -65,13 +67,15 @@ enum {
     ESK_NO_SLOT = 9,   /* adding: nothing waits for that aircraft and no slot is free; place 0. It is not accepted */
     ESK_BOARD = 10,    /* board not valid; place 0. The first thing that every call on a board looks for */
     ESK_NOTHING = 11,  /* taking: nothing waits for that aircraft; place 0 */
-    ESK_SETTINGS = 12  /* configuration not valid; place 0. The first thing that every call on one looks for */
+    ESK_SETTINGS = 12, /* configuration not valid; place 0. The first thing that every call on one looks for */
+    ESK_JOURNAL = 14   /* journal broken; place: the trailer where reading it from its end first fails, or 0. The first
+                          thing that every call on a journal looks for. No call answers 13 */
 };
 
 /* The answer of a call that checks or writes. 16 bytes, no padding. */
 typedef struct esk_answer {
     size_t place;     /* offset of the byte that the code speaks of, from 0 */
-    uint32_t length;  /* of the text written; 0 on refusal, and from a call that writes nothing */
+    uint32_t length;  /* of the text written, or of a journal; 0 on refusal, and from a call that checks alone */
     uint8_t code;     /* ESK_.. above */
     uint8_t text;     /* for a join: which text is at fault, 1 or 2; else 0 */
     uint8_t spare[2]; /* 0 */
@@ -571,6 +575,90 @@ esk_answer esk_board_add(esk_slot *slots, size_t n, uint8_t *area, size_t area_l
  */
 esk_answer esk_board_take(esk_slot *slots, size_t n, const uint8_t *area, size_t area_length,
                           const uint8_t *designator, size_t designator_length, uint8_t *out, size_t room);
+
+/* ---- the journal ------------------------------------------------------------------------------------------------ */
+
+/*
+ * The journal holds the commands that were taken for aircraft, in the order in which they were. Its memory is the
+ * caller's: a buffer of `room` bytes, of which the journal is the first `end`. No bytes, `end` 0, are the empty journal.
+ * Its entries stand one behind the other, the oldest first, and each is
+ *
+ *   6          designator of the aircraft, 'A' to 'Z' or '0' to '9'
+ *   22 to 835  the command's text, which esk_command_check accepts
+ *   2          the text's length, the high byte first
+ *   1          'J'; it and the two bytes before it are the trailer
+ *
+ * so that it is read from its end. A journal is broken where that fails: there the trailer's letter or length, the
+ * designator or the text before it is wrong, or that begins before byte 0. Each call refuses a broken one first, with 14:
+ * the place is that of the first such trailer from the end, and 0 where fewer than three bytes are left for one, `end`
+ * is above 65535, or above `room`.
+ */
+#define ESK_JOURNAL_BYTES 65535   /* the most */
+#define ESK_JOURNAL_PRINTED 76105 /* no journal prints more: of each entry, 31 bytes or more, up to five more */
+
+/* An entry, as esk_journal_last finds it: its designator is the six bytes from `offset` on. 32 bytes, no padding. Every
+ * number but place and code is 0 where there is none. */
+typedef struct esk_entry {
+    size_t place;    /* of a refusal */
+    size_t offset;   /* of the entry's first byte */
+    size_t text;     /* of its text's first byte, offset + 6 */
+    uint32_t length; /* of its text */
+    uint8_t code;    /* 0 or 14 */
+    uint8_t given;   /* 1 an entry, 0 none: the journal is empty, or a refusal */
+    uint16_t spare;  /* 0 */
+} esk_entry;
+
+/*
+ * Checks a journal, which is lent for reading. length is 0.
+ *   14  it is broken
+ */
+esk_answer esk_journal_check(const uint8_t *journal, size_t room, size_t end);
+
+/*
+ * The newest entry of a journal, which is lent for reading: the next older one is the newest of the first `offset`
+ * bytes, and where `offset` is 0 there is none. It looks at that entry alone; what stands before it may be broken.
+ *   14  it is broken at its end
+ */
+esk_entry esk_journal_last(const uint8_t *journal, size_t room, size_t end);
+
+/*
+ * Adds what was taken for an aircraft behind all else. The journal's buffer is lent for writing, designator and text for
+ * reading. On success length is the journal's new one, and the bytes from `end` up to it are the entry's; all others
+ * stay.
+ *   14  the journal is broken
+ *   4   the designator is not six bytes 'A' to 'Z' or '0' to '9'; place 0
+ *   the refusals of esk_command_check, with their places in the text, and then
+ *   2   with the entry the journal would be longer than 65535 bytes, or than its buffer; place 0
+ */
+esk_answer esk_journal_add(uint8_t *journal, size_t room, size_t end, const uint8_t *designator,
+                           size_t designator_length, const uint8_t *text, size_t length);
+
+/*
+ * How long a journal is without its newest `count` entries: that many of its bytes are the journal of all the others.
+ * It is lent for reading, and nothing is written; on success length is that length.
+ *   14  the journal is broken
+ *   5   it has fewer entries; place 0
+ */
+esk_answer esk_journal_drop(const uint8_t *journal, size_t room, size_t end, size_t count);
+
+/*
+ * Prints a journal at the start of `out`, a line for each entry, the newest first: its offset in decimal, a space, the
+ * designator, a space, the text, LF. The journal is lent for reading, `out`, `out_room` bytes, for writing. On success
+ * length is that of all the lines.
+ *   14  the journal is broken
+ *   2   out_room below the lines' length; place 0
+ */
+esk_answer esk_journal_print(const uint8_t *journal, size_t room, size_t end, uint8_t *out, size_t out_room);
+
+/*
+ * The configuration of an aircraft that began after reset and applied each of its texts in the journal, the oldest first.
+ * It takes the place of the one that is lent for writing, which is never NULL and may hold anything; journal and
+ * designator are lent for reading. length is 0. A refusal leaves the configuration as it was.
+ *   14  the journal is broken
+ *   4   the designator is not six bytes 'A' to 'Z' or '0' to '9'; place 0
+ */
+esk_answer esk_journal_replay(esk_settings *settings, const uint8_t *journal, size_t room, size_t end,
+                              const uint8_t *designator, size_t designator_length);
 
 /* ---- what the library says of itself ---------------------------------------------------------------------------- */
 

@@ -26,6 +26,8 @@ const char *esk_words(unsigned code)
         "the board is not valid",
         "nothing waits for that aircraft",
         "the configuration is not valid",
+        "an unknown code",
+        "the journal is broken",
     };
     return code < COUNT(words) ? words[code] : "an unknown code";
 }
@@ -61,7 +63,7 @@ size_t esk_size_of(const char *record)
         RECORD(esk_boxes),    RECORD(esk_airfields),  RECORD(esk_regions),  RECORD(esk_by_phase),
         RECORD(esk_airports), RECORD(esk_enroute),    RECORD(esk_ascent),   RECORD(esk_hours),
         RECORD(esk_settings), RECORD(esk_command),    RECORD(esk_command_got), RECORD(esk_applied),
-        RECORD(esk_decided),  RECORD(esk_explained),  RECORD(esk_slot),
+        RECORD(esk_decided),  RECORD(esk_explained),  RECORD(esk_slot),     RECORD(esk_entry),
     };
 #undef RECORD
     for (size_t i = 0; record != NULL && i < COUNT(records); i++)

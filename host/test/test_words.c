@@ -1,12 +1,13 @@
 /* What the library says of itself: words for every code and reason and for all others, its version, its sizes. */
 #include "check.h"
 
-enum { CODES = 13, REASONS = 10 };
+enum { CODES = 15, REASONS = 10 };
 
-/* A few letters of what each must speak of, so that no two can change places. */
+/* A few letters of what each must speak of, so that no two can change places; NULL for one that no call answers. */
 static const char *const of_codes[CODES] = {
     "accepted", "220",   "room",        "fixed", "not allowed in its field", "range", "one spelling", "disagree",
     "ends",     "no slot", "board is not", "nothing waits for that aircraft", "configuration is not",
+    NULL,       "journal is broken",
 };
 
 static const char *const of_reasons[REASONS] = {
@@ -30,6 +31,10 @@ static void all_words(words_call call, const char *const *needles, unsigned coun
 {
     for (unsigned i = 0; i < count; i++) {
         const char *words = call(i);
+        if (needles[i] == NULL) {
+            HOLD(strcmp(words, unknown) == 0);
+            continue;
+        }
         HOLD(words != NULL && strstr(words, needles[i]) != NULL);
         HOLD(strcmp(words, unknown) != 0);
         is_phrase(words);
@@ -52,6 +57,7 @@ static void words_of_answers(void)
     HOLD(strstr(esk_words(esk_packed_read((const uint8_t *)"K5", 2).code), "one spelling") != NULL);
     HOLD(strstr(esk_words(esk_command_check(NULL, 0).code), "ends inside") != NULL);
     HOLD(strstr(esk_words(esk_report_check(NULL, 0).code), "220") != NULL);
+    HOLD(strstr(esk_words(esk_journal_check(NULL, 0, 1).code), "journal is broken") != NULL);
     HOLD(strstr(esk_reason_words(e.reason), "flag of the phase is 1") != NULL);
     settings.flags[0] = 0;
     e = esk_explain(&settings, ESK_LEVEL, 0, 0, 0, (const uint8_t *)"ABCD", 4);
@@ -89,8 +95,10 @@ static void sizes(void)
     SIZE(esk_decided);
     SIZE(esk_explained);
     SIZE(esk_slot);
+    SIZE(esk_entry);
     /* as the header's comments say them */
     HOLD(esk_size_of("esk_report") == 624 && esk_size_of("esk_settings") == 606 && esk_size_of("esk_slot") == 8);
+    HOLD(esk_size_of("esk_entry") == 32);
     HOLD(esk_size_of(NULL) == 0 && esk_size_of("") == 0 && esk_size_of("report") == 0);
     HOLD(esk_size_of("esk_answe") == 0 && esk_size_of("esk_answers") == 0 && esk_size_of("ESK_ANSWER") == 0);
 }
