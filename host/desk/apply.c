@@ -1,4 +1,5 @@
 /* eskelvor apply: commands applied to a configuration, and what that changes. */
+#include "changes.h"
 #include "config_file.h"
 #include "joining.h"
 #include "json.h"
@@ -75,93 +76,19 @@ static void tell_and_free(heard *h)
     }
 }
 
-static int tell_flags(const esk_settings *old, const esk_settings *now)
+/* What changed, and the configuration that is then held. */
+static void tell_changes(const esk_settings *old, const esk_settings *now)
 {
-    int changes = 0;
-    for (int i = 0; i < FLAGS; i++)
-        if (old->flags[i] != now->flags[i]) {
-            printf("flag %s: was %d, is %d, %s\n", flag_names[i], old->flags[i], now->flags[i],
-                   flag_in_words(i, now->flags[i]));
-            changes++;
-        }
-    return changes;
-}
-
-static int tell_sections(const esk_settings *old, const esk_settings *now)
-{
-    int changes = 0;
-    for (int k = 2; k <= 9; k++)
-        if (!same_section(old, now, k)) {
-            printf("section %d: %s\n  was\n", k, section_title(k));
-            say_section(old, k, "    ");
-            puts("  is");
-            say_section(now, k, "    ");
-            changes++;
-        }
-    return changes;
-}
-
-static void json_changed_flags(const esk_settings *old, const esk_settings *now)
-{
-    for (int i = 0; i < FLAGS; i++)
-        if (old->flags[i] != now->flags[i]) {
-            json_object(NULL);
-            json_word("flag", flag_names[i]);
-            json_number("was", old->flags[i]);
-            json_number("is", now->flags[i]);
-            json_close();
-        }
-}
-
-static void json_changed_sections(const esk_settings *old, const esk_settings *now)
-{
-    for (int k = 2; k <= 9; k++)
-        if (!same_section(old, now, k)) {
-            json_object(NULL);
-            json_number("section", k);
-            json_section("was", old, k);
-            json_section("is", now, k);
-            json_close();
-        }
-}
-
-/* What changed, and the configuration as the command that sets all of it. */
-static void json_changes(const esk_settings *old, const esk_settings *now)
-{
-    uint8_t text[ESK_COMMAND_BYTES];
-    size_t length = config_text(now, text);
+    if (!as_json) {
+        say_changes(old, now);
+        return;
+    }
     json_object(NULL);
     json_bool("accepted", 1);
     json_number("code", ESK_ACCEPTED);
-    json_list("changes");
-    json_changed_flags(old, now);
-    json_changed_sections(old, now);
+    json_changes(old, now);
+    json_configuration(now);
     json_close();
-    json_text("configuration", text, length);
-    json_close();
-}
-
-static void tell_changes(const esk_settings *old, const esk_settings *now)
-{
-    if (as_json)
-        json_changes(old, now);
-    else if (tell_flags(old, now) + tell_sections(old, now) == 0)
-        puts("nothing changed");
-}
-
-static void tell_all_flags(const esk_settings *s)
-{
-    for (int i = 0; i < FLAGS; i++)
-        printf("flag %s: %d, %s\n", flag_names[i], s->flags[i], flag_in_words(i, s->flags[i]));
-}
-
-static void tell_all_sections(const esk_settings *s)
-{
-    for (int k = 2; k <= 9; k++)
-        if (k != 7) {
-            printf("section %d: %s\n", k, section_title(k));
-            say_section(s, k, "  ");
-        }
 }
 
 /* Reads, applies, and writes where a file is held for it; what was accepted and what changed is told once it is on
@@ -183,10 +110,8 @@ static int apply_all(const orders *o, const char *from, kept *out)
     tell_and_free(o->first);
     if (o->all.texts > 0 || as_json)
         tell_changes(&old, &now);
-    else {
-        tell_all_flags(&now);
-        tell_all_sections(&now);
-    }
+    else
+        say_configuration(&now);
     return FINE;
 }
 

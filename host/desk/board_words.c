@@ -1,15 +1,12 @@
 /* eskelvor board: a board kept in a file. */
-#define _POSIX_C_SOURCE 200809L
-#include "board.h"
+#include "board_take.h"
 #include "joining.h"
 #include "json.h"
 #include "mark.h"
 #include "options.h"
 
-#include <errno.h>
 #include <stdio.h>
 #include <string.h>
-#include <unistd.h>
 
 enum { WAIT_MOST = 86400 };
 
@@ -17,7 +14,8 @@ enum { WAIT_MOST = 86400 };
 typedef struct call {
     const char *file, *verb;
     long wait;
-    const char *to; /* the file for what is taken; NULL: standard output */
+    const char *to;      /* the file for what is taken; NULL: standard output */
+    const char *journal; /* the journal of what is taken; NULL: none */
     intake in;
 } call;
 
@@ -132,87 +130,25 @@ static int put(call *c, putter onto, int count, char **words)
     return status == FINE ? tell_added(words[0], all.texts, length) : status;
 }
 
-static void tell_taken(const char *designator, const uint8_t *text, size_t length, const char *to)
+/* Whether a word of an option names a file. */
+static int is_file(const char *option, const char *word)
 {
-    if (!as_json && to != NULL) {
-        char name[NAME_ROOM];
-        printf("taken: the %lu bytes that waited for %s are in %s\n", (unsigned long)length, designator,
-               name_safely(to, name, sizeof name));
-        return;
-    }
-    if (!as_json) {
-        fwrite(text, 1, length, stdout);
-        putchar('\n');
-        return;
-    }
-    json_object(NULL);
-    json_bool("accepted", 1);
-    json_number("code", ESK_ACCEPTED);
-    json_word("designator", designator);
-    json_number("length", (long long)length);
-    json_text("text", text, length);
-    if (to != NULL)
-        json_word("file", to);
-    json_close();
-}
-
-/* All that was told is out of this program, and on disk where standard output is a file. */
-static int flush_output(void)
-{
-    if (tell_end(FINE) != FINE)
-        return TROUBLE;
-    if (fsync(STDOUT_FILENO) == 0 || errno == EINVAL || errno == EROFS || errno == ENOTSUP)
-        return FINE;
-    return failed("standard output", "flush");
-}
-
-/* Hands a text out: to standard output, or into a new file, with a line end, where it is on disk. */
-static int hand_out(const call *c, const char *designator, const uint8_t *text, size_t length)
-{
-    uint8_t line[ESK_COMMAND_BYTES + 1];
-    if (c->to == NULL) {
-        tell_taken(designator, text, length, NULL);
-        return flush_output();
-    }
-    memcpy(line, text, length);
-    line[length] = '\n';
-    return keep_new(c->to, line, length + 1, c->wait);
-}
-
-/* The new board is made ready, the command is handed out, and only then is the new board put in place. A kill between
- * the two leaves the command on the board: it may be handed out twice, and is never lost. */
-static int hand_over(const call *c, kept *k, const char *designator, const uint8_t *text, size_t length)
-{
-    int status = hand_out(c, designator, text, length);
-    if (status != FINE) {
-        keep_drop(k);
-        trouble(designator, "not handed out; it still waits");
-    } else if (keep_replace(k) != FINE)
-        status = trouble(designator, "handed out, and may still wait: take it again");
-    else if (c->to != NULL)
-        tell_taken(designator, text, length, c->to);
-    return status;
+    if (word == NULL || strcmp(word, "-") != 0)
+        return 1;
+    trouble(option, "give a file%s", strcmp(option, "--to") == 0 ? "; without --to it goes to standard output" : "");
+    return 0;
 }
 
 static int take(const call *c, int count, char **words)
 {
-    static board b;
-    uint8_t text[ESK_COMMAND_BYTES];
-    size_t length = 0;
-    kept k;
     if (count != 1)
         return trouble("take", "give the aircraft's designator");
-    if (c->to != NULL && strcmp(c->to, "-") == 0)
-        return trouble("--to", "give a file; without --to it goes to standard output");
-    int status = board_hold(&k, &b, c->file, c->wait);
-    if (status == FINE)
-        status = board_take(&b, words[0], text, &length);
-    if (status == FINE)
-        status = board_write(&k, &b);
-    if (status == FINE)
-        status = hand_over(c, &k, words[0], text, length);
-    keep_release(&k);
-    return status;
+    if (!is_file("--to", c->to) || !is_file("--journal", c->journal))
+        return TROUBLE;
+    if (c->to != NULL && c->journal != NULL && strcmp(c->to, c->journal) == 0)
+        return trouble("--to", "%s is the journal; give another file", c->to);
+    taking t = {c->file, words[0], c->to, c->journal, c->wait};
+    return board_hand_over(&t);
 }
 
 /* What is done with the board, by its word. */
@@ -221,6 +157,8 @@ static int act(call *c, int count, char **words)
     const char *verb = c->verb;
     if (c->to != NULL && strcmp(verb, "take") != 0)
         return trouble("--to", "only a taking has it");
+    if (c->journal != NULL && strcmp(verb, "take") != 0)
+        return trouble("--journal", "only a taking has it");
     if (strcmp(verb, "create") == 0)
         return create(c, count, words);
     if (strcmp(verb, "grow") == 0)
@@ -241,9 +179,10 @@ static int act(call *c, int count, char **words)
 static int run(int count, char **words)
 {
     const char *wait = "10";
-    call c = {NULL, NULL, 0, NULL, {0, 0, 0, NULL, NULL}};
+    call c = {NULL, NULL, 0, NULL, NULL, {0, 0, 0, NULL, NULL}};
     const option known[] = {VALUE_OPTION("--wait", NULL, &wait), VALUE_OPTION("--to", NULL, &c.to),
-                            SET_OPTION("--text", &c.in.typed), SET_OPTION("--exact", &c.in.exact)};
+                            VALUE_OPTION("--journal", NULL, &c.journal), SET_OPTION("--text", &c.in.typed),
+                            SET_OPTION("--exact", &c.in.exact)};
     if (take_options(&count, words, known, OPTIONS(known)) != FINE)
         return TROUBLE;
     c.wait = whole_number(wait, 0, WAIT_MOST);
@@ -259,7 +198,8 @@ static int run(int count, char **words)
 const subcommand board_subcommand = {
     "board",
     "FILE create N | add DESIGNATOR COMMAND..\n"
-    "           | take [--to FILE] DESIGNATOR | return DESIGNATOR COMMAND..\n"
+    "           | take [--to FILE] [--journal FILE] DESIGNATOR\n"
+    "           | return DESIGNATOR COMMAND..\n"
     "           | list [DESIGNATOR] | check | grow N",
     "Keeps the board of waiting commands in a file",
     "  create N     makes a board of N slots, at most 64; a file that is there stays\n"
@@ -269,6 +209,10 @@ const subcommand board_subcommand = {
     "               its slot\n"
     "  --to FILE    takes it into a new file instead, which is on disk before the\n"
     "               slot is freed; a file that is there stays\n"
+    "  --journal FILE\n"
+    "               enters it into this journal (eskelvor help journal), which is on\n"
+    "               disk before the slot is freed; a broken or full one is refused, and\n"
+    "               the command still waits\n"
     "  return       puts what was taken back, before all that waits by now\n"
     "  list         shows what waits; for one aircraft, in words\n"
     "  check        says whether the file and its board are sound\n"
@@ -282,8 +226,10 @@ const subcommand board_subcommand = {
     "add that was told accepted is on disk. A taking is handed out before the board\n"
     "that lacks it is put in place: a kill between the two hands it out twice. Into a\n"
     "file it is never lost. A pipe may hold it when its reader stops, and then it is\n"
-    "lost: take it --to a file, send that, and return it where that fails. A damaged\n"
-    "file is refused with code 10, and never mended.\n",
+    "lost: take it --to a file, send that, and return it where that fails. With a\n"
+    "journal it is on the board or in the journal at every moment; a kill between the\n"
+    "two leaves it in both, which the next taking tells. A damaged file is refused\n"
+    "with code 10, and never mended.\n",
     run,
     0,
 };

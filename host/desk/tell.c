@@ -102,7 +102,11 @@ const char *meaning(subject kind, unsigned code)
         "the board is not valid",
         "nothing waits for that aircraft",
         "the configuration is not valid",
+        "an unknown code",
+        "the journal is broken",
     };
+    if (code == ESK_ROOM && kind == A_JOURNAL)
+        return "the journal has no room for the entry";
     if (code == ESK_LENGTH && kind == A_REPORT)
         return "a report has 220 bytes";
     if (code == ESK_LENGTH && kind == A_COMMAND)
