@@ -22,7 +22,8 @@ _eskelvor_options() {
     apply) echo "--config -c --out -o --wait $text" ;;
     decide) echo "$asked $text" ;;
     why) echo "$asked $text --board --aircraft" ;;
-    board) echo "--wait --to $text" ;;
+    board) echo "--wait --to --journal $text" ;;
+    journal) echo "--wait --at $text" ;;
     help) echo '--list' ;;
     esac
     echo '--json --help'
@@ -50,7 +51,7 @@ _eskelvor_values() {
     esac
 }
 
-_eskelvor_subcommands='report check explain compose join apply decide why packed board night help'
+_eskelvor_subcommands='report check explain compose join apply decide why packed board journal night help'
 
 _eskelvor() {
     local current=${COMP_WORDS[COMP_CWORD]} before=${COMP_WORDS[COMP_CWORD - 1]} subcommand='' at words lead=''
@@ -67,6 +68,7 @@ _eskelvor() {
         words=$(_eskelvor_values "$before")
         case $subcommand:$((COMP_CWORD - at)):$words in
         board:2:) words='create add take return list check grow' ;;
+        journal:2:) words='list replay add drop check' ;;
         packed:1:) words='read write' ;;
         help:1:) words=$_eskelvor_subcommands ;;
         esac

@@ -4,7 +4,7 @@
 
 answers 0 'all subcommands' help --list
 names=$(cat "$scratch/out")
-[ "$(echo "$names" | wc -l)" -ge 12 ] || fail 'there are more'
+[ "$(echo "$names" | wc -l)" -ge 13 ] || fail 'there are more'
 for name in $names; do
     answers 0 "help on $name" help "$name"
     cp "$scratch/out" "$scratch/help"
@@ -65,6 +65,8 @@ offers apply -
 [ "$(cat "$scratch/out")" = '' ] || fail 'a single - is standard input'
 offers board tonight gr
 out_is grow
+offers journal taken re
+out_is replay
 offers packed ''
 out_is read write
 offers help bo
@@ -97,6 +99,12 @@ for verb in create add take return list check grow; do
     offers board tonight $verb
     out_is $verb
     answers 0 'the help' help board
+    out_has "  $verb "
+done
+for verb in list replay add drop check; do
+    offers journal taken $verb
+    out_is $verb
+    answers 0 'the help' help journal
     out_has "  $verb "
 done
 
