@@ -54,7 +54,7 @@ fn key([a, b, c, d, e, f]: [u8; 6]) -> u64 {
 }
 
 /// "A designator argument that isn't six allowed bytes is 4 at place 0."
-fn designator(bytes: &[u8]) -> Result<[u8; 6], Refusal> {
+pub fn designator(bytes: &[u8]) -> Result<[u8; 6], Refusal> {
     match bytes.try_into() {
         Ok(designator) if named(bytes) => Ok(designator),
         _ => refuse(BYTE, 0),

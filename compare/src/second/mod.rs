@@ -1,5 +1,6 @@
 //! The second program, written from the text of documents 01 and 02 alone, and from the header's words where these say
-//! more: packed figures and reports; commands, the configuration, the decision and its reason, joining and the board.
+//! more: packed figures and reports; commands, the configuration, the decision and its reason, joining, the board and the
+//! journal.
 
 pub mod allowed;
 pub mod board;
@@ -7,6 +8,7 @@ pub mod command;
 pub mod config;
 pub mod decide;
 pub mod join;
+pub mod journal;
 pub mod packed;
 pub mod raw;
 pub mod record;
@@ -31,6 +33,7 @@ pub const NO_SLOT: u8 = 9;
 pub const BOARD: u8 = 10;
 pub const NOTHING: u8 = 11;
 pub const SETTINGS: u8 = 12;
+pub const JOURNAL: u8 = 14;
 
 /// A refusal carries nothing but a code and a place.
 #[derive(Clone, Copy, Debug, PartialEq, Eq)]

@@ -5,6 +5,7 @@ mod commands;
 mod decisions;
 mod forms;
 mod joins;
+mod journals;
 mod reasons;
 mod records;
 
