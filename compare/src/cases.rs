@@ -7,6 +7,7 @@ pub mod config;
 pub mod decide;
 pub mod explain;
 pub mod join;
+pub mod journal;
 pub mod report;
 
 use crate::asked::Replies;

@@ -2,6 +2,7 @@
 
 pub mod faults;
 pub mod forms;
+pub mod journal;
 pub mod uplink;
 
 use crate::ours;

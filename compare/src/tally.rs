@@ -31,8 +31,8 @@ const REASONS: [(usize, &[usize]); 9] = [
 
 #[derive(Default)]
 pub struct Tally {
-    /// Those of the labels, then codes 1 to 12.
-    counts: [u64; 17],
+    /// Those of the labels, then codes 1 to 14.
+    counts: [u64; 19],
     /// Those of each reason with each number.
     reasons: [[u64; 17]; 10],
 }

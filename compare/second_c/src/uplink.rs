@@ -1,11 +1,12 @@
-//! The calls of what goes up: commands, the configuration, the decision and its reason, the join and the board.
+//! The calls of what goes up: commands, the configuration, the decision and its reason, the join, the board
+//! and the journal.
 
 use super::{lent, lent_mut};
 use desk_compare::meet::{self, uplink as meet_up};
-use desk_compare::ours::uplink::{Applied, Command, CommandGot, Decided, Explained, Settings, Slot};
+use desk_compare::ours::uplink::{Applied, Command, CommandGot, Decided, Entry, Explained, Settings, Slot};
 use desk_compare::ours::Answer;
 use desk_compare::second::decide::Question;
-use desk_compare::second::{board, command, config, decide, join, spell};
+use desk_compare::second::{board, command, config, decide, join, journal, spell};
 
 /// # Safety
 /// As `lent` and `lent_mut` of each byte string; so it is for every call below.
@@ -148,4 +149,73 @@ pub unsafe extern "C" fn second_board_take(
 ) -> Answer {
     let (area, designator) = (lent(area, area_length), lent(designator, designator_length));
     meet::answer(with_slots(slots, n, |slots| board::take(slots, area, designator, lent_mut(out, room))))
+}
+
+/// # Safety
+/// As above.
+#[no_mangle]
+pub unsafe extern "C" fn second_journal_check(buffer: *const u8, room: usize, end: usize) -> Answer {
+    meet::answer(journal::check(lent(buffer, room), end).map(|()| 0))
+}
+
+/// # Safety
+/// As above.
+#[no_mangle]
+pub unsafe extern "C" fn second_journal_last(buffer: *const u8, room: usize, end: usize) -> Entry {
+    meet_up::entry(journal::last(lent(buffer, room), end))
+}
+
+/// # Safety
+/// As above.
+#[no_mangle]
+pub unsafe extern "C" fn second_journal_add(
+    buffer: *mut u8,
+    room: usize,
+    end: usize,
+    designator: *const u8,
+    designator_length: usize,
+    text: *const u8,
+    length: usize,
+) -> Answer {
+    let (designator, text) = (lent(designator, designator_length), lent(text, length));
+    meet::answer(journal::add(lent_mut(buffer, room), end, designator, text))
+}
+
+/// # Safety
+/// As above.
+#[no_mangle]
+pub unsafe extern "C" fn second_journal_drop(buffer: *const u8, room: usize, end: usize, count: usize) -> Answer {
+    meet::answer(journal::drop_last(lent(buffer, room), end, count))
+}
+
+/// # Safety
+/// As above.
+#[no_mangle]
+pub unsafe extern "C" fn second_journal_print(
+    buffer: *const u8,
+    room: usize,
+    end: usize,
+    out: *mut u8,
+    out_room: usize,
+) -> Answer {
+    meet::answer(journal::print(lent(buffer, room), end, lent_mut(out, out_room)))
+}
+
+/// # Safety
+/// As above; `settings` is one record, which may hold anything.
+#[no_mangle]
+pub unsafe extern "C" fn second_journal_replay(
+    settings: *mut Settings,
+    buffer: *const u8,
+    room: usize,
+    end: usize,
+    designator: *const u8,
+    designator_length: usize,
+) -> Answer {
+    let mut held = config::reset();
+    let answer = journal::replay(&mut held, lent(buffer, room), end, lent(designator, designator_length));
+    if answer.is_ok() {
+        *settings = meet_up::configuration(&held);
+    }
+    meet::answer(answer.map(|()| 0))
 }

@@ -1,4 +1,5 @@
-//! Where the two programs meet in what goes up: commands, configurations, decisions, reasons, joins and boards.
+//! Where the two programs meet in what goes up: commands, configurations, decisions, reasons, joins, boards and
+//! journals.
 
 use super::answer;
 use crate::ours::uplink as ours;
@@ -6,6 +7,7 @@ use crate::ours::Answer;
 use crate::second::board::Slot;
 use crate::second::decide::{Cause, Decision, Why};
 use crate::second::join::Fault;
+use crate::second::journal::{Entry, NAME};
 use crate::second::settings::*;
 use crate::second::Refusal;
 
@@ -160,4 +162,15 @@ pub fn slot(from: &Slot) -> ours::Slot {
 
 pub fn meant_slot(from: &ours::Slot) -> Slot {
     Slot { designator: from.designator, length: from.length }
+}
+
+/// What esk_journal_last ought to answer: all 0 where there is no entry, nothing but code and place where it refuses.
+pub fn entry(last: Result<Option<Entry>, Refusal>) -> ours::Entry {
+    match last {
+        Ok(Some(Entry { offset, text, .. })) => {
+            ours::Entry { offset, text: offset + NAME, length: text.len() as u32, given: 1, ..Default::default() }
+        }
+        Ok(None) => ours::Entry::default(),
+        Err(Refusal { code, place }) => ours::Entry { code, place: place as usize, ..Default::default() },
+    }
 }

@@ -1,4 +1,4 @@
-//! The header's structs for commands, the configuration, the decision, its reason and the board.
+//! The header's structs for commands, the configuration, the decision, its reason, the board and the journal.
 
 use super::{Answer, Plain};
 use std::mem::{offset_of, size_of};
@@ -148,6 +148,18 @@ pub struct Slot {
     pub length: u16,
 }
 
+#[repr(C)]
+#[derive(Clone, Copy, Debug, Default, PartialEq, Eq)]
+pub struct Entry {
+    pub place: usize,
+    pub offset: usize,
+    pub text: usize,
+    pub length: u32,
+    pub code: u8,
+    pub given: u8,
+    pub spare: u16,
+}
+
 const _: () = {
     assert!(size_of::<Region>() == 8 && size_of::<Boxes>() == 129 && size_of::<Airfields>() == 81);
     assert!(size_of::<Regions>() == 258 && size_of::<Airports>() == 325 && size_of::<Ascent>() == 10);
@@ -165,6 +177,8 @@ const _: () = {
     assert!(size_of::<Explained>() == 16 && offset_of!(Explained, code) == 8 && offset_of!(Explained, decision) == 9);
     assert!(offset_of!(Explained, reason) == 10 && offset_of!(Explained, number) == 11);
     assert!(size_of::<Slot>() == 8 && offset_of!(Slot, length) == 6);
+    assert!(size_of::<Entry>() == 32 && offset_of!(Entry, offset) == 8 && offset_of!(Entry, text) == 16);
+    assert!(offset_of!(Entry, length) == 24 && offset_of!(Entry, code) == 28 && offset_of!(Entry, given) == 29);
 };
 
 unsafe impl Plain for Settings {}
@@ -174,3 +188,4 @@ unsafe impl Plain for Applied {}
 unsafe impl Plain for Decided {}
 unsafe impl Plain for Explained {}
 unsafe impl Plain for Slot {}
+unsafe impl Plain for Entry {}

@@ -12,6 +12,9 @@
 //!     explain, as decide
 //!     join FIRST SECOND ROOM                        board-check SLOTS AREA
 //!     board-add SLOTS AREA DESIGNATOR TEXT          board-take SLOTS AREA DESIGNATOR ROOM
+//!     journal-check BUFFER END                      journal-last BUFFER END
+//!     journal-add BUFFER END DESIGNATOR TEXT        journal-drop BUFFER END COUNT
+//!     journal-print BUFFER END ROOM                 journal-replay BUFFER END DESIGNATOR
 //!
 //! It runs in the repository's root, and asks the proved calls through host/tool (`make compare ARGS=..`); each group has
 //! its own program in host/test that makes its calls.
@@ -24,6 +27,7 @@ mod decisions;
 mod explanations;
 mod forms;
 mod joins;
+mod journals;
 mod one;
 mod packed;
 mod queue;
@@ -35,12 +39,12 @@ use run::{Options, Run};
 use std::process::exit;
 
 const USAGE: &str = "compare [--seed N] [--long] [--groups GROUP,.. | --only FAMILY] | compare case WORDS
-groups: report, command, config, decide, explain, join, board, all";
+groups: report, command, config, decide, explain, join, board, journal, all";
 
 type Group = (&'static str, fn(&mut Run));
 
 /// Each group and its families.
-const GROUPS: [Group; 7] = [
+const GROUPS: [Group; 8] = [
     ("report", |run| {
         packed::families(run);
         reports::families(run);
@@ -56,6 +60,7 @@ const GROUPS: [Group; 7] = [
     ("explain", explanations::families),
     ("join", joins::families),
     ("board", boards::families),
+    ("journal", journals::families),
 ];
 
 /// The groups whose calls the archive has.
@@ -68,6 +73,7 @@ fn standing() -> Vec<String> {
         ("explain", cfg!(feature = "explain")),
         ("join", cfg!(feature = "join")),
         ("board", cfg!(feature = "board")),
+        ("journal", cfg!(feature = "journal")),
     ];
     groups.iter().filter(|(_, stands)| *stands).map(|(name, _)| name.to_string()).collect()
 }

@@ -1,7 +1,7 @@
 //! One case from the command line, as a mismatch prints it.
 
 use crate::run;
-use desk_compare::cases::{board, command, config, decide, explain, join, report};
+use desk_compare::cases::{board, command, config, decide, explain, join, journal, report};
 use desk_compare::ours::{self, of_bytes, Plain};
 
 /// Runs the case and gives the exit status, or says what is wrong with the words. `@FILE` stands for words in a file.
@@ -20,6 +20,7 @@ pub fn case(words: &[String]) -> Result<i32, String> {
         Some(&"explain") => run::one(explain::Case::from(decide_case(&words[1..])?)),
         Some(&"join") => run::one(join_case(&words)?),
         Some(&("board-check" | "board-add" | "board-take")) => run::one(board_case(&words)?),
+        Some(word) if word.starts_with("journal-") => run::one(journal_case(&words)?),
         _ => no_such_case(),
     }
 }
@@ -100,6 +101,25 @@ fn board_case(words: &[&str]) -> Result<board::Case, String> {
     Ok(board::Case { slots: slots.chunks(8).map(of_bytes).collect(), area: bytes(area)?, events: vec![event] })
 }
 
+fn journal_case(words: &[&str]) -> Result<journal::Case, String> {
+    let [word, buffer, end, more @ ..] = words else {
+        return no_such_case();
+    };
+    let call = match (*word, more) {
+        ("journal-check", []) => journal::Call::Check,
+        ("journal-last", []) => journal::Call::Last,
+        ("journal-add", [designator, text]) => {
+            journal::Call::Add { designator: bytes(designator)?, text: bytes(text)? }
+        }
+        ("journal-drop", [count]) => journal::Call::Drop { count: parse(count)? },
+        ("journal-print", [room]) => journal::Call::Print { room: parse::<u32>(room)? as usize },
+        ("journal-replay", [designator]) => journal::Call::Replay { designator: bytes(designator)? },
+        _ => return no_such_case(),
+    };
+    let event = journal::Event::Ask { end: parse(end)?, call };
+    Ok(journal::Case { buffer: bytes_up_to(1 << 20, buffer)?, events: vec![event] })
+}
+
 fn parse<T: std::str::FromStr>(word: &str) -> Result<T, String> {
     word.parse().map_err(|_| format!("no number here: {word}"))
 }
@@ -118,12 +138,17 @@ fn plain<T: Plain>(word: &str) -> Result<Box<T>, String> {
     Ok(Box::new(of_bytes(&bytes)))
 }
 
+/// A question has two bytes for a byte string's length.
 fn bytes(word: &str) -> Result<Vec<u8>, String> {
+    bytes_up_to(usize::from(u16::MAX), word)
+}
+
+fn bytes_up_to(most: usize, word: &str) -> Result<Vec<u8>, String> {
     if word == "-" {
         return Ok(Vec::new());
     }
-    let wrong = || format!("no bytes in hex, at most 65535: {word}");
-    if !word.len().is_multiple_of(2) || !word.is_ascii() || word.len() / 2 > usize::from(u16::MAX) {
+    let wrong = || format!("no bytes in hex, at most {most}: {word}");
+    if !word.len().is_multiple_of(2) || !word.is_ascii() || word.len() / 2 > most {
         return Err(wrong());
     }
     let pairs = (0..word.len()).step_by(2).map(|at| u8::from_str_radix(&word[at..at + 2], 16));
