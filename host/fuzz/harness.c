@@ -83,7 +83,7 @@ void fill(uint8_t *to, size_t length)
 
 lent lend_room(size_t length)
 {
-    uint8_t pattern[1024];
+    static uint8_t pattern[MOST_ROOM];
     if (length > sizeof pattern)
         abort();
     fill(pattern, length);
@@ -163,7 +163,9 @@ const target *target_of(const char *name)
     const target *found = among(downlink_targets, name);
     if (found == NULL)
         found = among(uplink_targets, name);
-    return found != NULL ? found : among(board_targets, name);
+    if (found == NULL)
+        found = among(board_targets, name);
+    return found != NULL ? found : among(journal_targets, name);
 }
 
 void run_target(const target *which, const uint8_t *bytes, size_t length)

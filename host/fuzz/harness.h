@@ -29,7 +29,9 @@ typedef struct lent {
 lent lend(const void *bytes, size_t length);
 lent lend_next(input *from, size_t length); /* the next bytes, or as many as there are */
 lent lend_rest(input *from);
-lent lend_room(size_t length); /* for writing, filled with the pattern */
+lent lend_room(size_t length); /* for writing, filled with the pattern; at most MOST_ROOM bytes */
+
+enum { MOST_ROOM = 1 << 17 };
 
 void fill(uint8_t *to, size_t length); /* the pattern */
 
@@ -46,7 +48,8 @@ typedef struct target {
     void (*run)(input from);
 } target;
 
-extern const target downlink_targets[], uplink_targets[], board_targets[]; /* each ends with a call of NULL */
+/* Each ends with a call of NULL. */
+extern const target downlink_targets[], uplink_targets[], board_targets[], journal_targets[];
 
 const target *target_of(const char *call); /* NULL where there is none */
 void run_target(const target *which, const uint8_t *bytes, size_t length);

@@ -80,6 +80,7 @@ int main(int argc, char **argv)
         list(downlink_targets);
         list(uplink_targets);
         list(board_targets);
+        list(journal_targets);
     } else if (strcmp(verb, "input") == 0 && argc > 3) {
         run_files(wanted(argv[2]), argc - 3, argv + 3);
     } else if (strcmp(verb, "pack") == 0 && argc == 4) {

@@ -17,6 +17,8 @@ mod growth;
 #[cfg(linked)]
 mod joins;
 #[cfg(linked)]
+mod journals;
+#[cfg(linked)]
 mod linked;
 #[cfg(linked)]
 mod measure;
@@ -36,6 +38,7 @@ fn main() {
     decisions::rows(&bench);
     joins::rows(&bench);
     boards::rows(&bench);
+    journals::rows(&bench);
 }
 
 #[cfg(not(linked))]

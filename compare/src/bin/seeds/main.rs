@@ -1,7 +1,8 @@
-//! Inputs for the fuzzer to begin with: valid texts, records, configurations and boards, in the form that the targets of
-//! host/fuzz take apart. `seeds FOLDER` writes FOLDER/CALL/0, 1, 2 and so on for every call.
+//! Inputs for the fuzzer to begin with: valid texts, records, configurations, boards and journals, in the form that the
+//! targets of host/fuzz take apart. `seeds FOLDER` writes FOLDER/CALL/0, 1, 2 and so on for every call.
 
 mod downlink;
+mod journals;
 mod uplink;
 
 use desk_compare::random::Random;
@@ -14,7 +15,7 @@ const COUNT: usize = 12;
 /// One input of a call; `index` runs through the forms that differ most.
 type Maker = fn(&mut Random, usize) -> Vec<u8>;
 
-const CALLS: [(&str, Maker); 16] = [
+const CALLS: [(&str, Maker); 22] = [
     ("esk_packed_read", downlink::packed_read),
     ("esk_packed_write", downlink::packed_write),
     ("esk_report_check", downlink::report_text),
@@ -31,6 +32,12 @@ const CALLS: [(&str, Maker); 16] = [
     ("esk_board_check", uplink::board),
     ("esk_board_add", uplink::board_add),
     ("esk_board_take", uplink::board_take),
+    ("esk_journal_check", journals::whole),
+    ("esk_journal_last", journals::whole),
+    ("esk_journal_add", journals::add),
+    ("esk_journal_drop", journals::dropped),
+    ("esk_journal_print", journals::printed),
+    ("esk_journal_replay", journals::replay),
 ];
 
 fn write(folder: &Path) -> std::io::Result<()> {

@@ -1,6 +1,6 @@
 //! The calls of what goes up.
 
-use desk_compare::ours::uplink::{Applied, Command, CommandGot, Decided, Explained, Settings, Slot};
+use desk_compare::ours::uplink::{Applied, Command, CommandGot, Decided, Entry, Explained, Settings, Slot};
 use desk_compare::ours::Answer;
 
 extern "C" {
@@ -56,6 +56,27 @@ extern "C" {
         designator_length: usize,
         out: *mut u8,
         room: usize,
+    ) -> Answer;
+    fn esk_journal_check(journal: *const u8, room: usize, end: usize) -> Answer;
+    fn esk_journal_last(journal: *const u8, room: usize, end: usize) -> Entry;
+    fn esk_journal_add(
+        journal: *mut u8,
+        room: usize,
+        end: usize,
+        designator: *const u8,
+        designator_length: usize,
+        text: *const u8,
+        length: usize,
+    ) -> Answer;
+    fn esk_journal_drop(journal: *const u8, room: usize, end: usize, count: usize) -> Answer;
+    fn esk_journal_print(journal: *const u8, room: usize, end: usize, out: *mut u8, out_room: usize) -> Answer;
+    fn esk_journal_replay(
+        settings: *mut Settings,
+        journal: *const u8,
+        room: usize,
+        end: usize,
+        designator: *const u8,
+        designator_length: usize,
     ) -> Answer;
 }
 
@@ -123,4 +144,35 @@ pub fn board_take(slots: &mut [Slot], area: &[u8], designator: &[u8], out: &mut 
     let (n, bytes) = (slots.len(), area.len());
     let (slots, area) = (slots.as_mut_ptr(), area.as_ptr());
     unsafe { esk_board_take(slots, n, area, bytes, designator.as_ptr(), designator.len(), out.as_mut_ptr(), out.len()) }
+}
+
+#[inline(always)]
+pub fn journal_check(buffer: &[u8], end: usize) -> Answer {
+    unsafe { esk_journal_check(buffer.as_ptr(), buffer.len(), end) }
+}
+
+#[inline(always)]
+pub fn journal_last(buffer: &[u8], end: usize) -> Entry {
+    unsafe { esk_journal_last(buffer.as_ptr(), buffer.len(), end) }
+}
+
+#[inline(always)]
+pub fn journal_add(buffer: &mut [u8], end: usize, designator: &[u8], text: &[u8]) -> Answer {
+    let (buffer, room) = (buffer.as_mut_ptr(), buffer.len());
+    unsafe { esk_journal_add(buffer, room, end, designator.as_ptr(), designator.len(), text.as_ptr(), text.len()) }
+}
+
+#[inline(always)]
+pub fn journal_drop(buffer: &[u8], end: usize, count: usize) -> Answer {
+    unsafe { esk_journal_drop(buffer.as_ptr(), buffer.len(), end, count) }
+}
+
+#[inline(always)]
+pub fn journal_print(buffer: &[u8], end: usize, out: &mut [u8]) -> Answer {
+    unsafe { esk_journal_print(buffer.as_ptr(), buffer.len(), end, out.as_mut_ptr(), out.len()) }
+}
+
+#[inline(always)]
+pub fn journal_replay(settings: &mut Settings, buffer: &[u8], end: usize, designator: &[u8]) -> Answer {
+    unsafe { esk_journal_replay(settings, buffer.as_ptr(), buffer.len(), end, designator.as_ptr(), designator.len()) }
 }
