@@ -5,16 +5,19 @@ use mathlib.Core.Bool.{Bool, true, false, _&&_}
 use mathlib.Core.List.{List, [], _∷_, _++_, append-assoc, append-nil}
 use Prim.Native.Nat.{ℕ, zero, suc, _+_, _-_, _≤_, _<_}
 use native.Mathlib.Omega.{arith}
+use native.Mathlib.Nat.{add-zero}
 use lib.Dec.{leb, eqb}
-use lib.ListN.{length, take, length-append}
+use lib.ListN.{length, take, length-append, length-take}
 use lib.Seq.{take-length}
 use borrow.Author.Tests.{leb-true, le-leb}
 use Rattle.text.proofs.Cases.{by-test, by-le, both-left, both-right}
-use Rattle.journal.specs.Journal.{Entry, entryBytes, journalBytes, isEntry, allEntries, most, entryAt, isTrailer, lengthIn, beforeTrailer, atTrailer, lastEntry, Read, Sound, Broken, onLast, walkBack, entriesIn}
+use Rattle.field.proofs.Decimal.{part-long}
+use Rattle.journal.specs.Journal.{Entry, entryBytes, journalBytes, isEntry, allEntries, most, entryAt, isTrailer, lengthIn, beforeTrailer, atTrailer, lastEntry, Read, Sound, Broken, onLast, walkBack, walk, entriesIn}
 use Rattle.journal.specs.declared.Last.{Last}
 use Rattle.journal.specs.declared.Last.the-variants.{Nothing, Starts, Fails}
 use Rattle.journal.proofs.Ends.{starts, finds, told-length}
 use Rattle.journal.proofs.Bytes.{from-end, journal-append, journal-one, journal-more, entries-more, entry-who, bytes-length, found-bytes, stands-whole, stands-trailer, stands-entry, stands-ends, stands-front}
+use Rattle.journal.proofs.Walk.{walk-starts, walk-fails}
 use Rattle.journal.proofs.Entries.{sound-broken}
 
 -- ---- One list
@@ -168,22 +171,47 @@ pub record Stopped (s : List ℕ) (end place : ℕ) : Type 0 where
   pub later : List Entry
   pub read : take end s ≡ take here s ++ journalBytes later
   pub entries : allEntries later ≡ true
+  pub whole : here + length (journalBytes later) ≡ end
+  pub within : (later ≡ []) ⊎ (end ≤ most)
   pub fails : lastEntry s here ≡ Fails place
 
 stopped-now : (s : List ℕ) (end place : ℕ) → lastEntry s end ≡ Fails place → Stopped s end place
 unfolding journalBytes allEntries
-stopped-now s end place e = record { here = end; later = []; read = sym (append-nil (take end s)); entries = refl; fails = e }
+stopped-now s end place e =
+    record {
+      here = end;
+      later = [];
+      read = sym (append-nil (take end s));
+      entries = refl;
+      whole = add-zero end;
+      within = inl refl;
+      fails = e;
+    }
 
 stopped-on : (s : List ℕ) (end at n place : ℕ) → lastEntry s end ≡ Starts at n → Stopped s at place → Stopped s end place
 stopped-on s end at n place e x =
     let h = starts s end at n e in
+    let more = entryAt s at n in
+    let six = entry-who more (h .fine) in
+    let w = h .whole in
+    let i = h .inside in
     record {
       here = x .here;
-      later = x .later ++ (entryAt s at n ∷ []);
+      later = x .later ++ (more ∷ []);
       read =
           found-bytes s end at n h
-          ∙ rw (x .read, journal-more (x .later) (entryAt s at n)) (append-assoc (take (x .here) s) (journalBytes (x .later)) (entryBytes (entryAt s at n)));
-      entries = entries-more (x .later) (entryAt s at n) ∙ rw (x .entries) (h .fine);
+          ∙ rw (x .read, journal-more (x .later) more) (append-assoc (take (x .here) s) (journalBytes (x .later)) (entryBytes more));
+      entries = entries-more (x .later) more ∙ rw (x .entries) (h .fine);
+      whole =
+          omega (
+            arith,
+            x .whole,
+            ap length (journal-more (x .later) more),
+            length-append (journalBytes (x .later)) (entryBytes more),
+            bytes-length more six,
+            part-long s (at + 6) n (omega arith),
+          );
+      within = inr (h .few);
       fails = x .fails;
     }
 
@@ -209,3 +237,48 @@ pub broken-where : (s : List ℕ) (end place : ℕ) → entriesIn s end ≡ Brok
 unfolding entriesIn
 broken-where s end place e =
     walk-stopped (λ (at n : ℕ) (later : List Entry). entryAt s at n ∷ later) s (suc end) end place [] (omega arith) e
+
+-- and there alone: where some entries were read from the end and the next step fails at a place, the journal is broken at that place
+module _ {A : Type 0} (gather : ℕ → ℕ → A → A) (s : List ℕ) (here place : ℕ) (fails : lastEntry s here ≡ Fails place) where
+  Breaks : List Entry → Type 0
+  Breaks later = (end : ℕ) (a : A) → take end s ≡ take here s ++ journalBytes later → allEntries later ≡ true
+      → here + length (journalBytes later) ≡ end → (later ≡ []) ⊎ (end ≤ most) → walk gather s end a ≡ Broken place
+
+  breaks-none : Breaks []
+  unfolding Breaks journalBytes
+  breaks-none end a read ok whole within =
+      let z : end ≡ here = sym whole ∙ add-zero here in
+      rw z (walk-fails gather s here place a fails)
+
+  breaks-more : (later : List Entry) (e : Entry) → Breaks later → Breaks (later ++ (e ∷ []))
+  unfolding Breaks
+  breaks-more later e before end a read all whole within =
+      let front : List ℕ = take here s ++ journalBytes later in
+      let both : (allEntries later && isEntry e) ≡ true = sym (entries-more later e) ∙ all in
+      let ok = both-right (allEntries later) (isEntry e) both in
+      let is : take end s ≡ front ++ entryBytes e =
+      read ∙ rw (journal-more later e) (sym (append-assoc (take here s) (journalBytes later) (entryBytes e))) in
+      let long = ap length (journal-more later e) ∙ length-append (journalBytes later) (entryBytes e) in
+      let some = bytes-length e (entry-who e ok) in
+      let ends = ap length is ∙ length-append front (entryBytes e) in
+      let fronts = length-append (take here s) (journalBytes later) in
+      let one = length-take end s in
+      let two = length-take here s in
+      let inside : end ≤ length s = omega arith in
+      let at : length front ≡ here + length (journalBytes later) = omega arith in
+      let few : end ≤ most = not-empty within in
+      let found = finds s end (length front) (length (e .text)) (stands-ends s end front e inside is ok few) in
+      walk-starts gather s end (length front) (length (e .text)) a found
+      ∙ before (length front) (gather (length front) (length (e .text)) a) (stands-front s end front e inside is ok)
+      (both-left (allEntries later) (isEntry e) both) (sym at) (inr (omega arith))
+    where
+      not-empty : (later ++ (e ∷ []) ≡ []) ⊎ (end ≤ most) → end ≤ most
+      not-empty (inl z) = absurd (omega (arith, ap length z, length-append later (e ∷ [])))
+      not-empty (inr few) = few
+
+pub stopped-broken : (s : List ℕ) (end place : ℕ) → Stopped s end place → entriesIn s end ≡ Broken place
+unfolding entriesIn Breaks
+stopped-broken s end place x =
+    let gather : ℕ → ℕ → List Entry → List Entry = λ (at n : ℕ) (later : List Entry). entryAt s at n ∷ later in
+    from-end (Breaks gather s (x .here) place (x .fails)) (breaks-none gather s (x .here) place (x .fails))
+    (breaks-more gather s (x .here) place (x .fails)) (x .later) end [] (x .read) (x .entries) (x .whole) (x .within)

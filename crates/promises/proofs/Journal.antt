@@ -21,14 +21,15 @@ use Rattle.settings.specs.declared.Settings.{Settings}
 use Rattle.command.specs.Text.{checkCommand}
 use Rattle.config.specs.Config.{applyTo}
 use Rattle.decide.proofs.Tests.{says-no}
-use Rattle.journal.specs.Journal.{Entry, entryBytes, journalBytes, isEntry, allEntries, most, IsJournal, lastEntry, Read, Sound, Broken, entriesIn}
+use Rattle.journal.specs.Journal.{Entry, entryBytes, journalBytes, isEntry, allEntries, most, IsJournal, entryAt, lastEntry, Read, Sound, Broken, entriesIn}
 use Rattle.journal.specs.Calls.{seenOf, told, checkJournal, taken, newEnd, fitsIn, addSeen, added, leftBy, addedOver, dropped, textsFor, replay, replayed}
 use Rattle.journal.specs.Printed.{line, printed, printSeen, printTold, printedOver}
-use Rattle.journal.specs.declared.Last.the-variants.{Fails}
-use Rattle.journal.proofs.Ends.{finds, nothing-there}
-use Rattle.journal.proofs.Bytes.{stands-ends}
+use Rattle.journal.specs.declared.Last.{Last}
+use Rattle.journal.specs.declared.Last.the-variants.{Nothing, Starts, Fails}
+use Rattle.journal.proofs.Ends.{starts, finds, nothing, nothing-there}
+use Rattle.journal.proofs.Bytes.{found-bytes, stands-ends}
 use Rattle.journal.proofs.Entries.{reads, read-is, newest, none-left}
-use Rattle.journal.proofs.Unique.{unique, Why, Limits, Trailer, why, broken-where, starts-fails, nothing-fails}
+use Rattle.journal.proofs.Unique.{unique, Why, Limits, Trailer, why, broken-where, stopped-broken, starts-fails, nothing-fails}
 use Rattle.journal.proofs.Added.{new-end, one-written, add-fine}
 use Rattle.journal.proofs.Dropped.{first-entries, alone, drop-refused}
 use Rattle.journal.proofs.Lines.{digits-hold, no-leading-zero}
@@ -165,12 +166,50 @@ broken s end n =
         later = x .later;
         read = x .read ∙ rw (bytes-same (x .later));
         sound = all-sound (x .later) (x .entries);
+        whole = ap (λ (l : List ℕ). x .here + length l) (bytes-same (x .later)) ∙ x .whole;
+        within = x .within;
         some = some-left s (x .here) place (x .fails);
         none = none-there s (x .here) place (x .fails);
         trailer = at-trailer s (x .here) place (x .fails) w;
         limits = at-limits s (x .here) place (x .fails) w;
       },
     )
+
+-- no other place fits those words
+module _ (s : List ℕ) (end place : ℕ) (x : FailsAt s end place) where
+  place-is : (q : ℕ) → Why s (x .here) q → q ≡ place
+  place-is q (Trailer p few inside none) = let z = x .trailer (omega arith) few inside in omega arith
+  place-is q (Limits z (inl (inl short))) = z ∙ sym (x .limits .0 short)
+  place-is q (Limits z (inl (inr many))) = z ∙ sym (x .limits .1 many)
+  place-is q (Limits z (inr beyond)) = z ∙ sym (x .limits .2 beyond)
+
+  step-fails : (l : Last) → lastEntry s (x .here) ≡ l → l ≡ Fails place
+  step-fails Nothing e = let z = nothing s (x .here) e in absurd (omega (arith, x .some))
+  step-fails (Starts at n) e =
+      let h = starts s (x .here) at n e in
+      absurd
+      (x .none (h .few) (h .inside) (take at s) (entryAt s at n) (sound-entry (entryAt s at n) (h .fine))
+      (found-bytes s (x .here) at n h ∙ rw (entry-same (entryAt s at n))))
+  step-fails (Fails q) e = ap Fails (place-is q (why s (x .here) q e))
+
+  fails-broken : entriesIn s end ≡ Broken place
+  fails-broken =
+      stopped-broken s end place
+      (record {
+        here = x .here;
+        later = x .later;
+        read = x .read ∙ rw (bytes-same (x .later));
+        entries = sound-all (x .later) (x .sound);
+        whole = ap (λ (l : List ℕ). x .here + length l) (sym (bytes-same (x .later))) ∙ x .whole;
+        within = x .within;
+        fails = step-fails (lastEntry s (x .here)) refl;
+      })
+
+one-place : (s : List ℕ) (end p q : ℕ) → FailsAt s end p → FailsAt s end q → p ≡ q
+one-place s end p q x y = same p q (sym (fails-broken s end p x) ∙ fails-broken s end q y)
+  where
+    same : (m n : ℕ) → _≡_ {A = Read (List Entry)} (Broken m) (Broken n) → m ≡ n
+    same m n e = cc
 
 -- ---- One entry from the end
 
@@ -340,6 +379,7 @@ journal-promises =
       accepts = accepts;
       unique = one-list;
       broken = broken;
+      one-place = one-place;
       newest = last-newest;
       nothing = last-nothing;
       adds = adds;

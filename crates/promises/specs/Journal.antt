@@ -1,6 +1,6 @@
 -- Document 02, §8, of the calls on a journal, in the numbers and bytes that the host is given: a field is a sentence.
 use mathlib.Core.Path.{_≡_}
-use mathlib.Core.Logic.{_↔_}
+use mathlib.Core.Logic.{_↔_, _⊎_}
 use mathlib.Core.List.{List, [], _∷_, _++_, foldl}
 use Prim.Native.Nat.{ℕ, _+_, _-_, _≤_, _<_}
 use lib.ListN.{length, getD, take, drop}
@@ -53,6 +53,8 @@ pub record FailsAt (s : List ℕ) (end place : ℕ) : Type 0 where
   pub later : List Entry
   pub read : take end s ≡ take here s ++ allBytes later
   pub sound : AllSound later
+  pub whole : here + length (allBytes later) ≡ end
+  pub within : (later ≡ []) ⊎ (end ≤ 65535)
   pub some : 1 ≤ here
   pub none : here ≤ 65535 → here ≤ length s → (front : List ℕ) (e : Entry) → SoundEntry e → take here s ≡ front ++ bytesOf e → ⊥
   pub trailer : 3 ≤ here → here ≤ 65535 → here ≤ length s → place + 3 ≡ here
@@ -86,6 +88,7 @@ pub record JournalPromises : Type 0 where
   -- "14, at the place of the trailer where reading from the end first fails, or 0"
   pub broken : (s : List ℕ) (end : ℕ) → ¬ (checkAnswer s end .code ≡ 0)
       → (place : ℕ) × (checkAnswer s end ≡ answerOf 14 place) × FailsAt s end place
+  pub one-place : (s : List ℕ) (end p q : ℕ) → FailsAt s end p → FailsAt s end q → p ≡ q
   -- one entry from the end: where it starts, where its text does and how long that is; or that none is left
   pub newest : (s : List ℕ) (end : ℕ) (es : List Entry) (e : Entry) → JournalOf s end (es ++ (e ∷ []))
       → lastAnswer s end
