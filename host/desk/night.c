@@ -5,19 +5,20 @@
  *
  * The board is kept in a file, as eskelvor board keeps one. Each aircraft's configuration after its hand-over is held
  * against the one that the desk shows, which is every command applied as it was accepted. Then the same night is played
- * on a queue of sixteen that drops the oldest.
+ * on a queue of sixteen that drops the oldest. What each aircraft was handed is in a journal; at the end that is replayed.
  */
 #include "night.h"
 
 #include "config_file.h"
 #include "json.h"
 #include "options.h"
+#include "replay.h"
 #include "settings.h"
 
 #include <stdio.h>
 #include <string.h>
 
-enum { OLD_QUEUE = 16 };
+enum { OLD_QUEUE = 16, SHOWN = 0 }; /* SHOWN: the aircraft whose replay is shown step by step */
 
 static esk_settings desk[AIRCRAFT], held[AIRCRAFT], old[AIRCRAFT];
 static int queued[COMMANDS_MOST]; /* what the old queue would have taken: every command that is well formed */
@@ -28,13 +29,17 @@ static const uint8_t *bytes(const char *text)
     return (const uint8_t *)text;
 }
 
-static void begin(void)
+/* What each aircraft was told before the night is in the journal too: a replay starts from reset. */
+static int begin(const night_files *f)
 {
-    for (int i = 0; i < AIRCRAFT; i++) {
+    int status = FINE;
+    for (int i = 0; i < AIRCRAFT && status == FINE; i++) {
         desk[i] = esk_reset();
         esk_apply(&desk[i], bytes(fleet[i].before), strlen(fleet[i].before));
         held[i] = old[i] = desk[i];
+        status = night_enter(f, fleet[i].designator, bytes(fleet[i].before), strlen(fleet[i].before));
     }
+    return status;
 }
 
 static void tell_sent(const sending *s, esk_answer a)
@@ -58,11 +63,11 @@ static void tell_sent(const sending *s, esk_answer a)
 }
 
 /* The desk sends; what is accepted is at once in the configuration that the desk shows. */
-static int send(const char *file, int number)
+static int send(const night_files *f, int number)
 {
     const sending *s = &sendings[number];
     esk_answer a;
-    int status = night_add(file, fleet[s->to].designator, s->text, &a);
+    int status = night_add(f, fleet[s->to].designator, s->text, &a);
     if (status != FINE)
         return status;
     tell_sent(s, a);
@@ -152,11 +157,11 @@ static void tell_held(const char *event, const char *lead, int aircraft, const e
 }
 
 /* An aircraft comes back, and applies what it is handed. Counts it where it then holds what the desk shows. */
-static int hand_over(const char *file, int aircraft, int *agree)
+static int hand_over(const night_files *f, int aircraft, int *agree)
 {
     uint8_t out[ESK_COMMAND_BYTES];
     esk_answer a;
-    int status = night_take(file, fleet[aircraft].designator, out, &a);
+    int status = night_take(f, fleet[aircraft].designator, out, &a);
     if (status != FINE)
         return status;
     int applied = a.code == ESK_ACCEPTED && esk_apply(&held[aircraft], out, a.length).code == ESK_ACCEPTED;
@@ -174,24 +179,24 @@ static void say(const char *line)
         printf("\n%s\n\n", line);
 }
 
-static int evening(const char *file)
+static int evening(const night_files *f)
 {
     int status = FINE;
     for (int i = 0; i < sendings_count && status == FINE; i++)
-        status = send(file, i);
+        status = send(f, i);
     return status;
 }
 
 /* The fleet comes back. The latecomer's command is sent again once a slot is free. */
-static int morning(const char *file, int *agree)
+static int morning(const night_files *f, int *agree)
 {
     int status = FINE;
     for (int i = 0; i < AIRCRAFT && status == FINE; i++)
         if (i == LATECOMER)
-            status = send(file, sendings_count);
+            status = send(f, sendings_count);
         else
-            status = hand_over(file, i, agree);
-    return status == FINE ? hand_over(file, LATECOMER, agree) : status;
+            status = hand_over(f, i, agree);
+    return status == FINE ? hand_over(f, LATECOMER, agree) : status;
 }
 
 /* The last of the evening's commands, which a queue that drops the oldest would have handed over. */
@@ -215,46 +220,90 @@ static int agree_with_queue(void)
     return agree;
 }
 
-static int play(const char *file)
+/* The journal as eskelvor journal lists it, and what one aircraft's commands changed. */
+static void show_journal(const journal *j)
 {
-    int agree = 0;
+    static uint8_t lines[ESK_JOURNAL_PRINTED];
+    if (as_json)
+        return;
+    say("The journal of what was handed over, newest first:");
+    esk_answer a = esk_journal_print(j->bytes, sizeof j->bytes, j->end, lines, sizeof lines);
+    fwrite(lines, 1, a.length, stdout);
+    printf("\n%s, replayed from reset on:\n\n", fleet[SHOWN].designator);
+    replay_changes(j, fleet[SHOWN].designator);
+    say("Each aircraft's configuration, by the journal alone:");
+}
+
+/* Counts the aircraft of which the journal gives what they hold, and what the desk shows. */
+static int replay_all(const night_files *f, int *agree)
+{
+    static journal j;
+    int status = journal_read(f->journal, &j);
+    if (status != FINE)
+        return status;
+    show_journal(&j);
+    for (int i = 0; i < AIRCRAFT; i++) {
+        esk_settings s = esk_reset();
+        const char *designator = fleet[i].designator;
+        esk_answer a = esk_journal_replay(&s, j.bytes, sizeof j.bytes, j.end, bytes(designator), strlen(designator));
+        int same = a.code == ESK_ACCEPTED && memcmp(&s, &desk[i], sizeof s) == 0 && memcmp(&s, &held[i], sizeof s) == 0;
+        tell_held("replay", designator, i, &s, same);
+        *agree += same;
+    }
+    return FINE;
+}
+
+/* What a queue would have done. Gives how many aircraft would then hold what the desk shows. */
+static int play_queue(int in_evening)
+{
     char line[160];
-    begin();
+    snprintf(line, sizeof line, "A queue of %d would have taken %d, dropped the first %d, and told nobody:", OLD_QUEUE,
+             in_evening, in_evening - OLD_QUEUE);
+    say(line);
+    hand_over_queue(in_evening);
+    return agree_with_queue();
+}
+
+static int play(const night_files *f)
+{
+    int agree = 0, replayed = 0;
+    char line[160];
+    int status = begin(f);
     say("Four aircraft are out of coverage, and a fifth soon is; the board has four slots. The desk goes on sending.");
-    int status = evening(file);
+    if (status == FINE)
+        status = evening(f);
     if (status != FINE)
         return status;
     int in_evening = queued_count;
     snprintf(line, sizeof line, "%d of %d commands accepted. Each aircraft comes back, and is handed one command:",
              accepted, sendings_count);
     say(line);
-    status = morning(file, &agree);
+    status = morning(f, &agree);
     if (status != FINE)
         return status;
-    snprintf(line, sizeof line, "A queue of %d would have taken %d, dropped the first %d, and told nobody:", OLD_QUEUE,
-             in_evening, in_evening - OLD_QUEUE);
-    say(line);
-    hand_over_queue(in_evening);
-    int agree_before = agree_with_queue();
+    int agree_before = play_queue(in_evening);
     if (!as_json)
         printf("\nWith the board %d of %d aircraft hold what the desk shows; with the queue %d.\n", agree, AIRCRAFT,
                agree_before);
-    return agree == AIRCRAFT ? FINE : REFUSED;
+    status = replay_all(f, &replayed);
+    if (status == FINE && !as_json)
+        printf("\nThe journal gives what %d of %d aircraft hold.\n", replayed, AIRCRAFT);
+    return status != FINE ? status : agree == AIRCRAFT && replayed == AIRCRAFT ? FINE : REFUSED;
 }
 
 static int run(int count, char **words)
 {
-    char folder[PATH_ROOM], file[PATH_ROOM + 8];
+    static night_files f;
     if (take_options(&count, words, NULL, 0) != FINE)
         return TROUBLE;
     if (count != 0)
         return trouble(words[0], "this takes no words");
-    if (night_folder(folder, file) != FINE)
+    if (night_folder(&f) != FINE)
         return TROUBLE;
-    int status = board_create(file, NIGHT_SLOTS, 0);
+    int status = board_create(f.board, NIGHT_SLOTS, 0);
     if (status == FINE)
-        status = play(file);
-    night_clear(folder, file);
+        status = play(&f);
+    night_clear(&f);
     return status;
 }
 
@@ -262,9 +311,10 @@ const subcommand night_subcommand = {
     "night",
     "",
     "Plays a busy night on a board, and on the queue that it replaces",
-    "The board is kept in a file of its own, in a folder under $TMPDIR or /tmp that\n"
-    "is removed afterwards. The status is 0 where every aircraft holds what the desk\n"
-    "shows, 1 where one does not.\n",
+    "Board and journal are kept in files of their own, in a folder under $TMPDIR or\n"
+    "/tmp that is removed afterwards. At the end the journal is replayed. The status is\n"
+    "0 where every aircraft holds what the desk shows and what the journal gives, 1\n"
+    "where one does not.\n",
     run,
     0,
 };

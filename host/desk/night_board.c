@@ -1,6 +1,8 @@
 #define _XOPEN_SOURCE 700
 #include "night.h"
 
+#include "journal_file.h"
+
 #include <stdio.h>
 #include <stdlib.h>
 #include <string.h>
@@ -56,11 +58,25 @@ static int put_back(kept *k, const board *b)
     return status == FINE ? keep_replace(k) : status;
 }
 
-int night_add(const char *file, const char *designator, const char *text, esk_answer *a)
+int night_enter(const night_files *f, const char *designator, const uint8_t *text, size_t length)
+{
+    static journal j;
+    int status = journal_hold(&j, f->journal, 0, 1);
+    if (status == FINE)
+        status = journal_add(&j, designator, text, length);
+    if (status == FINE)
+        status = journal_write(&j);
+    if (status == FINE)
+        status = journal_put(&j);
+    keep_release(&j.file);
+    return status;
+}
+
+int night_add(const night_files *f, const char *designator, const char *text, esk_answer *a)
 {
     static board b;
     kept k;
-    int status = board_hold(&k, &b, file, 0);
+    int status = board_hold(&k, &b, f->board, 0);
     if (status == FINE) {
         *a = esk_board_add(b.slots, b.n, b.area, b.n * ESK_COMMAND_BYTES, (const uint8_t *)designator,
                            strlen(designator), (const uint8_t *)text, strlen(text));
@@ -71,39 +87,44 @@ int night_add(const char *file, const char *designator, const char *text, esk_an
     return status;
 }
 
-int night_take(const char *file, const char *designator, uint8_t *out, esk_answer *a)
+int night_take(const night_files *f, const char *designator, uint8_t *out, esk_answer *a)
 {
     static board b;
     kept k;
-    int status = board_hold(&k, &b, file, 0);
+    int status = board_hold(&k, &b, f->board, 0);
     if (status == FINE) {
         *a = esk_board_take(b.slots, b.n, b.area, b.n * ESK_COMMAND_BYTES, (const uint8_t *)designator,
                             strlen(designator), out, ESK_COMMAND_BYTES);
         if (a->code == ESK_ACCEPTED)
+            status = night_enter(f, designator, out, a->length);
+        if (a->code == ESK_ACCEPTED && status == FINE)
             status = put_back(&k, &b);
     }
     keep_release(&k);
     return status;
 }
 
-int night_folder(char folder[PATH_ROOM], char file[PATH_ROOM + 8])
+int night_folder(night_files *f)
 {
     const char *under = getenv("TMPDIR");
     if (under == NULL || *under == 0)
         under = "/tmp";
-    if (snprintf(folder, PATH_ROOM, "%s/eskelvor-night-XXXXXX", under) >= PATH_ROOM)
+    if (snprintf(f->folder, PATH_ROOM, "%s/eskelvor-night-XXXXXX", under) >= PATH_ROOM)
         return trouble(under, "the path is too long");
-    if (mkdtemp(folder) == NULL)
+    if (mkdtemp(f->folder) == NULL)
         return failed(under, "make a folder in it");
-    snprintf(file, PATH_ROOM + 8, "%s/board", folder);
+    snprintf(f->board, sizeof f->board, "%s/board", f->folder);
+    snprintf(f->journal, sizeof f->journal, "%s/journal", f->folder);
     return FINE;
 }
 
-void night_clear(const char *folder, const char *file)
+void night_clear(const night_files *f)
 {
-    char lock[PATH_ROOM + 32];
-    snprintf(lock, sizeof lock, "%s/.board.eskelvor-lock", folder);
-    unlink(lock);
-    unlink(file);
-    rmdir(folder);
+    static const char *const names[] = {"board", "journal", ".board.eskelvor-lock", ".journal.eskelvor-lock"};
+    char path[PATH_ROOM + 32];
+    for (size_t i = 0; i < sizeof names / sizeof *names; i++) {
+        snprintf(path, sizeof path, "%s/%s", f->folder, names[i]);
+        unlink(path);
+    }
+    rmdir(f->folder);
 }

@@ -76,6 +76,13 @@ static void tell_as_json(const journal *j, const stretch *s, const char *designa
     json_close();
 }
 
+void replay_changes(const journal *j, const char *designator)
+{
+    static stretch s;
+    cut(j, -1, &s);
+    tell_steps(j, &s, designator);
+}
+
 int replay(const char *file, const char *designator, long at)
 {
     static journal j;

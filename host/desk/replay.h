@@ -8,4 +8,7 @@
  * where `at` is not below 0, up to the entry that begins at that byte. Gives a status. */
 int replay(const char *file, const char *designator, long at);
 
+/* Tells what each of the aircraft's commands in a sound journal changed: lines, or items of the JSON list that is open. */
+void replay_changes(const journal *j, const char *designator);
+
 #endif

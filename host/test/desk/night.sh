@@ -24,6 +24,20 @@ out_is "  NZ7001  $alike" \
     '          flag ascent: 0, the desk shows 1'
 [ -z "$(ls -A "$TMPDIR")" ] || fail 'something is left in the folder'
 
+# It ends with a replay of the journal, which the desk program's own subcommand gives as well
+answers 0 'the night once more' night
+out_has 'The journal gives what 5 of 5 aircraft hold.'
+sed -n 's/^[0-9]* \([A-Z]*[0-9]* AWR[^ ]*\)$/\1/p' "$scratch/out" >"$scratch/listed"
+[ "$(wc -l <"$scratch/listed")" = 10 ] || fail 'not two entries for each aircraft'
+sed -n '/^AU0137, replayed/,/^Each aircraft/p' "$scratch/out" | sed '1,2d;$d' | sed '$d' >"$scratch/steps"
+[ "$(tail -7 "$scratch/out" | grep -c ': as the desk shows$')" = 5 ] || fail 'not what each holds'
+tac "$scratch/listed" | while read -r aircraft text; do
+    eskelvor journal "$scratch/again" add "$aircraft" "$text" >"$scratch/out" 2>"$scratch/err" || fail 'an entry'
+done
+answers 0 'the same entries, replayed' journal "$scratch/again" replay AU0137
+sed '/^AU0137 after reset/,$d' "$scratch/out" >"$scratch/want"
+[ -s "$scratch/want" ] && cmp -s "$scratch/want" "$scratch/steps" || fail 'not what the night shows'
+
 # What the board hands over is what eskelvor join makes of the aircraft's accepted commands.
 for aircraft in AU0137 AU0245 NZ7001 NZ7002; do
     answers 0 'the night again' night
@@ -40,7 +54,8 @@ json_has results.0.event=add results.0.designator=AU0137 results.0.code=0 result
     'results.35.event=old queue' results.35.as_the_desk_shows=false \
     results.37.differs.0.flag=airports results.37.differs.0.holds=0 results.37.differs.0.shown=1 \
     results.37.differs.2.section=9 results.37.differs.2.holds=0000 results.37.differs.2.shown=2301 \
-    'results.38.differs.0.flag=inhibit hours' status=0
+    'results.38.differs.0.flag=inhibit hours' results.40.event=replay results.44.event=replay \
+    results.40.designator=AU0137 results.40.as_the_desk_shows=true results.44.as_the_desk_shows=true status=0
 answers 2 'it takes no words' night now
 TMPDIR=$scratch/nowhere
 answers 2 'a folder that is not there' night
