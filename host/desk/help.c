@@ -26,7 +26,8 @@ void help(void)
 {
     puts("usage: eskelvor SUBCOMMAND [WORD..]\n\n"
          "The weather desk: aircraft reports, the commands that tell aircraft when to\n"
-         "report, and the board of commands that wait for aircraft out of coverage.\n");
+         "report, the board of commands that wait for aircraft out of coverage, and the\n"
+         "journal of those that were taken.\n");
     for (int i = 0; i < SUBCOMMANDS; i++)
         printf("  %-8s %s\n", subcommands[i]->name, subcommands[i]->summary);
     puts("\n  eskelvor help SUBCOMMAND     what it takes and tells; so does\n"

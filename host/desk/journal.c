@@ -45,8 +45,8 @@ static int check(const call *c)
         json_begin();
         json_close();
     } else
-        printf("%s: sound, %lu entries in %lu bytes\n", name_safely(c->file, name, sizeof name), count_entries(),
-               (unsigned long)j.end);
+        printf("%s: sound, %lu %s in %lu bytes\n", name_safely(c->file, name, sizeof name), count_entries(),
+               count_entries() == 1 ? "entry" : "entries", (unsigned long)j.end);
     return FINE;
 }
 
@@ -150,8 +150,8 @@ static int tell_dropped(const call *c, long dropped)
         json_number("dropped", dropped);
         json_close();
     } else
-        printf("%s: without its newest %ld, %lu entries in %lu bytes\n", name_safely(c->file, name, sizeof name),
-               dropped, count_entries(), (unsigned long)j.end);
+        printf("%s: dropped the newest %ld; left: %lu %s in %lu bytes\n", name_safely(c->file, name, sizeof name),
+               dropped, count_entries(), count_entries() == 1 ? "entry" : "entries", (unsigned long)j.end);
     return FINE;
 }
 

@@ -1,8 +1,8 @@
 /*
  * eskelvor: the desk program, for a person at a terminal and for scripts, over the proved calls of eskelvor.h.
  *
- * Every verdict on a text, a board or a configuration is a proved call's. What is here reads words and files, shows
- * answers, and keeps boards and configurations in files.
+ * Every verdict on a text, a board, a journal or a configuration is a proved call's. What is here reads words and files,
+ * shows answers, and keeps boards, journals and configurations in files.
  */
 #define _XOPEN_SOURCE 700
 #include "desk.h"

@@ -103,6 +103,7 @@ cmp -s j before || fail 'looking changed the journal'
 for n in 0 1 2 3 4; do
     cp before d
     answers 0 "without the newest $n" journal d drop $n
+    out_has "d: dropped the newest $n; left: $((4 - n)) ent"
     answers 0 'the rest' journal d list
     cp out rest
     answers 0 'of all' journal before list

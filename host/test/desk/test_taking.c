@@ -124,7 +124,7 @@ static int stopped_drop(long step, int how)
     fresh();
     HOLD(on_journal(-1, KILLED, "add", "XY0001", TEXT) == FINE, "an entry to drop");
     int status = on_journal(step, how, "drop", "1", NULL);
-    int had = entered(), told = strstr(said(), "without its newest 1") != NULL;
+    int had = entered(), told = strstr(said(), "dropped the newest 1;") != NULL;
     HOLD(had <= 1 && (!told || had == 0), "it is told once it is on disk");
     HOLD(status != FINE || told, "status 0 where it was told");
     HOLD(on_journal(-1, KILLED, "add", "XY0001", TEXT) == FINE && entered() == had + 1, "the next writer finds all in order");
