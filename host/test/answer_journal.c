@@ -19,7 +19,7 @@
  */
 #include "answer.h"
 
-#ifndef ESK_JOURNAL_CALLS
+#if !defined ESK_JOURNAL_CALLS && !defined ESK_JOURNAL_BYTES /* as long as eskelvor.h has none of these */
 #define ESK_JOURNAL_CALLS
 typedef struct esk_entry {
     size_t place, offset, text;
