@@ -6,14 +6,15 @@
 
 Reports: ``reports``, ``read_report``, ``write_report``, ``check_report``. Commands: ``read_command``, ``write_command``,
 ``check_command``, ``command_fields``, ``join``. An aircraft's configuration: ``Configuration``, with ``apply``, ``decide``
-and ``explain``. What waits for aircraft out of coverage: ``Board``. One figure: ``read_packed``, ``write_packed``.
+and ``explain``. What waits for aircraft out of coverage: ``Board``. What was taken for them: ``Journal``. One
+figure: ``read_packed``, ``write_packed``.
 
 Every verdict is one call's of the library. A refusal is raised as a ``Refusal``, with code, place and words; nothing that
 was lent has then changed. The library is the file that ``ESKELVOR_LIBRARY`` names, else the one beside this module, else the
 one that the system's loader finds; ``LibraryError`` says where it cannot be used.
 """
 
-from ._library import BOARD_SLOTS, COMMAND_BYTES, REPORT_BYTES, LibraryError, library_version
+from ._library import BOARD_SLOTS, COMMAND_BYTES, JOURNAL_BYTES, REPORT_BYTES, LibraryError, library_version
 from ._board import Board, Waiting
 from ._commands import (
     NO_CHANGE,
@@ -33,12 +34,14 @@ from ._commands import (
     write_command,
 )
 from ._configuration import Configuration, Decision, Explanation, Phase, Reason, Settings, minutes
+from ._journal import Entry, Journal
 from ._packed import read_packed, write_packed
 from ._refusals import (
     BoardNotValid,
     ByteNotAllowed,
     ConfigurationNotValid,
     FieldsDisagree,
+    JournalBroken,
     NoFreeSlot,
     NoRoom,
     NothingWaits,
@@ -65,12 +68,16 @@ __all__ = [
     "Configuration",
     "ConfigurationNotValid",
     "Decision",
+    "Entry",
     "Explanation",
     "Field",
     "FieldsDisagree",
     "Fix",
     "Flags",
     "Hours",
+    "JOURNAL_BYTES",
+    "Journal",
+    "JournalBroken",
     "KINDS",
     "LevelFlight",
     "LibraryError",

@@ -11,13 +11,15 @@ from pathlib import Path
 from typing import Dict, List, Optional, Tuple, Type, Union
 
 #: The version of eskelvor.h that this module is written for: the first number must be the library's, the second not above.
-HEADER_VERSION = (3, 2)
+HEADER_VERSION = (3, 3)
 SONAME = "libeskelvor.so.%d" % HEADER_VERSION[0]
 ENVIRONMENT = "ESKELVOR_LIBRARY"
 
 REPORT_BYTES = 220
 COMMAND_BYTES = 835
 BOARD_SLOTS = 64
+JOURNAL_BYTES = 65535
+JOURNAL_PRINTED = 76105
 
 #: What a text may be handed over as. A ``str`` is taken as its UTF-8 bytes, so that any at all gets an answer.
 Text = Union[bytes, bytearray, memoryview, str]
@@ -171,6 +173,18 @@ class Slot(ctypes.Structure):
     _fields_ = [("designator", _u8 * 6), ("length", _u16)]
 
 
+class RawEntry(ctypes.Structure):
+    _fields_ = [
+        ("place", _size),
+        ("offset", _size),
+        ("text", _size),
+        ("length", _u32),
+        ("code", _u8),
+        ("given", _u8),
+        ("spare", _u16),
+    ]
+
+
 #: Every record of the header by its name there.
 RECORDS: Dict[str, Type[ctypes.Structure]] = {
     "esk_answer": Answer,
@@ -196,6 +210,7 @@ RECORDS: Dict[str, Type[ctypes.Structure]] = {
     "esk_decided": Decided,
     "esk_explained": Explained,
     "esk_slot": Slot,
+    "esk_entry": RawEntry,
 }
 
 # ---- calls -------------------------------------------------------------------------------------------------------------
@@ -204,6 +219,7 @@ _bytes = ctypes.c_char_p  # lent for reading
 _room = ctypes.c_void_p  # lent for writing
 _settings = ctypes.POINTER(RawSettings)
 _slots = ctypes.c_void_p
+_journal = [ctypes.c_void_p, _size, _size]  # its memory, the bytes of that, and how many the journal is
 _asked = [_settings, _u8, _i32, _i32, _u8, _bytes, _size]
 
 #: Every call of the header: what it answers, and what it is lent.
@@ -225,6 +241,12 @@ CALLS: Dict[str, Tuple[object, List[object]]] = {
     "esk_board_check": (Answer, [_slots, _size, _room, _size]),
     "esk_board_add": (Answer, [_slots, _size, _room, _size, _bytes, _size, _bytes, _size]),
     "esk_board_take": (Answer, [_slots, _size, _room, _size, _bytes, _size, _room, _size]),
+    "esk_journal_check": (Answer, _journal),
+    "esk_journal_last": (RawEntry, _journal),
+    "esk_journal_add": (Answer, [*_journal, _bytes, _size, _bytes, _size]),
+    "esk_journal_drop": (Answer, [*_journal, _size]),
+    "esk_journal_print": (Answer, [*_journal, _room, _size]),
+    "esk_journal_replay": (Answer, [_settings, *_journal, _bytes, _size]),
     "esk_words": (ctypes.c_char_p, [ctypes.c_uint]),
     "esk_reason_words": (ctypes.c_char_p, [ctypes.c_uint]),
     "esk_version": (ctypes.c_char_p, []),
@@ -333,6 +355,11 @@ def u16(number: int) -> int:
 def i32(number: int) -> int:
     """Four bytes with a sign, likewise."""
     return within(operator.index(number), -(2 ** 31), 2 ** 31 - 1)
+
+
+def size(number: int) -> int:
+    """A number of bytes or of entries, likewise."""
+    return within(operator.index(number), 0, _size(-1).value)
 
 
 def name_bytes(name: Text, width: int) -> bytes:

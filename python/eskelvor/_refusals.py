@@ -43,7 +43,7 @@ class WrongLength(Refusal):
 
 
 class NoRoom(Refusal):
-    """2: too little room for the text. This module lends enough, so that it does not come up."""
+    """2: too little room for the entry in a journal. For a text this module lends enough, so that it does not come up."""
 
     code = 2
 
@@ -61,7 +61,7 @@ class ByteNotAllowed(Refusal):
 
 
 class OutOfRange(Refusal):
-    """5: a number outside its range."""
+    """5: a number outside its range, or more entries to be dropped than a journal has."""
 
     code = 5
 
@@ -108,6 +108,12 @@ class ConfigurationNotValid(Refusal):
     code = 12
 
 
+class JournalBroken(Refusal):
+    """14: the journal is broken, at the trailer where reading it from its end first fails, or at 0. There is no 13."""
+
+    code = 14
+
+
 BY_CODE: Dict[int, Type[Refusal]] = {
     kind.code: kind
     for kind in (
@@ -123,6 +129,7 @@ BY_CODE: Dict[int, Type[Refusal]] = {
         BoardNotValid,
         NothingWaits,
         ConfigurationNotValid,
+        JournalBroken,
     )
 }
 

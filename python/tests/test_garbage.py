@@ -6,7 +6,7 @@ import random
 from typing import Callable, Dict, List
 
 import eskelvor
-from eskelvor import _commands, _configuration, _packed
+from eskelvor import _commands, _configuration, _journal, _packed
 from known import BOTH, FIRST, FULL, LONGEST, PRINTED, SECOND, Case
 
 
@@ -80,9 +80,10 @@ class Garbage(Case):
 
     def test_words(self) -> None:
         kinds = {kind.code: kind for kind in eskelvor.Refusal.__subclasses__()}
-        self.assertEqual(sorted(kinds), list(range(1, 13)))
-        self.assertEqual(len({eskelvor.words_of(code) for code in range(13)}), 13)
-        for code in (13, 255, 256, 2 ** 32, -1):
+        self.assertEqual(sorted(kinds), [*range(1, 13), 14])
+        self.assertEqual(len({eskelvor.words_of(code) for code in (0, *kinds)}), 14)
+        self.assertEqual(eskelvor.words_of(14), "the journal is broken")
+        for code in (13, 15, 255, 256, 2 ** 32, -1):
             self.assertEqual(eskelvor.words_of(code), "an unknown code")
 
     def test_a_refusal_can_be_handed_on(self) -> None:
@@ -95,8 +96,8 @@ class Garbage(Case):
 
     def test_the_examples_of_the_docstrings(self) -> None:
         tried = 0
-        for module in (eskelvor, _commands, _configuration, _packed):
+        for module in (eskelvor, _commands, _configuration, _journal, _packed):
             result = doctest.testmod(module, extraglobs={"eskelvor": eskelvor})
             self.assertEqual(result.failed, 0, module)
             tried += result.attempted
-        self.assertGreaterEqual(tried, 6)
+        self.assertGreaterEqual(tried, 9)

@@ -4,7 +4,7 @@ import re
 from typing import List, NamedTuple, Optional, Tuple
 
 import eskelvor
-from known import FIVE, FULL, ROOT, Case, head
+from known import FIVE, FULL, LONGEST, ROOT, Case, head
 
 HEADER = (ROOT / "host" / "eskelvor.h").read_text(encoding="ascii")
 
@@ -229,3 +229,68 @@ class Command(Case):
         assert total is not None
         self.assertEqual(sum(int(one) for one in total.group(1).split("+")), int(total.group(2)))
         self.assertEqual(int(total.group(2)), eskelvor.COMMAND_BYTES)
+
+
+class Journal(Case):
+    LINES = comment("The journal holds the commands that were taken", "#define ESK_JOURNAL_BYTES")
+
+    def rows(self) -> List[Tuple[int, int, str]]:
+        """The parts of an entry: least and most bytes, and what is said."""
+        found = []
+        for line in self.LINES:
+            row = re.match(r"^  (\d+)(?: to (\d+))? +(\S.*)$", line)
+            if row:
+                found.append((int(row.group(1)), int(row.group(2) or row.group(1)), row.group(3)))
+        self.assertEqual(len(found), 4)
+        return found
+
+    def entry(self, text: bytes) -> bytes:
+        """An entry, part by part as the rows have it."""
+        designator, said, length, letter = self.rows()
+        self.assertTrue(said[0] <= len(text) <= said[1])
+        self.assertIn("the high byte first", length[2])
+        name = re.findall(r"'(.)' to '(.)'", designator[2])
+        last = re.match(r"'(.)'", letter[2])
+        assert last is not None
+        spelt = "".join(one for pair in name for one in pair).ljust(designator[0], name[0][0])
+        return spelt.encode() + text + len(text).to_bytes(length[0], "big") + last.group(1).encode()
+
+    def test_the_parts_are_an_entry(self) -> None:
+        for text, at in ((eskelvor.NO_CHANGE, 0), (LONGEST, 1)):
+            entry = self.entry(text)
+            self.assertEqual(len(entry), sum(row[at] for row in self.rows()))
+            journal = eskelvor.Journal.load(entry)
+            self.assertEqual([one.text for one in journal.entries()], [text])
+            again = eskelvor.Journal(room=len(entry))
+            self.assertEqual(again.add(entry[: self.rows()[0][0]], text), len(entry))
+            self.assertEqual(bytes(again), entry)
+
+    def test_every_part_stands_where_it_is_said(self) -> None:
+        """A byte that nothing allows, at the first byte of each part, breaks the journal at the trailer."""
+        entry = self.entry(eskelvor.NO_CHANGE)
+        trailer = len(entry) - sum(row[0] for row in self.rows()[2:])
+        at = 0
+        for least, _, _ in self.rows():
+            for before in (b"", entry):
+                spoilt = before + entry[:at] + b"\x7f" + entry[at + 1 :]
+                self.refused(14, len(before) + trailer, lambda: eskelvor.Journal.load(spoilt))
+                self.refused(14, trailer, lambda: eskelvor.Journal.load(spoilt[len(before) :] + before))
+            at += least
+
+    def test_the_letters_of_a_designator(self) -> None:
+        pairs = re.findall(r"'(.)' to '(.)'", self.rows()[0][2])
+        allowed = {byte for first, last in pairs for byte in range(ord(first), ord(last) + 1)}
+        self.assertEqual(len(allowed), 36)
+        entry = self.entry(eskelvor.NO_CHANGE)
+        for byte in range(256):
+            data = entry[:5] + bytes([byte]) + entry[6:]
+            if byte in allowed:
+                self.assertEqual(eskelvor.Journal.load(data).printed()[2:8], data[:6])
+            else:
+                self.refused(14, 28, lambda: eskelvor.Journal.load(data))
+                self.refused(4, 0, lambda: eskelvor.Journal().add(data[:6], eskelvor.NO_CHANGE))
+
+    def test_the_most(self) -> None:
+        said = re.search(r"`end`\s+is above (\d+), or above `room`", "\n".join(self.LINES))
+        assert said is not None
+        self.assertEqual(int(said.group(1)), eskelvor.JOURNAL_BYTES)

@@ -85,6 +85,8 @@ class Layout(Case):
         self.assertEqual(int(numbers["ESK_REPORT_BYTES"]), eskelvor.REPORT_BYTES)
         self.assertEqual(int(numbers["ESK_COMMAND_BYTES"]), eskelvor.COMMAND_BYTES)
         self.assertEqual(int(numbers["ESK_BOARD_SLOTS"]), eskelvor.BOARD_SLOTS)
+        self.assertEqual(int(numbers["ESK_JOURNAL_BYTES"]), eskelvor.JOURNAL_BYTES)
+        self.assertEqual(int(numbers["ESK_JOURNAL_PRINTED"]), _library.JOURNAL_PRINTED)
         enums = {name: int(number) for name, number in re.findall(r"(ESK_\w+) = (\d+)", plain_header())}
         self.assertEqual({enums["ESK_" + one.name] for one in eskelvor.Phase}, {0, 1, 2})
         for one in (*eskelvor.Phase, *eskelvor.Decision):
@@ -95,6 +97,28 @@ class Layout(Case):
         version = re.search(r'#define ESK_VERSION "(.*)"', plain_header())
         assert version is not None
         self.assertEqual(eskelvor.library_version, version.group(1))
+
+    def test_codes(self) -> None:
+        """Every code that the header lists has its class, and there is no other."""
+        listed = plain_header()
+        listed = listed[listed.index("ESK_ACCEPTED") : listed.index("typedef struct esk_answer")]
+        codes = {int(number) for _, number in re.findall(r"(ESK_\w+) = (\d+)", listed)}
+        self.assertEqual(codes - {0}, {kind.code for kind in eskelvor.Refusal.__subclasses__()})
+        self.assertEqual(dict(re.findall(r"(ESK_\w+) = (\d+)", listed))["ESK_JOURNAL"], str(eskelvor.JournalBroken.code))
+
+    def test_an_entry_comes_back_whole(self) -> None:
+        """The one record of 32 bytes that a call answers: every member where it belongs, the spare ones 0."""
+        journal = eskelvor.Journal(bytearray(100))
+        cases = [(0, 0, 0, 0, 0, 0), (0, 0, 6, 22, 0, 1), (0, 31, 37, 26, 0, 1)]
+        for text, want in zip((b"", eskelvor.NO_CHANGE, b"AWR049999999000400000/601/"), cases):
+            if text:
+                journal.add("XY0001", text)
+            found = _library.lib.esk_journal_last(*journal._lent())
+            members = (found.place, found.offset, found.text, found.length, found.code, found.given)
+            self.assertEqual((members, found.spare), (want, 0))
+        found = _library.lib.esk_journal_last(*eskelvor.Journal(bytearray(100), 50)._lent())
+        members = (found.place, found.offset, found.text, found.length, found.code, found.given)
+        self.assertEqual((members, found.spare), ((47, 0, 0, 0, 14, 0), 0))
 
     def test_the_source_is_for_python_3_9(self) -> None:
         files = [*(ROOT / "python").rglob("*.py"), ROOT / "examples" / "coldest.py"]

@@ -1,5 +1,6 @@
 """Where the library is looked for, and which ones are refused."""
 
+import ctypes
 import os
 import shutil
 import subprocess
@@ -18,6 +19,14 @@ STUB = """
 #include <string.h>
 const char *esk_version(void) { return "%s"; }
 size_t esk_size_of(const char *name) { return strcmp(name, "esk_answer") == 0 ? %d : 0; }
+"""
+# Every record but the last as this module has it.
+SIZES = """
+#include <stddef.h>
+#include <string.h>
+#define ONE(name, size) if (strcmp(record, name) == 0) return size;
+const char *esk_version(void) { return "3.3.0"; }
+size_t esk_size_of(const char *record) { %s return %d; }
 """
 
 
@@ -103,25 +112,35 @@ class Refusing(Case):
         skip = ("esk_version", "esk_size_of")
         return "".join("void %s(void) {}\n" % call for call in _library.CALLS if call not in skip)
 
+    def sizes(self, but: str) -> str:
+        records = _library.RECORDS.items()
+        return " ".join('ONE("%s", %d)' % (name, ctypes.sizeof(one)) for name, one in records if name != but)
+
     def test_versions(self) -> None:
         versions: Dict[str, str] = {
-            "older": "3.1.9", "newer": "4.0.0", "oldest": "2.9.0", "none": "", "words": "three", "short": "3",
+            "older": "3.2.9", "before": "3.1.9", "newer": "4.0.0", "oldest": "2.9.0", "none": "", "words": "three", "short": "3",
         }
         for name, version in versions.items():
             library = self.built(name, STUB % (version, 16) + self.calls())
-            self.refuses("is version %s; this module is for 3.2" % version, library)
+            self.refuses("is version %s; this module is for 3.3" % version, library)
 
     def test_without_a_version(self) -> None:
         self.refuses("has no esk_version", self.built("before", "int esk_apply;"))
 
     def test_without_a_call(self) -> None:
-        self.refuses("has no esk_packed_read", self.built("calls", STUB % ("3.2.0", 16)))
+        self.refuses("has no esk_packed_read", self.built("calls", STUB % ("3.3.0", 16)))
+        for call in (name for name in _library.CALLS if name.startswith("esk_journal_")):
+            others = self.calls().replace("void %s(void) {}\n" % call, "")
+            self.refuses("has no " + call, self.built(call, STUB % ("3.3.0", 16) + others))
 
     def test_other_sizes(self) -> None:
         first = self.built("first", STUB % ("3.9.1", 24) + self.calls())
         self.refuses("esk_answer has 24 bytes there and 16 here", first)
-        second = self.built("second", STUB % ("3.2.0", 16) + self.calls())
+        second = self.built("second", STUB % ("3.3.0", 16) + self.calls())
         self.refuses("esk_figure has 0 bytes there and 8 here", second)
+        for size in (0, 24, 40):
+            third = self.built("third%d" % size, SIZES % (self.sizes("esk_entry"), size) + self.calls())
+            self.refuses("esk_entry has %d bytes there and 32 here" % size, third)
 
     def test_the_sound_one_passes(self) -> None:
         self.assertEqual(_library.load(str(LIBRARY))[1], _library.library_version)
