@@ -19,24 +19,6 @@
  */
 #include "answer.h"
 
-#if !defined ESK_JOURNAL_CALLS && !defined ESK_JOURNAL_BYTES /* as long as eskelvor.h has none of these */
-#define ESK_JOURNAL_CALLS
-typedef struct esk_entry {
-    size_t place, offset, text;
-    uint32_t length;
-    uint8_t code, given;
-    uint16_t spare;
-} esk_entry;
-esk_answer esk_journal_check(const uint8_t *journal, size_t room, size_t end);
-esk_entry esk_journal_last(const uint8_t *journal, size_t room, size_t end);
-esk_answer esk_journal_add(uint8_t *journal, size_t room, size_t end, const uint8_t *designator,
-                           size_t designator_length, const uint8_t *text, size_t length);
-esk_answer esk_journal_drop(const uint8_t *journal, size_t room, size_t end, size_t count);
-esk_answer esk_journal_print(const uint8_t *journal, size_t room, size_t end, uint8_t *out, size_t out_room);
-esk_answer esk_journal_replay(esk_settings *settings, const uint8_t *journal, size_t room, size_t end,
-                              const uint8_t *designator, size_t designator_length);
-#endif
-
 /* What is lent, with its guards, and what it was before the event. */
 typedef struct block {
     uint8_t *bytes, *was;
