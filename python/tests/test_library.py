@@ -118,7 +118,8 @@ class Refusing(Case):
 
     def test_versions(self) -> None:
         versions: Dict[str, str] = {
-            "older": "3.2.9", "before": "3.1.9", "newer": "4.0.0", "oldest": "2.9.0", "none": "", "words": "three", "short": "3",
+            "older": "3.2.9", "before": "3.1.9", "newer": "4.0.0", "oldest": "2.9.0", "none": "", "words": "three",
+            "short": "3",
         }
         for name, version in versions.items():
             library = self.built(name, STUB % (version, 16) + self.calls())
