@@ -25,7 +25,8 @@ class Journal:
     Without memory it has some of its own, ``room`` bytes, at most 65,535 of which it can fill. No bytes are the empty
     journal. Nothing is kept but the memory and the length, so the bytes may be stored and lent again; as long as the journal
     lives the number of the memory's bytes cannot change. Every call checks the whole journal first, and raises
-    ``JournalBroken`` where it is none; a refusal changes no byte. Threads may share a journal, but not two journals' memory.
+    ``JournalBroken`` where it is none; a refusal changes no byte. Threads may share a journal; two journals over the same
+    memory do not know of each other's lengths.
 
     >>> journal = Journal()
     >>> journal.add("XY0001", "AWR049999999000000000/")
