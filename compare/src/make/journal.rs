@@ -71,6 +71,7 @@ const FIT: std::ops::RangeInclusive<usize> = 36..=350;
 
 /// A text of exactly so many bytes: section 3 with as many airfields as fit, and section 6 or 9 or both for the rest.
 pub fn text_of(random: &mut Random, length: usize) -> Vec<u8> {
+    assert!(FIT.contains(&length));
     let rest = length - 32;
     let (bytes, bits) = [(0, 0), (5, 0x80), (2, 0x10), (7, 0x90)][rest % 4];
     let mut command = uplink::command_of(random, 0x02 | bits, Lists::Full);

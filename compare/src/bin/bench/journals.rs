@@ -1,4 +1,4 @@
-//! Rows of the journal: 65,535 bytes of typical commands for several aircraft, and of the shortest entries.
+//! Rows of the journal: up to 65,535 bytes of typical commands for several aircraft, and of the shortest entries.
 
 use crate::linked::uplink as linked;
 use crate::measure::{best, pass, Bench};
@@ -50,8 +50,8 @@ fn second_replay(settings: &mut Configuration, buffer: &[u8], end: usize, of: &[
 fn checks(journal: &[u8]) -> [f64; 2] {
     let calls = [(); CALLS];
     best(
-        || pass(&calls, |()| linked::journal_check(black_box(journal), BYTES)),
-        || pass(&calls, |()| second_check(black_box(journal), BYTES)),
+        || pass(&calls, |()| linked::journal_check(black_box(journal), journal.len())),
+        || pass(&calls, |()| second_check(black_box(journal), journal.len())),
     )
 }
 
@@ -107,9 +107,12 @@ pub fn rows(bench: &Bench) {
     let shortest = filled(&mut random, BYTES, FLEET, |_| NO_CHANGE.to_vec());
     let newest = many.starts[many.starts.len() - 1];
     let added = many.bytes[newest + 6..BYTES - 3].to_vec();
-    for (name, of) in [("typical", &many), ("shortest entries", &shortest)] {
-        bench.row(&format!("journal check, 64 KB, {name}"), CALLS, Some(BYTES), || checks(&of.bytes));
+    for (name, bytes) in [("1 KB", 1 << 10), ("4 KB", 1 << 12), ("16 KB", 1 << 14)] {
+        let part = filled(&mut random, bytes, FLEET, typical);
+        bench.row(&format!("journal check, {name}"), CALLS, Some(bytes), || checks(&part.bytes));
     }
+    bench.row("journal check, 64 KB", CALLS, Some(BYTES), || checks(&many.bytes));
+    bench.row("journal check, 64 KB, shortest entries", CALLS, Some(BYTES), || checks(&shortest.bytes));
     bench.row("journal replay, 64 KB, one of 8 aircraft", CALLS, Some(BYTES), || replays(&many.bytes));
     bench.row("journal add, 64 KB", CALLS, Some(BYTES), || adds(&many.bytes, &added));
     bench.row("journal drop of half, 64 KB", CALLS, Some(BYTES), || drops(&many.bytes, many.starts.len() / 2));

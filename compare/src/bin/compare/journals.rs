@@ -1,4 +1,4 @@
-//! Families of journals: sound ones, every byte and every length of small ones made another, and journals at their limits.
+//! Families of journals: sound ones, small ones with every byte and every length made another, and those at the limits.
 
 use crate::queue;
 use crate::run::{Done, Run};
@@ -261,7 +261,7 @@ fn damaged(random: &mut Random, queue: &mut Queue) -> Done {
 }
 
 fn limit(random: &mut Random, queue: &mut Queue) -> Done {
-    let length = 36 + random.below(300);
+    let length = 36 + random.below(280);
     let text = text_of(random, length);
     let under = random.of(&[0_usize, 0, 1, 2, 30]);
     let of = filled(random, BYTES - length - ROUND - under, 4, taken);

@@ -9,8 +9,8 @@ use desk_compare::second::journal::print;
 /// How the journals stand in their buffers: so many bytes behind them, beyond them, or near 65,535.
 const STANDS: [u8; 12] = [0, 31, 250, 100, 0, 251, 252, 253, 254, 255, 40, 250];
 
-/// None, the printed one, and others; the last two have a fault: a wrong letter in the newest trailer, a designator that
-/// is none in an older entry. The one of 63 bytes leaves room for exactly one entry of 31 near 65,535.
+/// None, the printed one, and others; the last two have a fault: a wrong letter in the newest trailer, a designator
+/// that is none in an older entry. The one of 63 bytes leaves room for exactly one entry of 31 near 65,535.
 fn bytes(random: &mut Random, index: usize) -> Vec<u8> {
     let mut of = match index {
         0 | 1 | 9 => Journal::default(),
