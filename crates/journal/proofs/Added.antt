@@ -1,25 +1,23 @@
 -- An entry written behind a journal's: the new journal has the old entries and that one.
-use mathlib.Core.Path.{_≡_, refl, sym, ap, _∙_}
-use mathlib.Core.Bool.{true, false, _&&_}
+use mathlib.Core.Path.{_≡_, refl, sym, _∙_}
+use mathlib.Core.Bool.{true}
 use mathlib.Core.List.{List, [], _∷_, _++_}
 use Prim.Native.Nat.{ℕ, _+_, _≤_}
 use native.Mathlib.Omega.{arith}
 use lib.Dec.{leb, eqb}
-use lib.ListN.{length, take}
+use lib.ListN.{length}
 use lib.Seq.{take-add}
 use borrow.Author.Tests.{leb-true, le-leb, eqb-true}
-use Rattle.text.specs.Checks.{must, _andThen_, isFine}
+use Rattle.text.specs.Checks.{must, _andThen_}
 use Rattle.text.specs.Names.{allAllowed, isDesignator}
 use Rattle.text.specs.Over.{over}
-use Rattle.text.specs.declared.Seen.{Seen}
-use Rattle.text.specs.declared.Seen.the-variants.{Fine, Bad}
+use Rattle.text.specs.declared.Seen.the-variants.{Fine}
 use Rattle.text.proofs.Cases.{both-left, both-right}
 use Rattle.text.proofs.Checks.{bad-fine, must-held, both-fine}
 use Rattle.text.proofs.Over.{length-over, before-over, found-over}
 use Rattle.command.specs.Text.{checkCommand}
-use Rattle.journal.specs.Journal.{Entry, entryBytes, isEntry, allEntries, most, IsJournal, Read, Sound, Broken, entriesIn}
-use Rattle.journal.specs.Calls.{seenOf, checkJournal, taken, newEnd, fitsIn, addSeen, added, addedOver}
-use Rattle.journal.specs.declared.Told.the-variants.{Length}
+use Rattle.journal.specs.Journal.{Entry, entryBytes, isEntry, most, IsJournal, Read, Sound, Broken, entriesIn}
+use Rattle.journal.specs.Calls.{seenOf, checkJournal, taken, newEnd, fitsIn, addSeen, addedOver}
 use Rattle.journal.proofs.Bytes.{journal-more, entries-more, bytes-length}
 use Rattle.journal.proofs.Entries.{reads, read-is}
 

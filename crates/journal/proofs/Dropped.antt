@@ -15,7 +15,7 @@ use Rattle.journal.specs.Calls.{without, dropTold, dropped, replay, repl
 use Rattle.journal.specs.Inner.{keptAt, keptTold}
 use Rattle.journal.specs.declared.Kept.{Kept}
 use Rattle.journal.specs.declared.Told.the-variants.{Length, Refused}
-use Rattle.journal.proofs.Bytes.{from-end, journal-append, journal-more, entries-append}
+use Rattle.journal.proofs.Bytes.{from-end, journal-append, entries-append}
 use Rattle.journal.proofs.Entries.{gathers, reads, read-is, broken-walk}
 
 -- the first of a journal's entries are the journal of their bytes

@@ -1,14 +1,14 @@
 -- A journal is sound just where its bytes are those of entries one behind the other; these are then what every walk gathers from.
 use mathlib.Core.Path.{_≡_, refl, sym, ap, subst, _∙_}
 use mathlib.Core.Logic.{_↔_}
-use mathlib.Core.Bool.{Bool, true, _&&_}
+use mathlib.Core.Bool.{true, _&&_}
 use mathlib.Core.List.{List, [], _∷_, _++_, append-assoc, append-nil}
-use Prim.Native.Nat.{ℕ, zero, suc, _+_, _-_, _≤_, _<_}
+use Prim.Native.Nat.{ℕ, zero, suc, _+_}
 use native.Mathlib.Omega.{arith}
-use lib.ListN.{length, take, length-append}
-use lib.Seq.{length-take-le, take-all}
+use lib.ListN.{length, take}
+use lib.Seq.{length-take-le}
 use Rattle.text.proofs.Cases.{both-left, both-right}
-use Rattle.journal.specs.Journal.{Entry, entryBytes, journalBytes, isEntry, allEntries, most, IsJournal, entryAt, lastEntry, Read, Sound, Broken, onLast, walkBack, walk, entriesIn}
+use Rattle.journal.specs.Journal.{Entry, entryBytes, journalBytes, isEntry, allEntries, IsJournal, entryAt, lastEntry, Sound, Broken, onLast, walkBack, walk, entriesIn}
 use Rattle.journal.specs.declared.Last.{Last}
 use Rattle.journal.specs.declared.Last.the-variants.{Nothing, Starts, Fails}
 use Rattle.journal.proofs.Ends.{starts, finds, nothing, nothing-there}

@@ -4,6 +4,7 @@ pub mod Bytes
 pub mod Dropped
 pub mod Ends
 pub mod Entries
+pub mod Fails
 pub mod Lines
 pub mod Replays
 pub mod Short

@@ -1,7 +1,7 @@
 -- The lengths that are answered are small: of a journal at most 65,535, of what is printed at most twice that.
 use mathlib.Core.Path.{_≡_, refl, sym, ap, _∙_}
 use mathlib.Core.Bool.{true}
-use mathlib.Core.List.{List, [], _∷_, _++_}
+use mathlib.Core.List.{List, [], _∷_}
 use Prim.Native.Nat.{ℕ, _+_, _-_, _*_, _≤_}
 use native.Mathlib.Omega.{arith}
 use lib.Dec.{leb, ltb}
@@ -13,11 +13,10 @@ use Rattle.text.specs.declared.Seen.{Seen}
 use Rattle.text.specs.declared.Seen.the-variants.{Fine, Bad}
 use Rattle.text.proofs.Cases.{by-test, both-left, both-right}
 use Rattle.text.proofs.Checks.{must-held}
-use Rattle.journal.specs.Journal.{Entry, entryBytes, journalBytes, isEntry, allEntries, most, IsJournal, Read, Sound, Broken, entriesIn}
+use Rattle.journal.specs.Journal.{Entry, entryBytes, journalBytes, isEntry, allEntries, most, Read, Sound, Broken, entriesIn}
 use Rattle.journal.specs.Calls.{seenOf, told, taken, newEnd, addSeen, added, without, dropTold, dropped}
 use Rattle.journal.specs.Printed.{digitsOf, line, printed, printedIn, printSeen, printTold}
-use Rattle.journal.specs.declared.Told.{Told}
-use Rattle.journal.specs.declared.Told.the-variants.{Length, Refused}
+use Rattle.journal.specs.declared.Told.the-variants.{Length}
 use Rattle.journal.proofs.Added.{accepted}
 use Rattle.journal.proofs.Bytes.{entry-who, bytes-length}
 use Rattle.journal.proofs.Dropped.{first-entries}

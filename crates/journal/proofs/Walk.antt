@@ -1,10 +1,9 @@
 -- The walk from the end of a journal: one step at a time, whatever it gathers.
-use mathlib.Core.Path.{_≡_, refl, sym, ap, _∙_}
-use mathlib.Core.List.{List, [], _∷_}
-use Prim.Native.Nat.{ℕ, zero, suc, _+_, _≤_, _<_}
+use mathlib.Core.Path.{_≡_, refl}
+use mathlib.Core.List.{List}
+use Prim.Native.Nat.{ℕ, zero, suc, _<_}
 use native.Mathlib.Omega.{arith}
-use lib.ListN.{length}
-use Rattle.journal.specs.Journal.{lastEntry, Read, Sound, Broken, onLast, walkBack, walk}
+use Rattle.journal.specs.Journal.{lastEntry, Sound, Broken, onLast, walkBack, walk}
 use Rattle.journal.specs.declared.Last.{Last}
 use Rattle.journal.specs.declared.Last.the-variants.{Nothing, Starts, Fails}
 use Rattle.journal.proofs.Ends.{starts}

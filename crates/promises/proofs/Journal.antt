@@ -1,35 +1,34 @@
 -- Document 02, §8, as specs/Journal says it.
 use mathlib.Core.Path.{_≡_, refl, sym, ap, subst, _∙_}
 use mathlib.Core.Logic.{_↔_, inl, inr}
-use mathlib.Core.Bool.{true}
-use mathlib.Core.List.{List, [], _∷_, _++_, append-assoc, foldl}
+use mathlib.Core.List.{List, [], _∷_, _++_, foldl}
 use Prim.Native.Nat.{ℕ, _+_, _-_, _≤_, _<_}
 use native.Mathlib.Omega.{arith}
 use native.Mathlib.Nat.{zero-add}
 use lib.ListN.{length, take, drop}
 use borrow.Author.Tests.{le-leb, lt-leb}
-use Rattle.text.specs.Checks.{must, _andThen_, isFine}
-use Rattle.text.specs.Names.{isDesignator}
+use Rattle.text.specs.Checks.{must, _andThen_}
 use Rattle.text.specs.Over.{over}
 use Rattle.text.specs.Parts.{part}
 use Rattle.text.specs.declared.Seen.{Seen}
 use Rattle.text.specs.declared.Seen.the-variants.{Fine, Bad}
-use Rattle.text.proofs.Cases.{by-eq, by-le, both-left, both-right}
+use Rattle.text.proofs.Cases.{by-eq, by-le}
 use Rattle.text.proofs.Over.{before-over, found-over, after-over}
 use Rattle.settings.specs.Valid.{reset}
 use Rattle.settings.specs.declared.Settings.{Settings}
 use Rattle.command.specs.Text.{checkCommand}
 use Rattle.config.specs.Config.{applyTo}
 use Rattle.decide.proofs.Tests.{says-no}
-use Rattle.journal.specs.Journal.{Entry, entryBytes, journalBytes, isEntry, allEntries, most, IsJournal, entryAt, lastEntry, Read, Sound, Broken, entriesIn}
+use Rattle.journal.specs.Journal.{Entry, entryBytes, journalBytes, most, entryAt, lastEntry, Read, Sound, Broken, entriesIn}
 use Rattle.journal.specs.Calls.{seenOf, told, checkJournal, taken, newEnd, fitsIn, addSeen, added, leftBy, addedOver, dropped, textsFor, replay, replayed}
-use Rattle.journal.specs.Printed.{line, printed, printSeen, printTold, printedOver}
+use Rattle.journal.specs.Printed.{printed, printSeen, printTold, printedOver}
 use Rattle.journal.specs.declared.Last.{Last}
 use Rattle.journal.specs.declared.Last.the-variants.{Nothing, Starts, Fails}
 use Rattle.journal.proofs.Ends.{starts, finds, nothing, nothing-there}
 use Rattle.journal.proofs.Bytes.{found-bytes, stands-ends}
-use Rattle.journal.proofs.Entries.{reads, read-is, newest, none-left}
-use Rattle.journal.proofs.Unique.{unique, Why, Limits, Trailer, why, broken-where, stopped-broken, starts-fails, nothing-fails}
+use Rattle.journal.proofs.Entries.{read-is, newest, none-left}
+use Rattle.journal.proofs.Unique.{unique}
+use Rattle.journal.proofs.Fails.{Why, Limits, Trailer, why, broken-where, stopped-broken, starts-fails, nothing-fails}
 use Rattle.journal.proofs.Added.{new-end, one-written, add-fine}
 use Rattle.journal.proofs.Dropped.{first-entries, alone, drop-refused}
 use Rattle.journal.proofs.Lines.{digits-hold, no-leading-zero}
@@ -38,63 +37,9 @@ use Rattle.desk.specs.Numbers.{accepted, answerOf, checkNumbers}
 use Rattle.desk.specs.Journal.{journalNumbers}
 use Rattle.promises.specs.BoardRuns.{IsAccepted, SixAllowed}
 use Rattle.promises.specs.Journal.{checkAnswer, lastAnswer, addAnswer, dropAnswer, replayAnswer, settingsAfter, printAnswer, FailsAt, AddedTo, DroppedTo, PrintedTo, JournalPromises}
-use Rattle.promises.specs.JournalBytes.{bytesOf, allBytes, SoundEntry, AllSound, JournalOf, lineOf, linesFrom}
-use Rattle.promises.proofs.Codes.{designator-said, accepted-said, accepted-fine}
-
--- ---- The document's words against the definitions
-
-sound-entry : (e : Entry) → isEntry e ≡ true → SoundEntry e
-unfolding isEntry
-sound-entry e h =
-    record {
-      who = designator-said (e .who) .yes-so (both-left (isDesignator (e .who)) (isFine (checkCommand (e .text))) h);
-      text = accepted-said (e .text) .yes-so (both-right (isDesignator (e .who)) (isFine (checkCommand (e .text))) h);
-    }
-
-entry-sound : (e : Entry) → SoundEntry e → isEntry e ≡ true
-unfolding isEntry
-entry-sound e x = rw (designator-said (e .who) .so-yes (x .who), accepted-said (e .text) .so-yes (x .text))
-
-all-sound : (es : List Entry) → allEntries es ≡ true → AllSound es
-unfolding allEntries
-all-sound [] h = tt
-all-sound (e ∷ es) h =
-    (sound-entry e (both-left (isEntry e) (allEntries es) h), all-sound es (both-right (isEntry e) (allEntries es) h))
-
-sound-all : (es : List Entry) → AllSound es → allEntries es ≡ true
-unfolding allEntries
-sound-all [] x = refl
-sound-all (e ∷ es) x = rw (entry-sound e (x .0)) (sound-all es (x .1))
-
-entry-same : (e : Entry) → bytesOf e ≡ entryBytes e
-unfolding entryBytes
-entry-same e = refl
-
-bytes-same : (es : List Entry) → allBytes es ≡ journalBytes es
-unfolding allBytes journalBytes
-bytes-same [] = refl
-bytes-same (e ∷ es) = rw (entry-same e, bytes-same es)
-
-journal-of : (s : List ℕ) (end : ℕ) (es : List Entry) → IsJournal s end es → JournalOf s end es
-journal-of s end es j =
-    record { few = j .few; inside = j .inside; same = j .bytes ∙ sym (bytes-same es); sound = all-sound es (j .entries) }
-
-is-journal : (s : List ℕ) (end : ℕ) (es : List Entry) → JournalOf s end es → IsJournal s end es
-is-journal s end es j =
-    record { few = j .few; inside = j .inside; bytes = j .same ∙ bytes-same es; entries = sound-all es (j .sound) }
-
-reads-of : (s : List ℕ) (end : ℕ) (es : List Entry) → JournalOf s end es → entriesIn s end ≡ Sound es
-reads-of s end es j = reads s end es (is-journal s end es j)
-
--- a line in three words
-line-same : (at : ℕ) (e : Entry) → lineOf at e ≡ line at e
-unfolding line
-line-same at e = simp append-assoc
-
-lines-same : (at : ℕ) (es : List Entry) → linesFrom at es ≡ printed at es
-unfolding linesFrom printed
-lines-same at [] = refl
-lines-same at (e ∷ es) = rw (entry-same e, line-same at e, lines-same (at + length (entryBytes e)) es)
+use Rattle.promises.specs.JournalBytes.{bytesOf, allBytes, SoundEntry, AllSound, JournalOf, linesFrom}
+use Rattle.promises.proofs.Codes.{designator-said, accepted-fine}
+use Rattle.promises.proofs.JournalBytes.{sound-entry, entry-sound, all-sound, sound-all, entry-same, bytes-same, journal-of, is-journal, reads-of, lines-same}
 
 -- ---- Checking
 

@@ -10,6 +10,7 @@ pub mod Explain
 mod InRun
 pub mod Join
 pub mod Journal
+mod JournalBytes
 pub mod Packed
 pub mod Report
 mod Sections

@@ -5,10 +5,11 @@ use Prim.Native.Nat.{ℕ, _+_, _-_, _*_, _≤_}
 use native.Mathlib.Omega.{arith}
 use denote.Ref.{now}
 use lib.ListN.{length}
-use Rattle.journal.specs.Journal.{entryAt, walk}
+use Rattle.journal.specs.Journal.{entryAt, lastEntry, walk}
 use Rattle.journal.specs.Printed.{line}
+use Rattle.journal.specs.declared.Last.the-variants.{Starts}
 use Rattle.journal.specs.Inner.{withSize}
-use Rattle.journal.proofs.Ends.{starts}
+use Rattle.journal.proofs.Ends.{Ends, starts}
 use Rattle.journal.proofs.Walk.{walk-starts, walk-nothing, walk-fails}
 use Rattle.journal.proofs.Lines.{found-line}
 use Rattle.journal.proofs.print.printed_size.Statement.{statement}
@@ -20,6 +21,15 @@ Inv-loop journal end here₀ size₀ here size =
 
 abbrev μ-loop : tie.MeasureT-loop
 μ-loop journal end here₀ size₀ here size = here
+
+-- an entry that the step found
+found : (c : tie.After-known-told2 Inv-loop μ-loop)
+    → lastEntry (now (c .before .before .before .before .before .before .args .journal)) (c .before .before .before .before .loop .here) ≡ Starts (c .before .at .given .0 .0) (c .before .at .given .0 .1 .0)
+found c = sym (c .before .before .before .last .ensures) ∙ c .before .at .given .1
+
+there : (c : tie.After-known-told2 Inv-loop μ-loop)
+    → Ends (now (c .before .before .before .before .before .before .args .journal)) (c .before .before .before .before .loop .here) (c .before .at .given .0 .0) (c .before .at .given .0 .1 .0)
+there c = starts _ _ _ _ (found c)
 
 loop-holds : tie.Need-loop-holds Inv-loop μ-loop
 loop-holds c = (omega arith, refl)
@@ -50,42 +60,27 @@ digits-of-requires : tie.Need-digits-of-requires Inv-loop μ-loop
 digits-of-requires c κs = search needs
 
 add-size : tie.Need-add-size Inv-loop μ-loop
-add-size c =
-    let l = c .before .before .before .before .before .loop in
-    let h = starts _ (l .here) _ _ (sym (c .before .before .before .before .last .ensures) ∙ c .before .before .at .given .1) in
-    omega (arith, l .inv .0, h .whole, h .few, c .digits-of .ensures .1)
+add-size c = let h = there (c .before) in omega (arith, c .before .before .before .before .before .loop .inv .0, h .whole, h .few, c .digits-of .ensures .1)
 
 add-size-2 : tie.Need-add-size-2 Inv-loop μ-loop
-add-size-2 c =
-    let l = c .before .before .before .before .before .loop in
-    let h = starts _ (l .here) _ _ (sym (c .before .before .before .before .last .ensures) ∙ c .before .before .at .given .1) in
-    omega (arith, l .inv .0, h .whole, h .few, c .digits-of .ensures .1)
+add-size-2 c = let h = there (c .before) in omega (arith, c .before .before .before .before .before .loop .inv .0, h .whole, h .few, c .digits-of .ensures .1)
 
 add-size-3 : tie.Need-add-size-3 Inv-loop μ-loop
-add-size-3 c =
-    let l = c .before .before .before .before .before .loop in
-    let h = starts _ (l .here) _ _ (sym (c .before .before .before .before .last .ensures) ∙ c .before .before .at .given .1) in
-    omega (arith, l .inv .0, h .whole, h .few, c .digits-of .ensures .1)
+add-size-3 c = let h = there (c .before) in omega (arith, c .before .before .before .before .before .loop .inv .0, h .whole, h .few, c .digits-of .ensures .1)
 
 loop-less : tie.Need-loop-less Inv-loop μ-loop
-loop-less c =
-    let l = c .before .before .before .before .before .loop in
-    let h = starts _ (l .here) _ _ (sym (c .before .before .before .before .last .ensures) ∙ c .before .before .at .given .1) in
-    omega (arith, l .inv .0, h .whole, h .few, c .digits-of .ensures .1)
+loop-less c = omega (arith, there (c .before) .whole)
 
 loop-again : tie.Need-loop-again Inv-loop μ-loop
 loop-again c =
     let l = c .before .before .before .before .before .loop in
     let s = now (c .before .before .before .before .before .before .before .args .journal) in
-    let found = sym (c .before .before .before .before .last .ensures) ∙ c .before .before .at .given .1 in
-    let h = starts s (l .here) _ _ found in
+    let h = there (c .before) in
     let at = c .before .before .at .given .0 .0 in
     let n = c .before .before .at .given .0 .1 .0 in
     let long : length (line at (entryAt s at n)) ≡ c .digits-of .result + (9 + n) = found-line s (l .here) at n h ∙ rw (c .digits-of .ensures .0) in (
       omega (arith, l .inv .0, h .whole, h .few, c .digits-of .ensures .1),
-      l .inv .1
-          ∙ walk-starts (withSize s) s (l .here) _ _ (l .size) found
-          ∙ ap (λ (k : ℕ). walk (withSize s) s at (l .size + k)) long,
+      l .inv .1 ∙ walk-starts (withSize s) s (l .here) at n (l .size) (found (c .before)) ∙ ap (λ (k : ℕ). walk (withSize s) s at (l .size + k)) long,
     )
 
 pub printed-size-spec : {M : Type 1} → statement M

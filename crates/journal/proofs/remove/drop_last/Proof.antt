@@ -4,7 +4,8 @@ use mathlib.Core.Path.{_≡_, refl, sym, ap, _∙_}
 use Prim.Native.Nat.{ℕ}
 use native.Mathlib.Omega.{arith}
 use denote.Ref.{now}
-use Rattle.journal.specs.Journal.{walk}
+use Rattle.journal.specs.Journal.{lastEntry, walk}
+use Rattle.journal.specs.declared.Last.the-variants.{Starts}
 use Rattle.journal.specs.Inner.{keptAt, keptTold}
 use Rattle.journal.specs.declared.Kept.{Kept}
 use Rattle.journal.proofs.Ends.{starts}
@@ -19,6 +20,11 @@ Inv-loop journal end count here₀ kept₀ here kept =
 
 abbrev μ-loop : tie.MeasureT-loop
 μ-loop journal end count here₀ kept₀ here kept = here
+
+-- an entry that the step found
+found : (c : tie.After-known-told2 Inv-loop μ-loop)
+    → lastEntry (now (c .before .before .before .before .before .before .args .journal)) (c .before .before .before .before .loop .here) ≡ Starts (c .before .at .given .0 .0) (c .before .at .given .0 .1 .0)
+found c = sym (c .before .before .before .last .ensures) ∙ c .before .at .given .1
 
 loop-holds : tie.Need-loop-holds Inv-loop μ-loop
 loop-holds c = refl
@@ -58,17 +64,14 @@ kept-at-requires : tie.Need-kept-at-requires Inv-loop μ-loop
 kept-at-requires c κs = search needs
 
 loop-less : tie.Need-loop-less Inv-loop μ-loop
-loop-less c =
-    let l = c .before .before .before .before .before .loop in
-    let h = starts _ (l .here) _ _ (sym (c .before .before .before .before .last .ensures) ∙ c .before .before .at .given .1) in
-    omega (arith, h .whole)
+loop-less c = omega (arith, starts _ _ _ _ (found (c .before)) .whole)
 
 loop-again : tie.Need-loop-again Inv-loop μ-loop
 loop-again c =
     let l = c .before .before .before .before .before .loop in
     let s = now (c .before .before .before .before .before .before .before .args .journal) in
-    let found = sym (c .before .before .before .before .last .ensures) ∙ c .before .before .at .given .1 in
-    l .inv ∙ walk-starts keptAt s (l .here) _ _ (l .kept) found ∙ ap (λ (k : Kept). walk keptAt s (c .before .before .at .given .0 .0) k) (sym (c .kept-at .ensures))
+    let at = c .before .before .at .given .0 .0 in
+    l .inv ∙ walk-starts keptAt s (l .here) at _ (l .kept) (found (c .before)) ∙ ap (λ (k : Kept). walk keptAt s at k) (sym (c .kept-at .ensures))
 
 pub drop-last-spec : {M : Type 1} → statement M
 drop-last-spec = tie.close (tie.spec Inv-loop μ-loop loop-holds last-requires enum-told kept-told-requires returns enum-known-place returns-2 enum-known-at kept-at-requires loop-less loop-again)

@@ -2,18 +2,14 @@
 use borrow.Author.Needs.{needs}
 use mathlib.Core.Path.{_≡_, sym, ap, _∙_}
 use mathlib.Core.Bool.{true, false}
-use mathlib.Core.List.{List}
 use Prim.Native.Nat.{ℕ, _+_, _-_}
 use native.Mathlib.Omega.{arith}
-use lib.ListN.{take, drop}
 use denote.Ref.{now}
 use Rattle.text.specs.Equal.{sameBytes}
 use Rattle.text.specs.Parts.{part}
-use Rattle.text.specs.declared.Seen.the-variants.{Fine}
 use Rattle.command.specs.Text.{checkCommand}
-use Rattle.join.specs.Join.{joinText}
 use Rattle.journal.specs.Journal.{entryAt}
-use Rattle.journal.specs.Inner.{joinedAt, Holds}
+use Rattle.journal.specs.Inner.{joinedAt}
 use Rattle.journal.proofs.Bytes.{entry-text}
 use Rattle.journal.proofs.replay.joined_at.Statement.{statement}
 use Rattle.journal.proofs.replay.joined_at.Tie as tie

@@ -1,15 +1,15 @@
 -- `journal::replay::joined_back` meets its contract. The loop's invariant: the buffer holds a command, from which the walk over the rest goes on.
 use borrow.Author.Needs.{needs}
-use mathlib.Core.Path.{_≡_, refl, sym, ap, subst, _∙_}
-use mathlib.Core.List.{List}
-use Prim.Native.Nat.{ℕ, _+_}
+use mathlib.Core.Path.{_≡_, sym, ap, _∙_}
+use Prim.Native.Nat.{ℕ}
 use native.Mathlib.Omega.{arith}
-use lib.ListN.{length, take}
+use lib.ListN.{take}
 use denote.Ref.{now}
 use Rattle.join.specs.Join.{noChange}
-use Rattle.journal.specs.Journal.{walk}
+use Rattle.journal.specs.Journal.{lastEntry, walk}
+use Rattle.journal.specs.declared.Last.the-variants.{Starts}
 use Rattle.journal.specs.Inner.{joinedAt, Holds}
-use Rattle.journal.proofs.Ends.{starts}
+use Rattle.journal.proofs.Ends.{Ends, starts}
 use Rattle.journal.proofs.Walk.{walk-starts, walk-nothing, walk-fails}
 use Rattle.journal.proofs.Replays.{held-same, gathered-sound, gathered-broken}
 use Rattle.journal.proofs.replay.joined_back.Statement.{statement}
@@ -22,6 +22,15 @@ Inv-loop journal end designator later₀ here₀ m₀ later here m =
 
 abbrev μ-loop : tie.MeasureT-loop
 μ-loop journal end designator later₀ here₀ m₀ later here m = here
+
+-- an entry that the step found
+found : (c : tie.After-known-told2 Inv-loop μ-loop)
+    → lastEntry (now (c .before .before .before .before .before .before .before .before .before .before .before .before .args .journal)) (c .before .before .before .before .loop .here) ≡ Starts (c .before .at .given .0 .0) (c .before .at .given .0 .1 .0)
+found c = sym (c .before .before .before .last .ensures) ∙ c .before .at .given .1
+
+there : (c : tie.After-known-told2 Inv-loop μ-loop)
+    → Ends (now (c .before .before .before .before .before .before .before .before .before .before .before .before .args .journal)) (c .before .before .before .before .loop .here) (c .before .at .given .0 .0) (c .before .at .given .0 .1 .0)
+there c = starts _ _ _ _ (found c)
 
 put-no-change-requires : tie.Need-put-no-change-requires Inv-loop μ-loop
 put-no-change-requires c κs = c .before .before .before .before .pre
@@ -69,22 +78,10 @@ enum-known-at : tie.Need-enum-known-at Inv-loop μ-loop
 enum-known-at c = search needs
 
 joined-at-requires : tie.Need-joined-at-requires Inv-loop μ-loop
-joined-at-requires c κs =
-    let l = c .before .before .before .before .before .loop in
-    let a = c .before .before .before .before .before .before .before .before .before .before .before .before .before .args in
-    let s = now (a .journal) in
-    let d = now (a .designator) in
-    let h = starts s (l .here) _ _ (sym (c .before .before .before .before .last .ensures) ∙ c .before .before .at .given .1) in
-    ((omega (arith, h .whole, h .inside), h .fine), l .inv .0)
+joined-at-requires c κs = let h = there (c .before) in ((omega (arith, h .whole, h .inside), h .fine), c .before .before .before .before .before .loop .inv .0)
 
 loop-less : tie.Need-loop-less Inv-loop μ-loop
-loop-less c =
-    let l = c .before .before .before .before .before .before .before .before .loop in
-    let a = c .before .before .before .before .before .before .before .before .before .before .before .before .before .before .before .before .args in
-    let s = now (a .journal) in
-    let d = now (a .designator) in
-    let h = starts s (l .here) _ _ (sym (c .before .before .before .before .before .before .before .last .ensures) ∙ c .before .before .before .before .before .at .given .1) in
-    omega (arith, h .whole)
+loop-less c = omega (arith, there (c .before .before .before .before) .whole)
 
 loop-again : tie.Need-loop-again Inv-loop μ-loop
 loop-again c =
@@ -93,12 +90,9 @@ loop-again c =
     let s = now (a .journal) in
     let d = now (a .designator) in
     let at = c .before .before .before .before .before .at .given .0 .0 in
-    let n = c .before .before .before .before .before .at .given .0 .1 .0 in
     let h = c .before .before .joined-at .ensures in (
       held-same h,
-      l .inv .1
-          ∙ walk-starts (joinedAt s d) s (l .here) at n (take (l .m) (l .later)) (sym (c .before .before .before .before .before .before .before .last .ensures) ∙ c .before .before .before .before .before .at .given .1)
-          ∙ ap (walk (joinedAt s d) s at) (sym (h .found)),
+      l .inv .1 ∙ walk-starts (joinedAt s d) s (l .here) at _ (take (l .m) (l .later)) (found (c .before .before .before .before)) ∙ ap (walk (joinedAt s d) s at) (sym (h .found)),
     )
 
 pub joined-back-spec : {M : Type 1} → statement M

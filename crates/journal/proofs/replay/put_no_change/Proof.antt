@@ -1,6 +1,6 @@
 -- `journal::replay::put_no_change` meets its contract: the bytes are those of the no-change command.
 use borrow.Author.Needs.{needs}
-use mathlib.Core.Path.{_≡_, refl, _∙_}
+use mathlib.Core.Path.{_≡_, _∙_}
 use native.Mathlib.Omega.{arith}
 use lib.ListN.{length}
 use denote.Ref.{now}

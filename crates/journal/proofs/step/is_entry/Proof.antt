@@ -5,7 +5,6 @@ use mathlib.Core.Path.{_≡_, sym, ap, _∙_}
 use mathlib.Core.Bool.{true, false}
 use Prim.Native.Nat.{ℕ, _+_, _-_}
 use native.Mathlib.Omega.{arith}
-use lib.ListN.{take, drop}
 use denote.Ref.{now}
 use Rattle.text.specs.Checks.{isFine}
 use Rattle.text.specs.Names.{isDesignator}

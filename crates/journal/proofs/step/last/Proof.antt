@@ -1,7 +1,6 @@
 -- `journal::step::last` meets its contract: its tests are those of `lastEntry`, in their order.
 use borrow.Author.Needs.{needs}
 use borrow.Author.Tests.{eq-eqb, ne-eqb, le-leb, lt-leb}
-use Prim.Native.Nat.{_-_}
 use lib.ListN.{length}
 use denote.Ref.{now}
 use Rattle.journal.specs.Journal.{most, lastEntry}

@@ -2,7 +2,6 @@
 use borrow.Author.Needs.{needs}
 use Prim.Native.Nat.{_+_}
 use native.Mathlib.Omega.{arith}
-use denote.Ref.{now}
 use Rattle.journal.proofs.step.length_in.Statement.{statement}
 use Rattle.journal.proofs.step.length_in.Tie as tie
 
