@@ -13,6 +13,7 @@ using namespace std::string_view_literals;
 static_assert(std::is_trivially_copyable<esk_report>::value && std::is_standard_layout<esk_report>::value,
               "a record is plain memory");
 static_assert(sizeof(esk_settings) == 606 && sizeof(esk_command) == 616 && sizeof(esk_slot) == 8, "as in C");
+static_assert(sizeof(esk_entry) == 32 && std::is_trivially_copyable<esk_entry>::value, "as in C");
 
 static const uint8_t *at(std::string_view text) { return reinterpret_cast<const uint8_t *>(text.data()); }
 
@@ -101,6 +102,30 @@ static void board()
     HOLD(take("XY0002"sv).code == ESK_BOARD && esk_words(ESK_BOARD) == "the board is not valid"sv);
 }
 
+// A journal of two entries, read from its end.
+static void journal()
+{
+    std::array<uint8_t, 100> bytes{};
+    std::array<uint8_t, ESK_COMMAND_BYTES> out{};
+    size_t end = 0;
+    for (const auto text : {first, second}) {
+        const esk_answer a = esk_journal_add(bytes.data(), bytes.size(), end, at("XY0001"sv), 6, at(text), text.size());
+        HOLD(a.code == ESK_ACCEPTED && a.length == end + 9 + text.size());
+        end = a.length;
+    }
+    HOLD(esk_journal_add(bytes.data(), bytes.size(), end, at("XY0001"sv), 6, at(first), first.size()).code == ESK_ROOM);
+    HOLD(esk_journal_check(bytes.data(), bytes.size(), end).code == ESK_ACCEPTED);
+    const esk_entry e = esk_journal_last(bytes.data(), bytes.size(), end);
+    HOLD(e.given == 1 && e.offset == 35 && e.text == 41 && e.length == second.size());
+    HOLD(esk_journal_drop(bytes.data(), bytes.size(), end, 1).length == 35);
+    const esk_answer printed = esk_journal_print(bytes.data(), bytes.size(), 35, out.data(), out.size());
+    HOLD(text_in(out, printed.length) == "0 XY0001 AWR041999999000400000/151/\n"sv);
+    esk_settings held{};
+    HOLD(esk_journal_replay(&held, bytes.data(), bytes.size(), end, at("XY0001"sv), 6).code == ESK_ACCEPTED);
+    HOLD(held.enroute.interval == 30 && held.hours.start == 23);
+    HOLD(esk_journal_check(bytes.data(), bytes.size(), end - 1).code == ESK_JOURNAL);
+}
+
 int main()
 {
     packed();
@@ -108,6 +133,7 @@ int main()
     commands();
     configuration();
     board();
+    journal();
     HOLD(esk_version() == std::string_view{ESK_VERSION});
     printf("test_cpp: %lu checks passed\n", checks);
     return 0;
