@@ -36,8 +36,8 @@ json_has results.0.offset=0 results.0.count=1 results.0.length=35 results.0.new=
 # Several aircraft
 answers 0 'another aircraft' journal j add AU0137 $off --json
 json_has results.0.accepted=true results.0.offset=31 results.0.designator=AU0137 results.0.count=2 results.0.length=62 status=0
-echo $hours >command
-answers 0 'from a file' journal j add XY0001 command
+echo $hours >one
+answers 0 'from a file' journal j add XY0001 one
 out_is 'accepted: an entry for XY0001 at byte 62 of j'
 answers 0 'the third for the first one' journal j add XY0001 $level
 printf '%s\n%s\n' $off $hours >two
@@ -127,6 +127,7 @@ json_has results.0.dropped=3 results.0.count=1 results.0.length=31 status=0
 # Broken ones: each kind, with its place and what stands there
 spoil() { # AT BYTE: a journal with another byte
     cp before broken
+    # shellcheck disable=SC2059
     printf "$2" | dd of=broken bs=1 seek="$1" conv=notrunc 2>/dev/null
     cp broken broken.was
 }
