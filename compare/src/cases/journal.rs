@@ -8,6 +8,7 @@ use crate::ours::uplink::{Entry, Settings};
 use crate::ours::{bytes_of, Answer};
 use crate::second::{config, journal, Refusal};
 use crate::tally::Tally;
+use crate::tell::uplink::difference;
 use crate::tell::{self, hex, BREAK};
 
 #[derive(Clone)]
@@ -41,16 +42,19 @@ enum Told {
     Entry(Entry),
 }
 
-/// What the second program makes of a call: how it came out, the answer, and what is left of the printing room or the
-/// settings with their guards; no byte where neither was lent.
-struct Made {
-    outcome: Result<(), Refusal>,
+/// What a call answers, and what it leaves of the printing room or the settings, with their guards; no byte where
+/// neither was lent.
+#[derive(PartialEq)]
+struct Reply {
     told: Told,
     left: Vec<u8>,
 }
 
+/// How a call came out, and the second program's reply.
+type Made = (Result<(), Refusal>, Reply);
+
 fn made(answer: Result<usize, Refusal>, left: Vec<u8>) -> Made {
-    Made { outcome: answer.map(|_| ()), told: Told::Answer(meet::answer(answer)), left }
+    (answer.map(|_| ()), Reply { told: Told::Answer(meet::answer(answer)), left })
 }
 
 /// The call on the second program's buffer.
@@ -59,7 +63,7 @@ fn make(buffer: &mut [u8], end: usize, call: &Call) -> Made {
         Call::Check => made(journal::check(buffer, end).map(|()| 0), Vec::new()),
         Call::Last => {
             let last = journal::last(buffer, end);
-            Made { outcome: last.map(|_| ()), told: Told::Entry(meet_up::entry(last)), left: Vec::new() }
+            (last.map(|_| ()), Reply { told: Told::Entry(meet_up::entry(last)), left: Vec::new() })
         }
         Call::Add { designator, text } => made(journal::add(buffer, end, designator, text), Vec::new()),
         Call::Drop { count } => made(journal::drop_last(buffer, end, *count), Vec::new()),
@@ -106,28 +110,14 @@ impl super::Case for Case {
             match event {
                 Event::Put { at, byte } => (second[*at], ours[GUARD + at]) = (*byte, *byte),
                 Event::Ask { end, call } => {
-                    let want = make(&mut second, *end, call);
-                    let told = match call {
-                        Call::Last => Told::Entry(replies.one()),
-                        _ => Told::Answer(replies.one()),
-                    };
-                    changes(&mut ours, replies);
-                    let mut left = pattern(want.left.len());
-                    if !left.is_empty() {
-                        changes(&mut left, replies);
+                    let (outcome, want) = make(&mut second, *end, call);
+                    let got = taken(call, want.left.len(), &mut ours, replies);
+                    if got != want || !holds(&ours, &second) {
+                        let block = block(&second);
+                        let (ours, second) = (words(&got, &ours, &want, &block), words(&want, &block, &got, &ours));
+                        return self.alone(index).mismatch(name(call), ours, second);
                     }
-                    if told != want.told || left != want.left || !holds(&ours, &second) {
-                        let want_block = block(&second);
-                        let words = |told: &Told, of: &[u8], other: &[u8], left: &[u8], others: &[u8]| {
-                            let [journal, left] =
-                                [(of, other), (left, others)].map(|(of, other)| tell::uplink::difference(of, other));
-                            format!("{told:?}{BREAK}buffer, with guards of {GUARD}: {journal}{BREAK}lent {left}")
-                        };
-                        let ours_words = words(&told, &ours, &want_block, &left, &want.left);
-                        let second_words = words(&want.told, &want_block, &ours, &want.left, &left);
-                        return self.alone(index).mismatch(name(call), ours_words, second_words);
-                    }
-                    tally.answer(&want.outcome);
+                    tally.answer(&outcome);
                 }
             }
         }
@@ -211,6 +201,26 @@ fn holds(block: &[u8], buffer: &[u8]) -> bool {
     let end = GUARD + buffer.len();
     let guard = |at: usize| (at * 37) as u8 ^ 0xa5;
     block[GUARD..end] == *buffer && (0..GUARD).chain(end..end + GUARD).all(|at| block[at] == guard(at))
+}
+
+/// The proved call's reply; what it changed of the buffer is taken over.
+fn taken(call: &Call, left: usize, block: &mut [u8], replies: &mut Replies) -> Reply {
+    let told = match call {
+        Call::Last => Told::Entry(replies.one()),
+        _ => Told::Answer(replies.one()),
+    };
+    changes(block, replies);
+    let mut left = pattern(left);
+    if !left.is_empty() {
+        changes(&mut left, replies);
+    }
+    Reply { told, left }
+}
+
+/// One reply in words, with those bytes in which it and its block differ from the other.
+fn words(one: &Reply, block: &[u8], other: &Reply, others: &[u8]) -> String {
+    let [buffer, left] = [(block, others), (&one.left, &other.left)].map(|(of, other)| difference(of, other));
+    format!("{:?}{BREAK}buffer, with guards of {GUARD}: {buffer}{BREAK}room or settings lent: {left}", one.told)
 }
 
 /// Takes over what a call changed: from where, up to where, and the bytes between.
