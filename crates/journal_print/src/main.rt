@@ -5,10 +5,21 @@ use journal::print::print;
 use libc::STDIN_FILENO;
 use libc::STDOUT_FILENO;
 
+// Reading stops at the end of a file as it does where a read fails: only the next read tells the two apart.
+fn is_failed(fd: i32) -> bool {
+    let mut more = [0u8; 1];
+    let got = libc::read(fd, &mut more);
+    got < 0
+}
+
 // One byte more than a journal may have is read, so that a longer file is seen to be one.
-fn print_from(fd: i32) {
+fn print_from(fd: i32, name: &[u8]) {
     let mut journal = io::large_buffer();
     let n = io::read_full(fd, &mut journal);
+    if is_failed(fd) {
+        os::fail(name);
+        return;
+    }
     let mut out = [0u8; 131072];
     match print(&journal, n, &mut out) {
         Told::Refused(_, _) => {}
@@ -30,14 +41,14 @@ fn print_named(i: usize) {
         os::fail(&path[..length]);
         return;
     }
-    print_from(fd);
+    print_from(fd, &path[..length]);
     libc::close(fd);
 }
 
 fn main() {
     let count = os::arg_count();
     if count < 2 {
-        print_from(STDIN_FILENO);
+        print_from(STDIN_FILENO, b"standard input");
         return;
     }
     let mut i = 1;

@@ -14,6 +14,9 @@ abbrev μ-loop : tie.MeasureT-loop
 arg-count-requires : tie.Need-arg-count-requires Inv-loop μ-loop
 arg-count-requires c κs = search needs
 
+slice-aggregate-print-from : tie.Need-slice-aggregate-print-from Inv-loop μ-loop
+slice-aggregate-print-from c = search needs
+
 print-from-requires : tie.Need-print-from-requires Inv-loop μ-loop
 print-from-requires c κs = search needs
 
@@ -45,6 +48,7 @@ main-spec =
     Inv-loop
     μ-loop
     arg-count-requires
+    slice-aggregate-print-from
     print-from-requires
     returns
     loop-holds

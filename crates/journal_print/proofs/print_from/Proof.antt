@@ -21,6 +21,15 @@ slice-aggregate-read-full c = search needs
 read-full-requires : tie.Need-read-full-requires
 read-full-requires c κs = search needs
 
+is-failed-requires : tie.Need-is-failed-requires
+is-failed-requires c κs = search needs
+
+fail-requires : tie.Need-fail-requires
+fail-requires c κs = search needs
+
+returns : tie.Need-returns
+returns c = search needs
+
 slice-aggregate-print : tie.Need-slice-aggregate-print
 slice-aggregate-print c = search needs
 
@@ -45,11 +54,11 @@ slice-aggregate-write-all c = sym (length-take-le _ _ (room (c .before)))
 write-all-requires : tie.Need-write-all-requires
 write-all-requires c κs = search needs
 
-returns : tie.Need-returns
-returns c = search needs
-
 returns-2 : tie.Need-returns-2
 returns-2 c = search needs
+
+returns-3 : tie.Need-returns-3
+returns-3 c = search needs
 
 pub print-from-spec : {M : Type 1} → statement M
 print-from-spec =
@@ -58,6 +67,9 @@ print-from-spec =
     large-buffer-requires
     slice-aggregate-read-full
     read-full-requires
+    is-failed-requires
+    fail-requires
+    returns
     slice-aggregate-print
     slice-aggregate-print-2
     print-requires
@@ -66,5 +78,5 @@ print-from-spec =
     array-share-prefix-out
     slice-aggregate-write-all
     write-all-requires
-    returns
-    returns-2)
+    returns-2
+    returns-3)
