@@ -1,18 +1,21 @@
 -- Document 02, §8, as specs/Journal says it.
 use mathlib.Core.Path.{_≡_, refl, sym, ap, subst, _∙_}
+use mathlib.Core.Bool.{cond}
 use mathlib.Core.Logic.{_↔_, inl, inr}
-use mathlib.Core.List.{List, [], _∷_, _++_, foldl}
+use mathlib.Core.List.{List, [], _∷_, _++_, foldl, foldl-append}
 use Prim.Native.Nat.{ℕ, _+_, _-_, _≤_, _<_}
 use native.Mathlib.Omega.{arith}
 use native.Mathlib.Nat.{zero-add}
 use lib.ListN.{length, take, drop}
 use borrow.Author.Tests.{le-leb, lt-leb}
 use Rattle.text.specs.Checks.{must, _andThen_}
+use Rattle.text.specs.Equal.{sameBytes}
 use Rattle.text.specs.Over.{over}
 use Rattle.text.specs.Parts.{part}
 use Rattle.text.specs.declared.Seen.{Seen}
 use Rattle.text.specs.declared.Seen.the-variants.{Fine, Bad}
-use Rattle.text.proofs.Cases.{by-eq, by-le}
+use Rattle.text.proofs.Cases.{by-test, by-eq, by-le}
+use Rattle.text.proofs.Equal.{same-self, same-equal}
 use Rattle.text.proofs.Over.{before-over, found-over, after-over}
 use Rattle.settings.specs.Valid.{reset}
 use Rattle.settings.specs.declared.Settings.{Settings}
@@ -39,7 +42,7 @@ use Rattle.promises.specs.BoardRuns.{IsAccepted, SixAllowed}
 use Rattle.promises.specs.Journal.{checkAnswer, lastAnswer, addAnswer, dropAnswer, replayAnswer, settingsAfter, printAnswer, FailsAt, AddedTo, DroppedTo, PrintedTo, JournalPromises}
 use Rattle.promises.specs.JournalBytes.{bytesOf, allBytes, SoundEntry, AllSound, JournalOf, linesFrom}
 use Rattle.promises.proofs.Codes.{designator-said, accepted-fine}
-use Rattle.promises.proofs.JournalBytes.{sound-entry, entry-sound, all-sound, sound-all, entry-same, bytes-same, journal-of, is-journal, reads-of, lines-same}
+use Rattle.promises.proofs.JournalBytes.{sound-entry, entry-sound, all-sound, sound-all, entry-same, bytes-same, journal-of, is-journal, reads-of, lines-same, last-sound, texts-last}
 
 -- ---- Checking
 
@@ -260,6 +263,35 @@ module _ (x : Settings) (s : List ℕ) (end : ℕ) (d : List ℕ) where
   unfolding replayed
   replay-four z n = rw (is-sound s end z .1, says-no (designator-said d) n) (refl, refl)
 
+replay-none : (x : Settings) (s : List ℕ) (end : ℕ) (d : List ℕ) → JournalOf s end [] → SixAllowed d → settingsAfter x s end d ≡ reset
+unfolding textsFor
+replay-none x s end d j six = replays x s end d [] j six .1
+
+-- the settings behind one entry more
+module _ (x : Settings) (s : List ℕ) (end : ℕ) (u : List ℕ) (next : ℕ) where
+  replay-more : (d : List ℕ) (e : Entry) (es : List Entry) → JournalOf s end es → JournalOf u next (es ++ (e ∷ [])) → SixAllowed d
+      → settingsAfter x u next d ≡ foldl applyTo (settingsAfter x s end d) (cond (sameBytes d (e .who)) (e .text ∷ []) [])
+  replay-more d e es j k six =
+      let new : List (List ℕ) = cond (sameBytes d (e .who)) (e .text ∷ []) [] in
+      replays x u next d (es ++ (e ∷ [])) k six .1
+      ∙ ap (foldl applyTo reset) (texts-last d es e)
+      ∙ foldl-append applyTo reset (textsFor d es) new
+      ∙ ap (λ (y : Settings). foldl applyTo y new) (sym (replays x s end d es j six .1))
+
+  replay-own : (d t : List ℕ) (es : List Entry) → JournalOf s end es → JournalOf u next (es ++ (record { who = d; text = t } ∷ []))
+      → settingsAfter x u next d ≡ applyTo (settingsAfter x s end d) t
+  replay-own d t es j k =
+      let e : Entry = record { who = d; text = t } in
+      let six = last-sound es e (k .sound) .who in
+      replay-more d e es j k six ∙ rw (same-self d)
+
+  replay-other : (d : List ℕ) (e : Entry) (es : List Entry) → JournalOf s end es → JournalOf u next (es ++ (e ∷ [])) → SixAllowed d
+      → ¬ (e .who ≡ d) → settingsAfter x u next d ≡ settingsAfter x s end d
+  replay-other d e es j k six n =
+      by-test (sameBytes d (e .who))
+      (λ y. absurd (n (sym (same-equal d (e .who) y))))
+      (λ y. replay-more d e es j k six ∙ rw y)
+
 -- ---- Dropping
 
 drops : (s : List ℕ) (end n : ℕ) (es : List Entry) → JournalOf s end es → n ≤ length es → DroppedTo s end n es
@@ -334,6 +366,9 @@ journal-promises =
       add-two = add-two;
       add-untouched = add-untouched;
       replays = λ x s end d es j six. replays x s end d es j six;
+      replay-none = replay-none;
+      replay-own = replay-own;
+      replay-other = replay-other;
       replay-broken = replay-broken;
       replay-four = replay-four;
       drops = drops;

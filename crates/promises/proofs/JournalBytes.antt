@@ -1,14 +1,16 @@
 -- The document's words for a journal's bytes, against the definitions that the contracts name.
 use mathlib.Core.Path.{_≡_, refl, sym, _∙_}
-use mathlib.Core.Bool.{true}
-use mathlib.Core.List.{List, [], _∷_, append-assoc}
+use mathlib.Core.Bool.{true, cond}
+use mathlib.Core.List.{List, [], _∷_, _++_, append-assoc}
 use Prim.Native.Nat.{ℕ, _+_}
 use lib.ListN.{length}
 use Rattle.text.specs.Checks.{isFine}
+use Rattle.text.specs.Equal.{sameBytes}
 use Rattle.text.specs.Names.{isDesignator}
-use Rattle.text.proofs.Cases.{both-left, both-right}
+use Rattle.text.proofs.Cases.{by-test, both-left, both-right}
 use Rattle.command.specs.Text.{checkCommand}
 use Rattle.journal.specs.Journal.{Entry, entryBytes, journalBytes, isEntry, allEntries, IsJournal, Sound, entriesIn}
+use Rattle.journal.specs.Calls.{textsFor}
 use Rattle.journal.specs.Printed.{line, printed}
 use Rattle.journal.proofs.Entries.{reads}
 use Rattle.promises.specs.JournalBytes.{bytesOf, allBytes, SoundEntry, AllSound, JournalOf, lineOf, linesFrom}
@@ -66,3 +68,15 @@ pub lines-same : (at : ℕ) (es : List Entry) → linesFrom at es ≡ printed at
 unfolding linesFrom printed
 lines-same at [] = refl
 lines-same at (e ∷ es) = rw (entry-same e, line-same at e, lines-same (at + length (entryBytes e)) es)
+
+-- the newest entry is sound too
+pub last-sound : (es : List Entry) (e : Entry) → AllSound (es ++ (e ∷ [])) → SoundEntry e
+last-sound [] e x = x .0
+last-sound (f ∷ es) e x = last-sound es e (x .1)
+
+-- its text comes behind those of the others, where it is the aircraft's
+pub texts-last : (d : List ℕ) (es : List Entry) (e : Entry)
+    → textsFor d (es ++ (e ∷ [])) ≡ textsFor d es ++ cond (sameBytes d (e .who)) (e .text ∷ []) []
+unfolding textsFor
+texts-last d [] e = refl
+texts-last d (f ∷ es) e = by-test (sameBytes d (f .who)) (λ y. rw (y, texts-last d es e)) (λ n. rw (n, texts-last d es e))

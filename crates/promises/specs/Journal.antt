@@ -108,6 +108,13 @@ pub record JournalPromises : Type 0 where
   -- "Replay for one aircraft starts from reset and gives what its entries, in order, give"
   pub replays : (x : Settings) (s : List ℕ) (end : ℕ) (d : List ℕ) (es : List Entry) → JournalOf s end es → SixAllowed d
       → (replayAnswer s end d ≡ accepted 0) × (settingsAfter x s end d ≡ foldl applyTo reset (textsFor d es))
+  -- the same without a name for those entries: none give reset, one more of its own acts behind the rest, another's does nothing
+  pub replay-none : (x : Settings) (s : List ℕ) (end : ℕ) (d : List ℕ) → JournalOf s end [] → SixAllowed d → settingsAfter x s end d ≡ reset
+  pub replay-own : (x : Settings) (s : List ℕ) (end : ℕ) (u : List ℕ) (next : ℕ) (d t : List ℕ) (es : List Entry) → JournalOf s end es
+      → JournalOf u next (es ++ (record { who = d; text = t } ∷ [])) → settingsAfter x u next d ≡ applyTo (settingsAfter x s end d) t
+  pub replay-other : (x : Settings) (s : List ℕ) (end : ℕ) (u : List ℕ) (next : ℕ) (d : List ℕ) (e : Entry) (es : List Entry)
+      → JournalOf s end es → JournalOf u next (es ++ (e ∷ [])) → SixAllowed d → ¬ (e .who ≡ d)
+      → settingsAfter x u next d ≡ settingsAfter x s end d
   pub replay-broken : (x : Settings) (s : List ℕ) (end : ℕ) (d : List ℕ) → ¬ (checkAnswer s end .code ≡ 0)
       → (replayAnswer s end d ≡ checkAnswer s end) × (settingsAfter x s end d ≡ x)
   pub replay-four : (x : Settings) (s : List ℕ) (end : ℕ) (d : List ℕ) → checkAnswer s end .code ≡ 0 → ¬ SixAllowed d
