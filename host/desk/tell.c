@@ -88,23 +88,6 @@ int failed(const char *about, const char *doing)
 
 const char *meaning(subject kind, unsigned code)
 {
-    static const char *const plain[] = {
-        "accepted",
-        "not the length that it must have",
-        "the room for the text is too short",
-        "a fixed byte is wrong",
-        "a byte that is not allowed there",
-        "a number outside its range",
-        "a number in a spelling other than its one spelling",
-        "fields disagree",
-        "the command ends inside a field, or has bytes after its last delimiter",
-        "nothing waits for that aircraft and no slot is free",
-        "the board is not valid",
-        "nothing waits for that aircraft",
-        "the configuration is not valid",
-        "an unknown code",
-        "the journal is broken",
-    };
     if (code == ESK_ROOM && kind == A_JOURNAL)
         return "the journal has no room for the entry";
     if (code == ESK_LENGTH && kind == A_REPORT)
@@ -117,7 +100,9 @@ const char *meaning(subject kind, unsigned code)
         return "a fixed byte is wrong (AMDAR3, or a CR LF)";
     if (code == ESK_FIXED)
         return "a fixed byte is wrong (AWR04, or a /)";
-    return code < sizeof plain / sizeof *plain ? plain[code] : "an unknown code";
+    if (code == ESK_BYTE)
+        return "a byte that is not allowed there";
+    return esk_words(code);
 }
 
 /* Of the two things that code 8 stands for, the one that it is. */
