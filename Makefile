@@ -14,6 +14,7 @@
 # make fuzz       every call beside the second program under libFuzzer; SECONDS_EACH=60 for each; needs clang
 # make replay     the inputs that the fuzzer found, replayed without it
 # make coverage   the lines of the second program that the comparison reaches; needs llvm-cov, 19 or later
+# make edits      further edits that the prover must refuse, which the gate has no time for; ARGS: the crates
 # make clean      removes all that was built
 
 PREFIX ?= /usr/local
@@ -36,7 +37,7 @@ native_program := target/native/eskelvor
 # Those that make the proved calls for the comparison, one for each group of calls that it compares.
 programs := answer answer_command answer_config answer_decide answer_join answer_board answer_journal
 
-.PHONY: all demo possible install uninstall test test-desk test-library compare bench growth fuzz replay coverage clean
+.PHONY: all demo possible install uninstall test test-desk test-library compare bench growth fuzz replay coverage edits clean
 
 all: $(archive) $(program) $(native_program)
 
@@ -134,6 +135,10 @@ replay: $(archive)
 coverage: $(archive)
 	@for program in $(programs); do host/tool build $$program host/test/$$program.c || exit 1; done
 	@compare/coverage $(ARGS)
+
+edits:
+	rt check
+	.ci/more-edits $(ARGS)
 
 clean:
 	rm -rf target
