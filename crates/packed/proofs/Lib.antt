@@ -1,7 +1,7 @@
 -- The laws of the packed field.
+mod Bounds
 pub mod Decoding
 pub mod Digits
-mod Fewest
 pub mod Put
 pub mod Refusal
 pub mod RoundTrip

@@ -1,17 +1,18 @@
 -- A field as it is decoded: what reading gives, but for the code and place of a refusal.
-use mathlib.Core.Bool.{Bool, true, false, cond, _&&_, _||_}
-use mathlib.Core.List.{List}
-use Prim.Native.Nat.{ℕ, _+_, _*_}
+use mathlib.Core.Bool.{Bool, true, false, cond, _&&_}
+use mathlib.Core.List.{List, [], _∷_}
+use Prim.Native.Nat.{ℕ, _+_, _*_, _/_, _^_, _≤_, _<_}
 use lib.Dec.{eqb, ltb, leb}
 use lib.IntN.{ℤ, pos, subℕ}
 use lib.Signed.{mag}
-use lib.ListN.{length, getD}
-use Rattle.packed.specs.Packed.{worthOf, readPacked}
+use lib.ListN.{length}
+use Rattle.packed.specs.Packed.{worthOf, widthOk}
 use Rattle.packed.specs.declared.Figure.{Figure}
 use Rattle.packed.specs.declared.Figure.the-variants.{Given, Missing}
 use Rattle.packed.specs.declared.Packed.{Packed}
 use Rattle.packed.specs.declared.Packed.the-variants.{Is, Refused}
 use Rattle.packed.specs.declared.Decoded.{Decoded}
+use Rattle.packed.specs.declared.decode.Seen.{Seen}
 
 -- what reading gives, whatever the code and place of a refusal
 abbrev pub uncoded : Packed → Packed
@@ -26,50 +27,69 @@ meant d = cond (d .missing) (Is Missing) (cond (d .given) (Is (Given (d .figure)
 abbrev pub figureIn : Decoded → Figure
 figureIn d = cond (d .missing) Missing (Given (d .figure))
 
--- ---- two bytes: the figure and 800, a space before a digit counting 780
+-- ---- The bytes from the left: each digit is added at its place, and a leading space is worth nothing
 
-abbrev pub twoFigure : ℕ → ℕ → ℤ
-twoFigure a b = subℕ (cond (eqb a 32) 780 (worthOf a * 40) + worthOf b) 800
+-- before a byte that stands alone
+abbrev pub alone : Seen
+alone = record { leading = true; fine = true; solidi = true; sum = 0; first = 1; unit = 1 }
 
--- the one spelling of a figure that two digits hold
-abbrev pub twoGiven : ℕ → ℕ → Bool
-twoGiven a b =
-    (ltb (worthOf b) 40 && (eqb a 32 || leb 20 (mag (twoFigure a b)))) && ltb (mag (twoFigure a b)) 800
+-- what a byte adds: a leading space nothing, any other its worth
+abbrev pub addsOf : Bool → ℕ → ℕ
+addsOf leading b = cond (leading && eqb b 32) 0 (worthOf b)
 
-abbrev pub twoDecoded : ℕ → ℕ → Decoded
-twoDecoded a b = record { missing = eqb a 47 && eqb b 47; given = twoGiven a b; figure = twoFigure a b }
-
--- ---- three bytes: the figure and 32000, a space first counting 31200 and one behind it 780
-
-abbrev pub threeFigure : ℕ → ℕ → ℕ → ℤ
-threeFigure a b c =
-    subℕ (cond (eqb a 32) 31200 (worthOf a * 1600) + cond (eqb a 32 && eqb b 32) 780 (worthOf b * 40) + worthOf c) 32000
-
-abbrev pub threeGiven : ℕ → ℕ → ℕ → Bool
-threeGiven a b c =
-    (((ltb (worthOf c) 40
-    && ((eqb a 32 && eqb b 32) || ltb (worthOf b) 40))
-    && (eqb a 32 || leb 800 (mag (threeFigure a b c))))
-    && ((eqb a 32 && eqb b 32) || leb 20 (mag (threeFigure a b c))))
-    && ltb (mag (threeFigure a b c)) 32000
-
-abbrev pub threeDecoded : ℕ → ℕ → ℕ → Decoded
-threeDecoded a b c =
+unfoldable pub stepOf : Seen → ℕ → Seen
+stepOf s b =
     record {
-      missing = (eqb a 47 && eqb b 47) && eqb c 47;
-      given = threeGiven a b c;
-      figure = threeFigure a b c;
+      leading = s .leading && eqb b 32;
+      fine = s .fine && ltb (addsOf (s .leading) b) 40;
+      solidi = s .solidi && eqb b 47;
+      sum = s .sum + addsOf (s .leading) b * s .unit;
+      first = cond (s .leading && eqb b 32) (s .unit / 40) (s .first);
+      unit = s .unit / 40;
     }
 
--- ---- any other width
+-- the first byte of more than one: where it is no digit the size tells, below
+unfoldable pub topOf : ℕ → ℕ → Seen
+topOf unit b =
+    record {
+      leading = eqb b 32;
+      fine = true;
+      solidi = eqb b 47;
+      sum = cond (eqb b 32) 0 (worthOf b * unit);
+      first = cond (eqb b 32) (unit / 40) unit;
+      unit = unit / 40;
+    }
 
-abbrev pub otherDecoded : Packed → Decoded
-otherDecoded (Is (Given x)) = record { missing = false; given = true; figure = x }
-otherDecoded (Is Missing) = record { missing = true; given = false; figure = pos 0 }
-otherDecoded (Refused code place) = record { missing = false; given = false; figure = pos 0 }
+-- the last: digits of which the first is worth n at its place span -20·n to 20·n - 1, and one digit fewer half of n
+unfoldable pub finishOf : Seen → ℕ → Decoded
+finishOf s b =
+    record {
+      missing = s .solidi && eqb b 47;
+      given =
+          ((ltb (worthOf b) 40 && s .fine) && leb (s .first / 2) (mag (subℕ (s .sum + worthOf b) (20 * s .first))))
+          && ltb (mag (subℕ (s .sum + worthOf b) (20 * s .first))) (20 * s .first);
+      figure = subℕ (s .sum + worthOf b) (20 * s .first);
+    }
+
+-- neither missing nor given
+abbrev pub noneDecoded : Decoded
+noneDecoded = record { missing = false; given = false; figure = pos 0 }
+
+-- the bytes that are left
+unfoldable pub restOf : Seen → List ℕ → Decoded
+restOf s [] = noneDecoded
+restOf s (b ∷ []) = finishOf s b
+restOf s (b ∷ c ∷ bs) = restOf (stepOf s b) (c ∷ bs)
+
+unfoldable pub bytesOf : List ℕ → Decoded
+bytesOf [] = noneDecoded
+bytesOf (b ∷ []) = finishOf alone b
+bytesOf (b ∷ c ∷ bs) = restOf (topOf (40 ^ length (c ∷ bs)) b) (c ∷ bs)
 
 unfoldable pub decoded : List ℕ → Decoded
-decoded f =
-    cond (eqb (length f) 2) (twoDecoded (getD f 0 0) (getD f 1 0))
-    (cond (eqb (length f) 3) (threeDecoded (getD f 0 0) (getD f 1 0) (getD f 2 0))
-    (otherDecoded (readPacked f)))
+decoded f = cond (widthOk (length f)) (bytesOf f) noneDecoded
+
+-- ---- No sum of five worths is large
+
+abbrev pub Roomy : Seen → Type 0
+Roomy s = (s .sum + 270 * s .unit < 2000000000) × (s .unit ≤ 2560000) × (s .first ≤ 2560000)
