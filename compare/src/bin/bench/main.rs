@@ -3,7 +3,10 @@
 //!
 //! bench [WORD]    every row, or those whose name has the word
 //! bench growth    how the cost grows with the length of a text and with the used slots of a board
+//! bench archive   a night's archive of reports, read whole: fields a second
 
+#[cfg(linked)]
+mod archive;
 #[cfg(linked)]
 mod boards;
 #[cfg(linked)]
@@ -30,6 +33,9 @@ fn main() {
     let word = std::env::args().nth(1).unwrap_or_default();
     if word == "growth" {
         return growth::table();
+    }
+    if word == "archive" {
+        return archive::table();
     }
     let bench = measure::Bench::start(word);
     reports::rows(&bench);

@@ -44,10 +44,15 @@ impl Bench {
 }
 
 /// Nanoseconds of the best window of each program.
-pub fn best(mut ours: impl FnMut(), mut second: impl FnMut()) -> [f64; 2] {
+pub fn best(ours: impl FnMut(), second: impl FnMut()) -> [f64; 2] {
+    best_of(WINDOWS, ours, second)
+}
+
+/// The same of so many windows at the most.
+pub fn best_of(windows: usize, mut ours: impl FnMut(), mut second: impl FnMut()) -> [f64; 2] {
     let began = Instant::now();
     let mut best = [f64::MAX; 2];
-    for _ in 0..WINDOWS {
+    for _ in 0..windows {
         best[0] = best[0].min(window(&mut ours));
         best[1] = best[1].min(window(&mut second));
         if began.elapsed() > TIME {

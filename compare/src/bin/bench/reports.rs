@@ -26,12 +26,12 @@ fn second_packed_write(figure: raw::Figure, width: usize, out: &mut [u8]) -> Res
 }
 
 #[inline(never)]
-fn second_check(text: &[u8]) -> Result<(), Refusal> {
+pub fn second_check(text: &[u8]) -> Result<(), Refusal> {
     report::check(text)
 }
 
 #[inline(never)]
-fn second_read(text: &[u8]) -> Result<Report, Refusal> {
+pub fn second_read(text: &[u8]) -> Result<Report, Refusal> {
     report::read(text)
 }
 
@@ -52,6 +52,17 @@ fn packed_fields(random: &mut Random) -> Vec<(Option<i32>, Vec<u8>)> {
     (0..INPUTS).map(field).collect()
 }
 
+/// Fields of one width, with figures of every size, one in ten missing.
+fn fields_of(random: &mut Random, width: usize) -> Vec<Vec<u8>> {
+    let field = |_| {
+        let figure = (!random.percent(10)).then(|| make::figure_of_digits(random, width));
+        let mut field = vec![0; width];
+        packed::put(figure, &mut field);
+        field
+    };
+    (0..INPUTS).map(field).collect()
+}
+
 fn packed_rows(bench: &Bench) {
     let fields = packed_fields(&mut Random::new(1, "bench-packed"));
     bench.row("packed read (256 valid fields)", INPUTS, None, || {
@@ -60,6 +71,15 @@ fn packed_rows(bench: &Bench) {
             || pass(&fields, |(_, field)| second_packed_read(field)),
         )
     });
+    for width in 1..=5 {
+        let fields: Vec<Vec<u8>> = fields_of(&mut Random::new(1, "bench-width"), width);
+        bench.row(&format!("packed read, {width} byte{}", if width == 1 { "" } else { "s" }), INPUTS, None, || {
+            best(
+                || pass(&fields, |field| linked::packed_read(field)),
+                || pass(&fields, |field| second_packed_read(field)),
+            )
+        });
+    }
     let ours: Vec<_> = fields.iter().map(|(figure, field)| (meet::figure(*figure), field.len())).collect();
     let second: Vec<_> = fields.iter().map(|(figure, field)| (raw::Figure::from(*figure), field.len())).collect();
     let (mut one, mut other) = ([0; 8], [0; 8]);
@@ -93,7 +113,7 @@ fn typical_observation(random: &mut Random, spans: [(i32, i32); 3]) -> Observati
 }
 
 /// A report as aircraft send them: mostly eight observations, small changes, gust often and vapour mostly missing.
-fn typical(random: &mut Random) -> Report {
+pub fn typical(random: &mut Random) -> Report {
     let present = if random.percent(75) { 7 } else { random.below(8) };
     let first = typical_observation(random, [(-5400, 5400), (-10_800, 10_800), (0, 2_678_399)]);
     let later = |index| (index < present).then(|| typical_observation(random, [(-60, 60), (-60, 60), (20, 480)]));
