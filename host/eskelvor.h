@@ -30,8 +30,9 @@
  * esk_settings_valid answers 0 or 12 and esk_decide a place, as all other calls do; esk_command has no padding.
  * 3.1.0: esk_explain.
  * 3.2.0: esk_words, esk_reason_words, esk_version and esk_size_of; a shared library, libeskelvor.so.3.
- * 3.3.0: the journal, six calls and code 14. */
-#define ESK_VERSION "3.3.0"
+ * 3.3.0: the journal, six calls and code 14.
+ * 3.4.0: code 4 in a packed field points at the byte that is wrong, no longer at the field's first. */
+#define ESK_VERSION "3.4.0"
 
 #ifdef __cplusplus
 extern "C" {
@@ -54,7 +55,8 @@ enum {
     ESK_FIXED = 3,     /* a fixed byte is wrong (AWR04, AMDAR3, CR LF, a delimiter); place: the group's first byte */
     ESK_BYTE = 4,      /* a byte not allowed in its field: another letter, a digit that is no flag, a non-digit in a
                           number, a small letter in a name; place: the field's first byte, and 0 for a designator or
-                          an airfield that is handed over by itself */
+                          an airfield that is handed over by itself; in a packed field the byte from which on nothing
+                          could mend it, see esk_packed_read */
     ESK_RANGE = 5,     /* number outside its range; place: the field's first byte, and 0 for what esk_decide, esk_explain
                           and esk_journal_drop are asked */
     ESK_SPELLING = 6,  /* a number in a spelling other than its one spelling: a packed figure in more digits than it
@@ -113,16 +115,18 @@ typedef struct esk_figure {
 /* The answer of esk_packed_read. 8 bytes, no padding. */
 typedef struct esk_packed {
     int32_t number; /* the figure, where code is 0 and given is 1; else 0 */
-    uint16_t place; /* 0 */
+    uint16_t place; /* with code 4 the offset of the wrong byte in the field, from 0; else 0 */
     uint8_t code;   /* 0, 1, 4 or 6 */
     uint8_t given;  /* 1 a figure, 0 a missing one (the field is all solidi) or a refusal */
 } esk_packed;
 
 /*
  * Reads one packed field of 1 to 5 bytes: leading spaces, then base-40 digits, or solidi throughout. The field is lent
- * for reading. Codes, all at place 0:
+ * for reading. Codes, 1 and 6 at place 0:
  *   1  the field is not 1 to 5 bytes
- *   4  all spaces, a solidus among others, a space after a digit, or a byte that is no digit
+ *   4  all spaces, a solidus among others, a space after a digit, or a byte that is no digit; place: the first byte, left
+ *      to right, up to and with which no field of that width without such a fault could begin. In "/5", " /" and "K/"
+ *      that is 1, in "a5" 0, in "K  /" 1; of spaces alone it is the last
  *   6  more digits than the figure needs
  */
 esk_packed esk_packed_read(const uint8_t *field, size_t length);
@@ -214,9 +218,10 @@ typedef struct esk_report_got {
  * Checks a report's text, field by field from left to right, and builds nothing. The text is lent for reading. length
  * is 0.
  *   1  not 220 bytes; place 0
- * and then, in each field, at its first byte:
+ * and then, in each field, at its first byte but for 4 in a packed field:
  *   3  AMDAR3 or a CR LF is wrong
- *   4  an airfield, a designator, a kind, a quality or a packed field has a byte that is not allowed there
+ *   4  an airfield, a designator, a kind, a quality or a packed field has a byte that is not allowed there; in a packed
+ *      field at the byte that esk_packed_read points at, counted from the text's start
  *   6  a packed figure in more digits than it needs
  *   5  a figure outside its range
  *   7  wind direction and speed, one given and one missing (at the speed); an absent observation whose bytes are not
