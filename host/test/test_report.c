@@ -24,7 +24,7 @@ static const text_case texts[] = {
     {printed, 23, " ", 3, 22, "second line's end"},
     {printed, 24, "/", 4, 24, "the first observation is never absent"},
     {printed, 24, "B", 4, 24, "kind"},
-    {printed, 25, "K  ", 4, 25, "latitude with a space after a digit"},
+    {printed, 25, "K  ", 4, 26, "latitude, at the space after a digit"},
     {printed, 25, " K5", 6, 25, "latitude, too long a spelling"},
     {printed, 25, "NF0", 0, 0, "latitude 5400"},
     {printed, 25, "NF1", 5, 25, "latitude 5401"},
@@ -36,7 +36,7 @@ static const text_case texts[] = {
     {printed, 31, "L1X..", 0, 0, "time 2678399"},
     {printed, 31, "L1Y00", 5, 31, "time 2678400"},
     {printed, 31, "   K5", 6, 31, "time, too long a spelling"},
-    {printed, 36, "/K/", 4, 36, "altitude"},
+    {printed, 36, "/K/", 4, 37, "altitude, at the digit behind a solidus"},
     {printed, 39, "K5", 6, 39, "temperature, too long a spelling"},
     {printed, 41, "T0", 0, 0, "direction 360"},
     {printed, 41, "T1", 5, 41, "direction 361"},
@@ -47,7 +47,10 @@ static const text_case texts[] = {
     {printed, 41, "//K5", 6, 43, "the speed's own checks before 7"},
     {printed, 43, " J", 5, 43, "speed -1"},
     {printed, 45, " J", 5, 45, "gust -1"},
-    {printed, 47, "  k", 4, 47, "vapour"},
+    {printed, 31, "     ", 4, 35, "time of spaces alone, at the last"},
+    {printed, 36, "a K", 4, 36, "altitude, at its first byte"},
+    {printed, 45, " /", 4, 46, "gust, at the solidus behind a space"},
+    {printed, 47, "  k", 4, 49, "vapour, at its last byte"},
     {printed, 50, ":", 4, 50, "quality"},
     {printed, 51, "/K", 7, 51, "an absent observation with another byte, at its kind"},
     {printed, 73, "K", 7, 51, "its last byte"},
@@ -58,7 +61,7 @@ static const text_case texts[] = {
     {printed, 218, "\n", 3, 218, "last line's end"},
     {full, 51, "///////////////////////", 7, 76, "a hole, at the next kind"},
     {full, 195, "///////////////////////", 0, 0, "the last one absent"},
-    {full, 77, "/0", 4, 77, "latitude change"},
+    {full, 77, "/0", 4, 78, "latitude change, at the digit behind a solidus"},
     {full, 81, "  J", 5, 81, "time since, -1"},
     {full, 89, "//", 7, 91, "wind of the third observation"},
     {full, 217, "A", 4, 217, "quality of the last one"},
@@ -129,6 +132,47 @@ static void read_all(void)
     text_case_holds(text, 0, 1, 0, "the empty report, not NULL", 0);
 }
 
+/* The packed fields of an observation: the first begins behind the kind, the last ends before the quality. */
+static const size_t first_widths[] = {3, 3, 5, 3, 2, 2, 2, 2, 3}, later_widths[] = {2, 2, 3, 3, 2, 2, 2, 2, 3};
+
+/* What is answered of a report in which this field is the first that can be wrong: 4 at the byte that the lone call
+ * names, 6 at the field's first, and neither where its bytes are those of a figure. */
+static void field_holds(const uint8_t *text, size_t start, size_t width)
+{
+    esk_packed lone = esk_packed_read(text + start, width);
+    esk_answer check = esk_report_check(text, ESK_REPORT_BYTES);
+    esk_report_got got = esk_report_read(text, ESK_REPORT_BYTES);
+    size_t place = start + (lone.code == ESK_BYTE ? lone.place : 0);
+    int as_lone = check.code == lone.code && check.place == place;
+    int as_figure = check.code == ESK_ACCEPTED || check.code == ESK_RANGE || check.code == ESK_DISAGREE;
+    checks++;
+    if ((lone.code == ESK_ACCEPTED ? as_figure : as_lone) && memcmp(&check, &got.answer, sizeof check) == 0)
+        return;
+    fail("one byte is another", "esk_report_check or esk_report_read", text, ESK_REPORT_BYTES);
+    fprintf(stderr, "  field   : %lu bytes from byte %lu on, by itself code %u place %u\n", (unsigned long)width,
+            (unsigned long)start, (unsigned)lone.code, (unsigned)lone.place);
+    wrong_answer(check.code == lone.code && check.place == place ? got.answer : check, lone.code, place, 0);
+}
+
+/* Every byte of every packed field, each other byte in its stead. */
+static void damage_all(void)
+{
+    static const size_t starts[] = {24, 51, 76, 99, 124, 147, 172, 195};
+    uint8_t text[ESK_REPORT_BYTES];
+    for (size_t i = 0; i < 8; i++) {
+        const size_t *widths = i == 0 ? first_widths : later_widths;
+        size_t start = starts[i] + 1;
+        for (size_t field = 0; field < 9; start += widths[field++])
+            for (size_t at = start; at < start + widths[field]; at++)
+                for (unsigned byte = 0; byte < 256; byte++) {
+                    memcpy(text, full, sizeof text);
+                    text[at] = (uint8_t)byte;
+                    field_holds(text, start, widths[field]);
+                }
+        HOLD(start == starts[i] + (i == 0 ? 26 : 22));
+    }
+}
+
 static int is_figure(esk_figure figure, int32_t number)
 {
     return figure.given == 1 && figure.number == number;
@@ -191,6 +235,7 @@ int main(void)
     layout();
     members();
     read_all();
+    damage_all();
     printf("test_report: %lu checks passed\n", checks);
     return 0;
 }
