@@ -99,7 +99,8 @@ const subcommand packed_subcommand = {
     "read FIELD.. | write NUMBER WIDTH",
     "Reads packed figures, and writes them",
     "  read         fields of 1 to 5 bytes, in quotes where they begin with a space;\n"
-    "               solidi are a missing figure\n"
+    "               solidi are a missing figure; the mark stands under the first byte\n"
+    "               with which no figure could go on\n"
     "  write        a whole number, or the word missing, in WIDTH bytes\n",
     run,
     0,

@@ -324,11 +324,30 @@ static void word_command_figure(const uint8_t *text, size_t length, size_t place
     snprintf(to + at, room - at, " is not %s", f->range);
 }
 
-/* A packed figure is told as the number that it is too; one that is no number has the code's words. */
+/* Why no packed field goes on from its first `at` bytes with the next one. */
+static void word_packed_byte(const uint8_t *bytes, size_t at, char *to, size_t room)
+{
+    char byte[5];
+    name_bytes(bytes + at, 1, byte, sizeof byte);
+    if (bytes[at] == ' ' && (at == 0 || bytes[at - 1] == ' '))
+        snprintf(to, room, "spaces alone are no figure");
+    else if (at > 0 && bytes[0] == '/')
+        snprintf(to, room, "%s behind a solidus: a missing figure is solidi alone", *byte == ' ' ? "a space" : byte);
+    else if (bytes[at] == '/')
+        snprintf(to, room, "/ behind another byte: a missing figure is solidi alone");
+    else if (bytes[at] == ' ')
+        snprintf(to, room, "a space behind a digit");
+    else
+        snprintf(to, room, "%s is no digit: they are 0 to 9, A to Z and : , - .", byte);
+}
+
+/* A packed figure is told as the number that it is too; one that is none by the byte at fault, or by the code's words. */
 static void word_report_field(const uint8_t *text, size_t length, esk_answer a, char *to, size_t room)
 {
     size_t number, bytes;
     const field *f = report_field(a.place, &number, &bytes);
+    if (f != NULL && f->packed && a.code == ESK_BYTE && a.place < length)
+        word_packed_byte(text + a.place + bytes - f->bytes, f->bytes - bytes, to, room);
     if (f == NULL || f->range == NULL || bytes > length - a.place || f->packed != (a.code == ESK_RANGE))
         return;
     size_t at = name_bytes(text + a.place, bytes, to, room);
@@ -347,4 +366,6 @@ void word_figure(subject kind, const uint8_t *text, size_t length, esk_answer a,
         word_command_figure(text, length, a.place, to, room);
     else if (kind == A_REPORT)
         word_report_field(text, length, a, to, room);
+    else if (kind == A_FIELD && a.code == ESK_BYTE && a.place < length)
+        word_packed_byte(text, a.place, to, room);
 }

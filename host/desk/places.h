@@ -9,8 +9,9 @@
 /* Writes the field's name, or nothing where the place is in none. */
 void name_place(subject kind, const uint8_t *text, size_t length, size_t place, char *to, size_t room);
 
-/* Of a figure that is refused for its bytes or its range: what stands there, and what may. The verdict is the answer's;
- * nothing is written where the layout has no range for the place. */
+/* Of a figure that is refused for its bytes or its range: what stands there, and what may; of a packed one that is none,
+ * why its byte at the place is not allowed. The verdict is the answer's; nothing is written where the layout has no range
+ * for the place. */
 void word_figure(subject kind, const uint8_t *text, size_t length, esk_answer a, char *to, size_t room);
 
 /* Where a record of a command was refused: the place that its text would have. */

@@ -24,7 +24,34 @@ END
 answers 1 'more digits than the figure needs' packed read K5
 err_is 'eskelvor: field: refused: code 6 at byte 0: a number in a spelling other than its one spelling' '  K5' '  ^'
 answers 1 'a solidus among others' packed read --json /5
-json_has results.0.code=4 results.0.text=/5 results.0.field=null status=1
+json_has results.0.code=4 results.0.place=1 results.0.text=/5 results.0.field=null \
+    'results.0.because=5 behind a solidus: a missing figure is solidi alone' status=1
+
+# The mark stands under the byte up to which a field could still be right, and the words say what is wrong with it
+solidi='a missing figure is solidi alone'
+digits='they are 0 to 9, A to Z and : , - .'
+while IFS='|' read -r field place said; do
+    answers 1 "the byte at fault of '$field'" packed read -- "$field"
+    err_is "eskelvor: field: refused: code 4 at byte $place: $said" "  $field" "$(printf '  %*s^' "$place" '')"
+    answers 1 "the byte at fault of '$field', for a machine" packed read --json -- "$field"
+    json_has results.0.code=4 "results.0.place=$place" "results.0.because=$said"
+done <<END
+/5|1|5 behind a solidus: $solidi
+////K|4|K behind a solidus: $solidi
+/ |1|a space behind a solidus: $solidi
+ /|1|/ behind another byte: $solidi
+K/|1|/ behind another byte: $solidi
+  |1|spaces alone are no figure
+ |0|spaces alone are no figure
+     |4|spaces alone are no figure
+K  /|1|a space behind a digit
+ K K|2|a space behind a digit
+a5|0|a is no digit: $digits
+ Kk|2|k is no digit: $digits
+END
+answers 1 'a byte that is not printable takes four columns, and the mark stands under its first' \
+    packed read -- "$(printf 'K\001\001')"
+err_is "eskelvor: field: refused: code 4 at byte 1: \\x01 is no digit: $digits" '  K\x01\x01' '   ^'
 answers 1 'no field, and six bytes' packed read --json '' KKKKKK
 json_has results.0.code=1 results.0.length=0 \
     results.1.code=1 results.1.length=6 'results.1.meaning=a packed field has 1 to 5 bytes'

@@ -124,6 +124,15 @@ err_is "eskelvor: $scratch/mark, report 1 from byte 0 on: $refused" \
     '  AMDAR3AU\x1b137\x0d\x0a' \
     '        ^'
 
+{ head -c 25 "$one" && printf 'I/Z' && tail -c +29 "$one"; } >"$scratch/mark"
+answers 1 'the mark stands under the byte of a packed field, not under its first' report "$scratch/mark"
+refused='refused: code 4 at byte 26, latitude of observation 1: / behind another byte: a missing figure is solidi alone'
+err_is "eskelvor: $scratch/mark, report 1 from byte 0 on: $refused" \
+    '  RI/ZPF: YZ9FLAED5RT U L///9R .IM UKM335UQEKQ M///9\x0d\x0a' \
+    '    ^'
+answers 1 'the same for a machine' report --json "$scratch/mark"
+json_has results.0.code=4 results.0.place=26 'results.0.field=latitude of observation 1'
+
 for place in 0:departure 4:arrival 8:'line end' 10:AMDAR3 22:'line end' 24:'kind of observation 1' \
     50:'quality of observation 1' 51:'kind of observation 2' 73:'quality of observation 2' 74:'line end' \
     76:'kind of observation 3' 122:'line end'; do
@@ -133,21 +142,25 @@ for place in 0:departure 4:arrival 8:'line end' 10:AMDAR3 22:'line end' 24:'kind
     json_has "results.0.place=$at" "results.0.field=${place#*:}"
 done
 
-# A figure, what stood there, and its range; where the bytes are no figure, what the code means
-while IFS='|' read -r at bytes said; do
+# A figure, what stood there, and its range; where the bytes are no figure, the byte at fault and why
+while IFS='|' read -r at bytes place said; do
     { head -c "$at" "$one" && printf %s "$bytes" && tail -c +$((at + ${#bytes} + 1)) "$one"; } >"$scratch/figure"
     answers 1 "a figure in words: $said" report "$scratch/figure"
-    err_has "at byte $at, $said"
+    err_has "at byte $place, $said"
 done <<'END'
-0|ymml|departure: ymml is not four letters A to Z or digits
-24|Q|kind of observation 1: Q is not A, D, R, W, U or E
-25|ZZZ|latitude of observation 1: ZZZ is 25435, not -5400 to 5400 minutes
-25|Z/Z|latitude of observation 1: a byte that is not allowed there
-25| K5|latitude of observation 1: a number in a spelling other than its one spelling
-31|  J|time of observation 1:   J9F is -1225, not 0 to 2678399 seconds
-50|x|quality of observation 1: x is not 0 to 9 or /
-51|Q|kind of observation 2: Q is not A, D, R, W, U, E or /
-56|  J|time since of observation 2:   J is -1, not 0 to 31999 seconds
+0|ymml|0|departure: ymml is not four letters A to Z or digits
+24|Q|24|kind of observation 1: Q is not A, D, R, W, U or E
+25|ZZZ|25|latitude of observation 1: ZZZ is 25435, not -5400 to 5400 minutes
+25|Z/Z|26|latitude of observation 1: / behind another byte: a missing figure is solidi alone
+25|   |27|latitude of observation 1: spaces alone are no figure
+31|K    |32|time of observation 1: a space behind a digit
+41|/5|42|wind direction of observation 1: 5 behind a solidus: a missing figure is solidi alone
+56| Ux|58|time since of observation 2: x is no digit: they are 0 to 9, A to Z and : , - .
+25| K5|25|latitude of observation 1: a number in a spelling other than its one spelling
+31|  J|31|time of observation 1:   J9F is -1225, not 0 to 2678399 seconds
+50|x|50|quality of observation 1: x is not 0 to 9 or /
+51|Q|51|kind of observation 2: Q is not A, D, R, W, U, E or /
+56|  J|56|time since of observation 2:   J is -1, not 0 to 31999 seconds
 END
 
 done_with 'reports shown, cut and refused'
