@@ -11,6 +11,14 @@ def read_packed(field: Text) -> Optional[int]:
 
     >>> read_packed("INZ"), read_packed("  K"), read_packed("//")
     (-2245, 0, None)
+
+    A byte that is not allowed is refused at its own offset: the first up to and with which no field could begin.
+
+    >>> try:
+    ...     read_packed("K  /")
+    ... except eskelvor.ByteNotAllowed as refusal:
+    ...     refusal.place
+    1
     """
     data = as_bytes(field)
     got = lib.esk_packed_read(data, len(data))

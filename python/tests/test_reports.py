@@ -23,7 +23,8 @@ class Packed(Case):
 
     def test_refusals(self) -> None:
         self.refused(6, 0, lambda: read_packed("K5"), kind=eskelvor.WrongSpelling)
-        self.refused(4, 0, lambda: read_packed("/5"), kind=eskelvor.ByteNotAllowed)
+        for field, place in (("/5", 1), (" /", 1), ("  ", 1), (" ", 0), ("K/", 1), ("a5", 0), ("K  /", 1), ("////K", 4)):
+            self.refused(4, place, lambda: read_packed(field), kind=eskelvor.ByteNotAllowed)
         self.refused(1, 0, lambda: read_packed(b""), kind=eskelvor.WrongLength)
         self.refused(1, 0, lambda: read_packed(b"     K"))
         self.refused(4, 0, lambda: read_packed("\u00e9"))
@@ -85,7 +86,8 @@ class One(Case):
     def test_refused_texts(self) -> None:
         changes = [
             (0, b"a", 4, 0), (5, b" ", 4, 4), (8, b"\n", 3, 8), (15, b"4", 3, 10), (21, b"/", 4, 16), (24, b"/", 4, 24),
-            (25, b" K5", 6, 25), (25, b"NF1", 5, 25), (41, b"//", 7, 43), (50, b":", 4, 50), (73, b"K", 7, 51),
+            (25, b" K5", 6, 25), (25, b"NF1", 5, 25), (25, b"K  ", 4, 26), (31, b"     ", 4, 35), (36, b"/K/", 4, 37),
+            (41, b"//", 7, 43), (50, b":", 4, 50), (73, b"K", 7, 51),
             (76, b"R", 7, 76), (218, b"\n", 3, 218),
         ]
         for at, put, code, place in changes:
