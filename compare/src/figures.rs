@@ -1,11 +1,12 @@
-//! Document 01, "Figures to hold against the code".
+//! Document 01, "Figures to hold against the code", with the places that document 02, §11, gives to code 4.
 
 /// What a printed packed field stands for.
 #[derive(Clone, Copy, Debug, PartialEq, Eq)]
 pub enum Printed {
     Figure(i32),
     Missing,
-    Code(u8),
+    /// A code and its place.
+    Code(u8, u32),
 }
 
 use Printed::{Code, Figure, Missing};
@@ -20,9 +21,9 @@ pub const PACKED: [(&[u8], Printed); 12] = [
     (b"  K", Figure(0)),
     (b"KK", Figure(20)),
     (b"JJ", Figure(-21)),
-    (b"K5", Code(6)),
+    (b"K5", Code(6, 0)),
     (b"//", Missing),
-    (b"/5", Code(4)),
+    (b"/5", Code(4, 1)),
 ];
 
 /// The printed report: one observation, no gust or vapour.

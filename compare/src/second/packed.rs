@@ -31,20 +31,17 @@ fn fits(figure: i32, digits: usize) -> bool {
     -HALF[digits] <= figure && figure < HALF[digits]
 }
 
-/// Reads a lone field; a missing figure is `None`. Every refusal of a lone field stands at place 0.
+/// Reads a lone field; a missing figure is `None`.
 pub fn read(field: &[u8]) -> Result<Option<i32>, Refusal> {
     if field.is_empty() || field.len() > 5 {
         return refuse(LENGTH, 0);
     }
-    match figure(field) {
-        Ok(figure) => Ok(figure),
-        Err(code) => refuse(code, 0),
-    }
+    figure(field)
 }
 
-/// The figure of a field of 1 to 5 bytes, or the code that refuses it: 4 before 6.
+/// The figure of a field of 1 to 5 bytes: 4 before 6. A refusal's place is counted from the field's first byte.
 #[inline(always)]
-pub fn figure(field: &[u8]) -> Result<Option<i32>, u8> {
+pub fn figure(field: &[u8]) -> Result<Option<i32>, Refusal> {
     let mut spaces = 0;
     while spaces < field.len() && field[spaces] == b' ' {
         spaces += 1;
@@ -59,23 +56,53 @@ pub fn figure(field: &[u8]) -> Result<Option<i32>, u8> {
         sum = sum * 40 + u32::from(worth);
     }
     if digits == 0 {
-        return Err(BYTE);
+        return refuse(BYTE, offending(field));
     }
     let figure = sum as i32 - HALF[digits];
     if fits(figure, digits - 1) {
-        return Err(SPELLING);
+        return refuse(SPELLING, 0);
     }
     Ok(Some(figure))
 }
 
 /// A field wholly `/` is a missing figure; any other field with a byte that is no digit is refused.
 #[inline(always)]
-fn without_digits(field: &[u8]) -> Result<Option<i32>, u8> {
+fn without_digits(field: &[u8]) -> Result<Option<i32>, Refusal> {
     if field.iter().all(|&byte| byte == b'/') {
         Ok(None)
     } else {
-        Err(BYTE)
+        refuse(BYTE, offending(field))
     }
+}
+
+/// Where code 4 points: "the first byte, left to right, up to and with which no field of that width free of code 4 could
+/// begin". The field itself is not free of it, so there is one.
+#[cold]
+#[inline(never)]
+fn offending(field: &[u8]) -> usize {
+    (0..field.len()).find(|&at| !begins(&field[..=at], field.len())).expect("a field that code 4 refuses")
+}
+
+/// Whether a field of a width that is free of code 4 could begin with some bytes: all are tried, with one digit for the
+/// forty, of which code 4 tells none from another.
+fn begins(front: &[u8], width: usize) -> bool {
+    let length = front.len();
+    if length == width {
+        return free(front);
+    }
+    let mut longer = [0; 5];
+    longer[..length].copy_from_slice(front);
+    b" /0".iter().any(|&next| {
+        longer[length] = next;
+        begins(&longer[..=length], width)
+    })
+}
+
+/// Whether a field is free of code 4: "leading spaces, then at least one digit", or "wholly `/`".
+fn free(field: &[u8]) -> bool {
+    let spaces = field.iter().take_while(|&&byte| byte == b' ').count();
+    let digits = field[spaces..].iter().all(|&byte| WORTH[usize::from(byte)] != NONE);
+    digits && spaces < field.len() || field.iter().all(|&byte| byte == b'/')
 }
 
 /// Writes a figure, or a missing one, at the start of `out`: code 1 for the width, then 5, then 7 for a figure that is

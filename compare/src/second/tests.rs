@@ -23,7 +23,7 @@ fn printed_packed_fields() {
         let want = match printed {
             Printed::Figure(number) => Ok(Some(number)),
             Printed::Missing => Ok(None),
-            Printed::Code(number) => Err(code(number, 0)),
+            Printed::Code(number, place) => Err(code(number, place)),
         };
         assert_eq!(packed::read(field), want, "{}", field.escape_ascii());
         if let Ok(figure) = want {
@@ -57,8 +57,55 @@ fn packed_spans_and_order() {
 
 #[test]
 fn packed_bytes_not_allowed() {
-    for field in [&b" "[..], b"  ", b"K ", b" K K", b"/K", b"K/", b" /", b"/ ", b"k", b"\xff", b"K\x80", b"\0"] {
-        assert_eq!(packed::read(field), Err(code(4, 0)), "{}", field.escape_ascii());
+    let fields: [(&[u8], u32); 22] = [
+        (b" ", 0),
+        (b"  ", 1),
+        (b"     ", 4),
+        (b"K ", 1),
+        (b" K K", 2),
+        (b"K  /", 1),
+        (b"/K", 1),
+        (b"/5", 1),
+        (b"//// ", 4),
+        (b"///K/", 3),
+        (b"K/", 1),
+        (b" /", 1),
+        (b"  / K", 2),
+        (b"    /", 4),
+        (b"/ ", 1),
+        (b"k", 0),
+        (b"a5", 0),
+        (b"5a", 1),
+        (b" \0KK", 1),
+        (b"\xff", 0),
+        (b"K\x80", 1),
+        (b"\0", 0),
+    ];
+    for (field, place) in fields {
+        assert_eq!(packed::read(field), Err(code(4, place)), "{}", field.escape_ascii());
+    }
+}
+
+/// Every field of 1 to 3 bytes, of all 256: the fields that code 4 spares are marked with all that they begin with, and
+/// every other field's place is the first byte up to and with which it is no such beginning.
+#[test]
+fn every_place_of_code_4() {
+    let number = |bytes: &[u8]| bytes.iter().fold(0, |number, &byte| number << 8 | usize::from(byte));
+    for width in 1..=3 {
+        let mut began: Vec<Vec<bool>> = (0..=width).map(|length| vec![false; 1 << (8 * length)]).collect();
+        let fields = || (0..1u32 << (8 * width)).map(|number| number.to_be_bytes());
+        let refused = |field: &[u8]| packed::read(field).err().filter(|refusal| refusal.code == 4);
+        for bytes in fields() {
+            let field = &bytes[4 - width..];
+            if refused(field).is_none() {
+                (1..=width).for_each(|length| began[length][number(&field[..length])] = true);
+            }
+        }
+        for bytes in fields() {
+            let field = &bytes[4 - width..];
+            let first = (1..=width).find(|&length| !began[length][number(&field[..length])]);
+            assert_eq!(refused(field), first.map(|length| code(4, length as u32 - 1)), "{}", field.escape_ascii());
+        }
     }
 }
 
@@ -91,7 +138,7 @@ fn report_codes_and_places() {
     assert_eq!(report::check(b""), Err(code(1, 0)));
     assert_eq!(report::check(&REPORT[..219]), Err(code(1, 0)));
     let later = b"R K K  K  K K K K K  K0";
-    let cases: [(usize, &[u8], Option<Refusal>); 24] = [
+    let cases: [(usize, &[u8], Option<Refusal>); 28] = [
         (3, b"d", Some(code(4, 0))),
         (7, b"/", Some(code(4, 4))),
         (9, b"\r", Some(code(3, 8))),
@@ -99,7 +146,10 @@ fn report_codes_and_places() {
         (21, b"-", Some(code(4, 16))),
         (22, b"\n\r", Some(code(3, 22))),
         (24, b"/", Some(code(4, 24))),
-        (25, b"/  ", Some(code(4, 25))),
+        (25, b"/  ", Some(code(4, 26))),
+        (25, b"   ", Some(code(4, 27))),
+        (31, b"   K ", Some(code(4, 35))),
+        (47, b"a//", Some(code(4, 47))),
         (28, b" 00", None),
         (28, b".00", Some(code(5, 28))),
         (31, b"    J", Some(code(5, 31))),
@@ -108,13 +158,14 @@ fn report_codes_and_places() {
         (41, b"J.", Some(code(6, 41))),
         (41, b"//", Some(code(7, 43))),
         (43, b"//", Some(code(7, 43))),
-        (43, b"/ ", Some(code(4, 43))),
+        (43, b"/ ", Some(code(4, 44))),
         (50, b":", Some(code(4, 50))),
         (60, b"X", Some(code(7, 51))),
         (74, b"/", Some(code(3, 74))),
         (76, b"A", Some(code(7, 76))),
         (76, b"X", Some(code(4, 76))),
         (51, later, None),
+        (51, b"R K K  /  K K K K K  K0", Some(code(4, 58))),
         (51, b"R//////////////////////", None),
     ];
     for (at, bytes, want) in cases {
