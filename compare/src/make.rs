@@ -31,12 +31,12 @@ pub fn odd_byte(random: &mut Random) -> u8 {
     }
 }
 
-/// A field of 0 to 6 bytes.
+/// A field of 4 or 5 bytes, or rarely of 0 or 6: shorter ones are compared whole.
 pub fn packed_field(random: &mut Random) -> Vec<u8> {
-    let width = match random.below(40) {
+    let width = match random.below(200) {
         0 => 0,
         1 => 6,
-        other => 1 + other % 5,
+        other => 4 + other % 2,
     };
     packed_field_of(random, width)
 }

@@ -39,7 +39,7 @@ pub fn families(run: &mut Run) {
         Ok(())
     });
     let turns = run.turns(5_000_000);
-    run.family("packed-random", "fields of 0 to 6 bytes, valid, near and damaged", |random, queue| {
+    run.family("packed-random", "fields of 4 and 5 bytes, and of 0 and 6, valid, near and damaged", |random, queue| {
         for _ in 0..turns {
             queue.case(Case::PackedRead(make::packed_field(random)))?;
         }
@@ -60,7 +60,7 @@ fn printed(field: &[u8], figure: Printed) -> Done {
     let want = match figure {
         Printed::Figure(number) => Ok(Some(number)),
         Printed::Missing => Ok(None),
-        Printed::Code(code) => Err(Refusal { code, place: 0 }),
+        Printed::Code(code, place) => Err(Refusal { code, place }),
     };
     let got = packed::read(field);
     if got == want {
