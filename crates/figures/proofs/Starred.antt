@@ -2,7 +2,7 @@
 use mathlib.Core.Path.{refl}
 use lib.IntN.{pos}
 use Rattle.text.specs.Equal.{sameBytes}
-use Rattle.packed.specs.Packed.{worthOf, halfOf, number, allSolidi, trim, allDigits, spelt, readPacked}
+use Rattle.packed.specs.Packed.{worthOf, halfOf, number, allSolidi, trim, allDigits, ahead, fault, spelt, readPacked}
 use Rattle.section.specs.Layout.{layoutOf, tableOf, checkItems, itemsSize, itemsMost}
 use Rattle.field.specs.Fields.{checkDigits, checkDelimiter}
 use Rattle.command.specs.Text.{checkEach, checkAwr04, checkHead, checkFrom, sectionsMost, longest, checkCommand}
@@ -12,5 +12,5 @@ use Rattle.field.specs.Decimal.{allDigits as allDecimal, valueFrom}
 use Rattle.figures.specs.Starred.{table, AllHold}
 
 pub starred : AllHold table
-unfolding table worthOf halfOf number allSolidi trim allDigits spelt readPacked sameBytes layoutOf tableOf itemsSize itemsMost checkDelimiter checkEach checkAwr04 checkHead checkFrom sectionsMost checkCommand noChange placeFrom choose joinSections joinText join valueFrom checkItems checkDigits allDecimal
+unfolding table worthOf halfOf number allSolidi trim allDigits ahead fault spelt readPacked sameBytes layoutOf tableOf itemsSize itemsMost checkDelimiter checkEach checkAwr04 checkHead checkFrom sectionsMost checkCommand noChange placeFrom choose joinSections joinText join valueFrom checkItems checkDigits allDecimal
 starred = (refl, (refl, (refl, (refl, (refl, (refl, (refl, (refl, (refl, (refl, (refl, (refl, ((refl, refl), (refl, tt))))))))))))))

@@ -28,7 +28,7 @@ abbrev pub AllHold : List Starred → Type 0
 AllHold [] = Unit
 AllHold (x ∷ xs) = Holds x × AllHold xs
 
--- the starred figures, in document 01's order
+-- the starred figures, in document 01's order; document 02, §11, moved the place of the last field's code 4
 unfoldable pub table : List Starred
 table =
     Field (bytes "INZ") (Is (Given (negsuc 2244)))
@@ -42,7 +42,7 @@ table =
     ∷ Field (bytes "JJ") (Is (Given (negsuc 20)))
     ∷ Field (bytes "K5") (Refused 6 0)
     ∷ Field (bytes "//") (Is Missing)
-    ∷ Field (bytes "/5") (Refused 4 0)
+    ∷ Field (bytes "/5") (Refused 4 1)
     ∷ NoChange (bytes "AWR049999999000000000/")
     ∷ Join (bytes "AWR041999999000400000/151/") (bytes "AWR049199999100400009/300/2301/") (bytes "AWR041199999100400009/300/2301/")
     ∷ []

@@ -55,6 +55,10 @@ pub space-none : worthOf 32 ≡ 40
 unfolding worthOf
 space-none = refl
 
+pub solidus-none : worthOf 47 ≡ 40
+unfolding worthOf
+solidus-none = refl
+
 -- ---- a spelling's digits, their number and what they spell
 
 pub spell-length : (k n : ℕ) (ds : List ℕ) → length (spell k n ds) ≡ k + length ds

@@ -2,6 +2,7 @@
 mod Bounds
 pub mod Decoding
 pub mod Digits
+pub mod Fault
 pub mod Put
 pub mod Refusal
 pub mod RoundTrip

@@ -4,10 +4,12 @@ use mathlib.Core.Bool.{Bool, true, false, _&&_}
 use mathlib.Core.List.{List}
 use Prim.Native.Nat.{ℕ, _-_, _≤_}
 use native.Mathlib.Omega.{arith}
-use lib.Dec.{ltb}
+use lib.Dec.{leb, ltb}
+use borrow.Author.Tests.{leb-true}
 use lib.ListN.{length}
-use Rattle.text.proofs.Cases.{by-test}
+use Rattle.text.proofs.Cases.{by-test, both-right}
 use Rattle.packed.specs.Packed.{readPacked, spelt, widthOk, allSolidi, allDigits, trim, fault, number, holds, figureOf, placeOf}
+use Rattle.packed.proofs.Fault.{fault-le}
 use Rattle.packed.specs.declared.Figure.{Figure}
 use Rattle.packed.specs.declared.Packed.{Packed}
 use Rattle.packed.specs.declared.Packed.the-variants.{Is, Refused}
@@ -17,9 +19,6 @@ same-place e = cc
 
 no-refusal {ℓ} : {P : Type ℓ} {x : Figure} {code place : ℕ} → Is x ≡ Refused code place → P
 no-refusal e = let z : _≡_ {A = ℕ} 0 1 = cc in absurd (omega arith)
-
-fault-near : (f : List ℕ) → fault f ≤ 5
-fault-near f = omega arith
 
 spelt-near : (n k code place : ℕ) → spelt n k ≡ Refused code place → place ≤ 5
 unfolding spelt
@@ -42,7 +41,8 @@ refused-near f code place e =
     spelt-near (number 0 (trim f)) (length (trim f)) code place (rw (w, s, t) at e))
     (λ (t : (ltb 0 (length (trim f)) && allDigits (trim f)) ≡ false).
     let p : fault f ≡ place = same-place (rw (w, s, t) at e) in
-    omega (arith, fault-near f))))
+    let b : length f ≤ 5 = leb-true (length f) 5 (both-right (leb 1 (length f)) (leb (length f) 5) w) in
+    omega (arith, fault-le f))))
     (λ (w : widthOk (length f) ≡ false). let p = same-place (rw w at e) in omega arith)
 
 -- the same of an answer's place, which is 0 where there is no refusal

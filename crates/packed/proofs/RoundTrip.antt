@@ -58,7 +58,7 @@ trim-digits (b ∷ bs) e =
     let d : worthOf b < 40 = ltb-true (worthOf b) 40 (both-left (ltb (worthOf b) 40) (allDigits bs) e) in
     rw (ne-eqb b 32 (λ (s : b ≡ 32). let z : worthOf b ≡ 40 = ap worthOf s ∙ space-none in omega arith))
 
-trim-length : (f : List ℕ) → length (trim f) ≤ length f
+pub trim-length : (f : List ℕ) → length (trim f) ≤ length f
 unfolding trim
 trim-length [] = omega arith
 trim-length (b ∷ bs) =

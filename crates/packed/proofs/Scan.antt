@@ -14,8 +14,9 @@ use lib.Arith.{digits-lt}
 use borrow.Author.Tests.{ltb-true, eqb-true, le-leb}
 use lib.Dec.{eqb}
 use Rattle.text.proofs.Cases.{by-test, both-left, both-right}
-use Rattle.packed.specs.Packed.{trim, allSolidi, allDigits, worthOf, number, readPacked, spelt, halfOf}
+use Rattle.packed.specs.Packed.{trim, allSolidi, allDigits, worthOf, number, readPacked, spelt, halfOf, ahead}
 use Rattle.packed.specs.Inner.{numberOf, otherField}
+use Rattle.packed.proofs.Digits.{solidus-none}
 use Rattle.packed.specs.declared.read.Number.the-variants.{Whole, Other}
 
 pub next : (l : List ℕ) (i : ℕ) → i < length l → drop i l ≡ getD l i 0 ∷ drop (i + 1) l
@@ -94,17 +95,13 @@ and-false : (t : Bool) → (t && false) ≡ false
 and-false true = refl
 and-false false = refl
 
-digit-solidus : worthOf 47 ≡ 40
-unfolding worthOf
-digit-solidus = refl
-
 -- solidi are no digits
 pub solidi-none : (f : List ℕ) → allSolidi f ≡ true → (ltb 0 (length (trim f)) && allDigits (trim f)) ≡ false
 unfolding allSolidi trim allDigits
 solidi-none [] e = refl
 solidi-none (b ∷ bs) e =
     let s : b ≡ 47 = eqb-true b 47 (both-left (eqb b 47) (allSolidi bs) e) in
-    rw (s, digit-solidus) (and-false (ltb 0 (suc (length bs))))
+    rw (s, solidus-none) (and-false (ltb 0 (suc (length bs))))
 
 -- a run of digits behind spaces is read as it is spelt
 pub read-digits : (f : List ℕ) (n : ℕ) → 1 ≤ length f → length f ≤ 5 → numberOf (trim f) ≡ Whole n
@@ -135,6 +132,20 @@ whole-digits ds n e =
     (λ (t : (ltb 0 (length ds) && allDigits ds) ≡ true).
     (both-right (ltb 0 (length ds)) (allDigits ds) t, whole-is (rw t at e), ltb-true 0 (length ds) (both-left (ltb 0 (length ds)) (allDigits ds) t)))
     (λ (t : (ltb 0 (length ds) && allDigits ds) ≡ false). absurd (other-whole (rw t at e)))
+
+-- bytes that are such, from a place on
+pub ahead-step : (test : ℕ → Bool) (l : List ℕ) (i : ℕ) → i < length l → test (getD l i 0) ≡ true
+    → i + ahead test (drop i l) ≡ i + 1 + ahead test (drop (i + 1) l)
+unfolding ahead
+ahead-step test l i h e = rw (next l i h, e) (omega arith)
+
+pub ahead-stop : (test : ℕ → Bool) (l : List ℕ) (i : ℕ) → i < length l → test (getD l i 0) ≡ false → i + ahead test (drop i l) ≡ i
+unfolding ahead
+ahead-stop test l i h e = rw (next l i h, e) (omega arith)
+
+pub ahead-end : (test : ℕ → Bool) (l : List ℕ) (i : ℕ) → length l ≤ i → i + ahead test (drop i l) ≡ i
+unfolding ahead
+ahead-end test l i h = rw (drop-of-length-le l h) (omega arith)
 
 -- the part of a slice from a place to its end
 pub tail : (l : List ℕ) (i : ℕ) → take (length l - i) (drop i l) ≡ drop i l

@@ -77,9 +77,28 @@ unfoldable pub allDigits : List ℕ → Bool
 allDigits [] = true
 allDigits (b ∷ bs) = ltb (worthOf b) 40 && allDigits bs
 
--- where code 4 points: the field's first byte
-abbrev pub fault : List ℕ → ℕ
-fault f = 0
+-- ---- Where code 4 points: the first byte up to and with which no field of that width free of code 4 could begin
+
+abbrev pub isSolidus : ℕ → Bool
+isSolidus b = eqb b 47
+
+abbrev pub isDigit : ℕ → Bool
+isDigit b = ltb (worthOf b) 40
+
+-- how many bytes stand before the first that is not such
+unfoldable pub ahead : (ℕ → Bool) → List ℕ → ℕ
+ahead test [] = 0
+ahead test (b ∷ bs) = cond (test b) (suc (ahead test bs)) 0
+
+-- the first byte behind the leading spaces that is no digit; of spaces alone the last
+unfoldable pub faultBehind : List ℕ → ℕ
+faultBehind f = cond (eqb (length (trim f)) 0) (length f - 1) (length f - length (trim f) + ahead isDigit (trim f))
+
+-- a field that begins with a solidus has solidi alone, any other spaces and digits
+unfoldable pub fault : List ℕ → ℕ
+fault f = cond (ltb 0 (ahead isSolidus f)) (ahead isSolidus f) (faultBehind f)
+
+-- ---- What is read
 
 -- k digits that spell n: 6 where fewer would hold the figure
 unfoldable pub spelt : ℕ → ℕ → Packed

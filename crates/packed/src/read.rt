@@ -8,7 +8,17 @@ use crate::table::worth_table;
 ghost use mathlib.Core.Path.{_≡_};
 ghost use Prim.Native.Nat.{_≤_, _<_, _^_};
 ghost use lib.ListN.{length, drop};
-ghost use Rattle.packed.specs.Packed.{worths, readPacked, spelt, trim, allSolidi, halfOf};
+ghost use Rattle.packed.specs.Packed.{
+  worths,
+  readPacked,
+  spelt,
+  trim,
+  halfOf,
+  isSolidus,
+  isDigit,
+  ahead,
+  faultBehind,
+};
 ghost use Rattle.packed.specs.Inner.{numberOf, otherField};
 
 // A run of digits as the number that it spells, or that it is no such run.
@@ -58,17 +68,33 @@ fn number_of(t: &[u8; 256], s: &[u8]) -> Number
     Number::Whole(n)
 }
 
-fn all_solidi(f: &[u8]) -> bool
-    ensures { λ r. ⌜ r ≡ allSolidi (now (f .entry)) ⌝ }
+// How many solidi the field begins with.
+fn solidi_ahead(f: &[u8]) -> usize
+    ensures { λ r. ⌜ r ≡ ahead isSolidus (now (f .entry)) ⌝ }
 {
     let mut i = 0;
     while i < f.len() {
         if f[i] != b'/' {
-            return false;
+            return i;
         }
         i += 1;
     }
-    true
+    i
+}
+
+// How many digits it begins with.
+fn digits_ahead(t: &[u8; 256], f: &[u8]) -> usize
+    requires { ⌜ now t ≡ worths ⌝ }
+    ensures { λ r. ⌜ r ≡ ahead isDigit (now (f .entry)) ⌝ }
+{
+    let mut i = 0;
+    while i < f.len() {
+        if 40 <= worth(t, f[i]) {
+            return i;
+        }
+        i += 1;
+    }
+    i
 }
 
 // k digits span -half(k) to half(k) - 1.
@@ -99,14 +125,34 @@ fn figure_of(n: u32, k: usize) -> Packed
     Packed::Is(Figure::Given(x))
 }
 
+// Where a field of neither solidi nor digits goes wrong behind its spaces; at the last of them where there is nothing else.
+fn fault_behind(t: &[u8; 256], f: &[u8]) -> usize
+    requires { ⌜ now t ≡ worths ⌝ }
+    requires { ⌜ (1 ≤ length (now f)) × (length (now f) ≤ 5) ⌝ }
+    ensures { λ r. ⌜ r ≡ faultBehind (now (f .entry)) ⌝ }
+{
+    let w = f.len();
+    let from = behind_spaces(f);
+    if from == w {
+        return w - 1;
+    }
+    from + digits_ahead(t, &f[from..])
+}
+
 // What a field is that is no run of digits behind spaces: missing, where it is wholly solidi.
-fn other(f: &[u8]) -> Packed
+fn other(t: &[u8; 256], f: &[u8]) -> Packed
+    requires { ⌜ now t ≡ worths ⌝ }
+    requires { ⌜ (1 ≤ length (now f)) × (length (now f) ≤ 5) ⌝ }
     ensures { λ r. ⌜ r ≡ otherField (now (f .entry)) ⌝ }
 {
-    if all_solidi(f) {
+    let solidi = solidi_ahead(f);
+    if solidi == f.len() {
         return Packed::Is(Figure::Missing);
     }
-    Packed::Refused(4, 0)
+    if 0 < solidi {
+        return Packed::Refused(4, solidi);
+    }
+    Packed::Refused(4, fault_behind(t, f))
 }
 
 pub fn read(t: &[u8; 256], f: &[u8]) -> Packed
@@ -124,7 +170,7 @@ pub fn read(t: &[u8; 256], f: &[u8]) -> Packed
     let run = number_of(t, &f[from..]);
     match run {
         Number::Whole(n) => figure_of(n, w - from),
-        Number::Other => other(f),
+        Number::Other => other(t, f),
     }
 }
 
