@@ -3,7 +3,7 @@ use mathlib.Core.Path.{_≡_, refl, sym, ap, subst, _∙_}
 use mathlib.Core.Logic.{_⊎_, inl, inr}
 use mathlib.Core.Bool.{Bool, true, false, cond, _&&_}
 use mathlib.Core.List.{List, _++_}
-use Prim.Native.Nat.{ℕ, _-_, _≤_, _<_}
+use Prim.Native.Nat.{ℕ, suc, _-_, _≤_, _<_}
 use native.Mathlib.Omega.{arith}
 use lib.Dec.{leb, ltb, eqb}
 use lib.IntN.{pos}
@@ -18,6 +18,7 @@ use Rattle.packed.specs.declared.Figure.{Figure}
 use Rattle.packed.specs.declared.Figure.the-variants.{Given, Missing}
 use Rattle.packed.specs.declared.Packed.{Packed}
 use Rattle.packed.specs.declared.Packed.the-variants.{Is, Refused}
+use Rattle.packed.proofs.Fault.{none-agrees, agreeing, agreeing-length, agreeing-take, agreeing-free, four-inside}
 use Rattle.packed.proofs.RoundTrip.{field-length, solidi-all, read-solidi, read-back, write-back}
 use Rattle.packed.proofs.Words.{half-is, figure-read, six-read}
 use Rattle.observation.proofs.Codes.{some, OfPacked, packed-coded}
@@ -27,7 +28,7 @@ use Rattle.caller.proofs.Figures.{formed-code}
 use Rattle.caller.proofs.Within.{form-is}
 use Rattle.caller.proofs.Carried.{figure-back, figure-formed}
 use Rattle.desk.specs.Numbers.{accepted, answerOf, packedNumbers, writeAnswer}
-use Rattle.promises.specs.Packed.{read, write, written, figure, Width, Fits, PackedPromises}
+use Rattle.promises.specs.Packed.{read, write, written, figure, Width, Fits, Agree, PackedPromises}
 
 -- ---- Reading
 
@@ -85,6 +86,33 @@ unfolding readPacked
 is-one f n =
     by-test (widthOk (length f)) (λ (t : widthOk (length f) ≡ true). absurd (n (is-width (length f) t)))
     (λ (t : widthOk (length f) ≡ false). rw t)
+
+-- ---- Where code 4 points
+
+-- code 4 is the refusal with 4
+four-read : (f : List ℕ) → read f .code ≡ 4 → readPacked f ≡ Refused 4 (read f .place)
+four-read f e = go (readPacked f) refl e
+  where
+    go : (p : Packed) → readPacked f ≡ p → packedNumbers p .code ≡ 4 → p ≡ Refused 4 (packedNumbers p .place)
+    go (Is (Given x)) h z = nothing (let y : _≡_ {A = ℕ} 0 4 = z in omega arith)
+    go (Is Missing) h z = nothing (let y : _≡_ {A = ℕ} 0 4 = z in omega arith)
+    go (Refused code place) h z = ap (λ (c : ℕ). Refused c place) z
+
+four-is : (f : List ℕ) → read f .code ≡ 4
+    → (read f .place < length f)
+    × ((g : List ℕ) → Agree (suc (read f .place)) f g → read g .code ≡ 4)
+    × ((j : ℕ) → j < read f .place → (g : List ℕ) × Agree (suc j) f g × (¬ (read g .code ≡ 4)))
+four-is f e =
+    let p = read f .place in
+    let r = four-read f e in (
+      four-inside f p r,
+      λ (g : List ℕ) (a : Agree (suc p) f g). ap (λ (q : Packed). packedNumbers q .code) (none-agrees f g p r (a .width) (a .bytes)),
+      λ (j : ℕ) (h : j < p). (
+        agreeing f j,
+        record { width = agreeing-length f p j r h; bytes = agreeing-take f p j r h },
+        λ (z : read (agreeing f j) .code ≡ 4). agreeing-free f p j r h _ (four-read (agreeing f j) z),
+      ),
+    )
 
 -- ---- Writing
 
@@ -194,6 +222,7 @@ packed-promises =
       missing = missing-read;
       missing-only = missing-only;
       one = λ f. (one-is f, is-one f);
+      four = four-is;
       read-write = read-write;
       write-read = write-read;
       writes-only = writes-only;

@@ -40,6 +40,11 @@ pub record Width (w : ℕ) : Type 0 where
 abbrev pub Fits : ℕ → HostFigure → Type 0
 Fits w f = (f ≡ record { number = pos 0; given = 0 }) ⊎ ((f .given ≡ 1) × (mag (f .number) < span w))
 
+-- two fields of one width that have the same first n bytes
+pub record Agree (n : ℕ) (f g : List ℕ) : Type 0 where
+  pub width : length g ≡ length f
+  pub bytes : take n g ≡ take n f
+
 -- ---- The promises
 
 pub record PackedPromises : Type 0 where
@@ -53,6 +58,11 @@ pub record PackedPromises : Type 0 where
   pub missing-only : (f : List ℕ) → read f .code ≡ 0 → read f .given ≡ 0 → f ≡ replicate (length f) 47
   -- code 1
   pub one : (f : List ℕ) → (read f .code ≡ 1) ↔ (¬ Width (length f))
+  -- code 4 points to "the first byte, left to right, up to and with which no field of that width free of code 4 could begin"
+  pub four : (f : List ℕ) → read f .code ≡ 4
+      → (read f .place < length f)
+      × ((g : List ℕ) → Agree (suc (read f .place)) f g → read g .code ≡ 4)
+      × ((j : ℕ) → j < read f .place → (g : List ℕ) × Agree (suc j) f g × (¬ (read g .code ≡ 4)))
   -- each accepted field reads to one figure, which writes back the same bytes
   pub read-write : (f out : List ℕ) → read f .code ≡ 0 → length f ≤ length out
       → (Fits (length f) (figure (read f)))
