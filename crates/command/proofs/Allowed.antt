@@ -106,7 +106,8 @@ box-same b at =
     region-is b at
     ∙ ap₂ _&&_
     (pair-same latitude refl two (b .north) (b .south) _ _ (λ h k. order-same latitude refl two (b .south) (b .north) k h))
-    (pair-same longitude refl three (b .west) (b .east) _ _ (λ h k. order-same longitude refl three (b .west) (b .east) h k))
+    (and-true (edgeIs longitude (b .west) && edgeIs longitude (b .east))
+    ∙ ap₂ _&&_ (edge-same longitude refl three (b .west)) (edge-same longitude refl three (b .east)))
 
 -- ---- Lists
 

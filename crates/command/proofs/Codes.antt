@@ -72,7 +72,7 @@ pair-coded c inOrder s at = search (parts, edge-coded) depth 8
 
 box-coded : (s : List ℕ) (at : ℕ) → Coded (checkBox s at)
 unfolding checkBox
-box-coded s at = search (parts, pair-coded)
+box-coded s at = search (parts, pair-coded, edge-coded)
 
 repeat-coded : (check : ℕ → Step) (n at : ℕ) → ((i : ℕ) → Coded (check i)) → Coded (repeat check n at)
 unfolding repeat

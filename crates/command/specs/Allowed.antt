@@ -39,12 +39,12 @@ allowedEdge most above below e =
 abbrev pub signed : ℕ → Edge → ℤ
 signed below e = cond (eqb (e .letter) below) (negℤ (pos (e .degrees))) (pos (e .degrees))
 
--- two latitudes (0-90, `N` is 78 and `S` is 83), north not below south; two longitudes (0-180, `E` is 69 and `W` is 87), west
--- not above east
+-- two latitudes (0-90, `N` is 78 and `S` is 83), north not below south; two longitudes (0-180, `E` is 69 and `W` is 87) in any
+-- order
 unfoldable pub allowedBox : Region → Bool
 allowedBox b =
     (allowedEdge 90 78 83 (b .north) && allowedEdge 90 78 83 (b .south) && leZ (signed 83 (b .south)) (signed 83 (b .north)))
-    && (allowedEdge 180 69 87 (b .west) && allowedEdge 180 69 87 (b .east) && leZ (signed 87 (b .west)) (signed 87 (b .east)))
+    && (allowedEdge 180 69 87 (b .west) && allowedEdge 180 69 87 (b .east))
 
 -- at most 16 boxes; unused entries are zero
 abbrev pub allowedBoxes : Boxes → Bool

@@ -16,7 +16,7 @@ use Rattle.field.specs.declared.Step.{Step}
 use Rattle.field.specs.declared.Step.the-variants.{Next, Stop}
 use Rattle.field.specs.Decimal.{allDigits, value}
 use Rattle.field.specs.Fields.{after, checkDigits, checkDelimiter, checkAirfield}
-use Rattle.field.specs.Boxes.{latitude, longitude, isLetter, belowZero, edgeAt, northFirst, westFirst, checkEdge, checkPair, checkBox}
+use Rattle.field.specs.Boxes.{latitude, longitude, isLetter, belowZero, edgeAt, northFirst, checkEdge, checkPair, checkBox}
 
 -- ---- Steps
 
@@ -164,20 +164,20 @@ pub record Box (s : List ℕ) (at : ℕ) : Type 0 where
   pub falling : northFirst (edgeAt latitude s at) (edgeAt latitude s (at + 3)) ≡ true
   pub west : checkEdge longitude s (at + 6) ≡ Next (at + 10)
   pub east : checkEdge longitude s (at + 10) ≡ Next (at + 14)
-  pub rising : westFirst (edgeAt longitude s (at + 6)) (edgeAt longitude s (at + 10)) ≡ true
 
 module _ (s : List ℕ) (at : ℕ) where
   -- an accepted box
   pub box : (p : ℕ) → checkBox s at ≡ Next p → (at + 14 ≡ p) × Box s at
   unfolding checkBox
   box p e =
-      let x = both (checkPair latitude northFirst s at) (checkPair longitude westFirst s) p e in
+      let x = both (checkPair latitude northFirst s at) (λ west. after (checkEdge longitude s west) (checkEdge longitude s)) p e in
       let lat = pair latitude northFirst s at (x .mid) (x .first) in
       let a : at + 3 + 3 ≡ x .mid = edge latitude s (at + 3) (x .mid) (lat .second) .next in
       let m : x .mid ≡ at + 6 = omega arith in
-      let lon = pair longitude westFirst s (at + 6) p (rw m at (x .second)) in
-      let w : at + 6 + 4 ≡ at + 10 = omega arith in
-      let second : checkEdge longitude s (at + 10) ≡ Next p = rw w at (lon .second) in
+      let lon = both (checkEdge longitude s (at + 6)) (checkEdge longitude s) p (rw m at (x .second)) in
+      let w : at + 6 + 4 ≡ lon .mid = edge longitude s (at + 6) (lon .mid) (lon .first) .next in
+      let i : lon .mid ≡ at + 10 = omega arith in
+      let second : checkEdge longitude s (at + 10) ≡ Next p = rw i at (lon .second) in
       let end : at + 10 + 4 ≡ p = edge longitude s (at + 10) p second .next in
       let q : p ≡ at + 14 = omega arith in (
         sym q,
@@ -185,9 +185,8 @@ module _ (s : List ℕ) (at : ℕ) where
           north = lat .first;
           south = lat .second ∙ ap Next m;
           falling = lat .ordered;
-          west = lon .first ∙ ap Next w;
+          west = lon .first ∙ ap Next i;
           east = second ∙ ap Next q;
-          rising = rw w at (lon .ordered);
         },
       )
 
@@ -196,7 +195,7 @@ module _ (s : List ℕ) (at : ℕ) where
   unfolding checkBox
   box-next b =
       rw (pair-next latitude northFirst s at (at + 3) (at + 6) (record { first = b .north; second = b .south; ordered = b .falling }))
-      (pair-next longitude westFirst s (at + 6) (at + 10) (at + 14) (record { first = b .west; second = b .east; ordered = b .rising }))
+      (rw (b .west) (b .east))
 
 -- the text has an accepted box whole
 pub box-room : (s : List ℕ) (at p : ℕ) → checkBox s at ≡ Next p → at + 14 ≤ length s

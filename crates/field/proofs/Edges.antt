@@ -17,7 +17,8 @@ use Rattle.field.specs.declared.Step.the-variants.{Next, Stop}
 use Rattle.field.specs.declared.boxes.Line.{Line}
 use Rattle.field.specs.declared.boxes.Line.the-variants.{Lies, Wrong}
 use Rattle.field.specs.Decimal.{allDigits, value}
-use Rattle.field.specs.Boxes.{latitude, longitude, isLetter, belowZero, lineOf, northFirst, westFirst, edgeAt, checkEdge, checkPair}
+use Rattle.field.specs.Boxes.{latitude, longitude, isLetter, belowZero, lineOf, northFirst, edgeAt, checkEdge, checkPair, checkBox}
+use Rattle.field.specs.Fields.{after}
 use Rattle.field.specs.Steps.{numberOr, lineOr, edgeLine, inOrder, twoLines}
 use Rattle.field.proofs.Decimal.{part-long, value-small}
 
@@ -112,6 +113,32 @@ pub longitude-bytes : (s : List ℕ) (at : ℕ) → at + 4 ≤ length s
 unfolding edgeLine
 longitude-bytes s at h = rw (le-leb (at + 4) (length s) h, part-bytes 3 at s (omega arith), add-zero at)
 
+-- two edges in any order are a pair that nothing is asked of
+plain : (x : Step) → x ≡ after x Next
+plain (Next p) = refl
+plain (Stop code place) = refl
+
+either-way : (x : Step) (f : ℕ → Step) → after x f ≡ after x (λ p. after (f p) Next)
+either-way (Next p) f = plain (f p)
+either-way (Stop code place) f = refl
+
+pub any-order : (c : Circle) (s : List ℕ) (at : ℕ)
+    → after (checkEdge c s at) (checkEdge c s) ≡ checkPair c (inOrder false c) s at
+unfolding checkPair
+any-order c s at = either-way (checkEdge c s at) (checkEdge c s)
+
+-- a box is its two pairs
+pub box-pairs : (s : List ℕ) (at : ℕ)
+    → checkBox s at ≡ after (checkPair latitude northFirst s at) (checkPair longitude (inOrder false longitude) s)
+unfolding checkBox
+box-pairs s at = each (checkPair latitude northFirst s at)
+  where
+    each : (x : Step)
+        → after x (λ west. after (checkEdge longitude s west) (checkEdge longitude s))
+        ≡ after x (checkPair longitude (inOrder false longitude) s)
+    each (Next west) = any-order longitude s west
+    each (Stop code place) = refl
+
 -- the two pairs of a box
 pub latitude-lines : (s : List ℕ) (at : ℕ)
     → checkPair latitude northFirst s at ≡ twoLines true (edgeLine latitude s at) (edgeLine latitude s (at + 3)) at (at + 3) (at + 6)
@@ -121,7 +148,7 @@ latitude-lines s at =
     ∙ ap (λ (n : ℕ). twoLines true (edgeLine latitude s at) (edgeLine latitude s (at + 3)) at (at + 3) n) end
 
 pub longitude-lines : (s : List ℕ) (at : ℕ)
-    → checkPair longitude westFirst s at ≡ twoLines false (edgeLine longitude s at) (edgeLine longitude s (at + 4)) at (at + 4) (at + 8)
+    → checkPair longitude (inOrder false longitude) s at ≡ twoLines false (edgeLine longitude s at) (edgeLine longitude s (at + 4)) at (at + 4) (at + 8)
 longitude-lines s at =
     let end : at + 4 + 4 ≡ at + 8 = omega arith in
     pair-lines longitude s (lit≤ tt) false at

@@ -14,8 +14,8 @@ use Rattle.field.specs.declared.Step.{Step}
 use Rattle.field.specs.declared.Step.the-variants.{Next}
 use Rattle.field.specs.declared.boxes.Line.the-variants.{Lies}
 use Rattle.field.specs.Decimal.{isDigit}
-use Rattle.field.specs.Boxes.{latitude, longitude, lineOf, northFirst, westFirst, checkPair}
-use Rattle.field.specs.Steps.{numberOr, lineOr, twoLines, orderly, keyOf, leastKey, keyLine, edgeFine, latitudesFine, longitudeFine, longitudesFine}
+use Rattle.field.specs.Boxes.{latitude, longitude, lineOf, northFirst, checkPair}
+use Rattle.field.specs.Steps.{numberOr, lineOr, twoLines, inOrder, keyOf, leastKey, keyLine, edgeFine, latitudesFine, longitudeFine, longitudesFine}
 use Rattle.field.proofs.Decimal.{digit-is, digit-low, digit-high}
 use Rattle.field.proofs.Number.{two-digits, three-digits}
 use Rattle.field.proofs.Edges.{latitude-bytes, longitude-bytes, latitude-lines, longitude-lines}
@@ -223,10 +223,10 @@ latitudes s at room e =
       ordered latitude 48 x y m 48 a b l (t .digits) (n .digits) (both-right (first && second) o e),
     )
 
--- west not above east
+-- longitudes in any order
 pub longitudes : (s : List ℕ) (at : ℕ) → at + 8 ≤ length s
     → longitudesFine (getD s at 0) (getD s (at + 1) 0) (getD s (at + 2) 0) (getD s (at + 3) 0) (getD s (at + 4) 0) (getD s (at + 4 + 1) 0) (getD s (at + 4 + 2) 0) (getD s (at + 4 + 3) 0) ≡ true
-    → checkPair longitude westFirst s at ≡ Next (at + 8)
+    → checkPair longitude (inOrder false longitude) s at ≡ Next (at + 8)
 longitudes s at room e =
     let a = getD s at 0 in
     let b = getD s (at + 1) 0 in
@@ -238,13 +238,10 @@ longitudes s at room e =
     let m = getD s (at + 4 + 3) 0 in
     let first = longitudeFine (keyOf a b z) b z l in
     let second = longitudeFine (keyOf x y w) y w m in
-    let o = leb (keyLine longitude l (keyOf a b z)) (keyLine longitude m (keyOf x y w)) in
-    let both = both-left (first && second) o e in
-    let n = west a b z l (both-left first second both) in
-    let t = west x y w m (both-right first second both) in
+    let n = west a b z l (both-left first second e) in
+    let t = west x y w m (both-right first second e) in
     longitude-lines s at
     ∙ rw (
       sym (longitude-bytes s at (omega arith)) ∙ n .there,
       sym (longitude-bytes s (at + 4) (omega arith)) ∙ t .there,
-      ordered longitude a b z l x y w m (n .digits) (t .digits) (both-right (first && second) o e),
     )

@@ -11,13 +11,15 @@ use lib.Seq.{take-take}
 use Rattle.text.specs.Names.{allAllowed}
 use Rattle.text.specs.Parts.{part}
 use Rattle.field.specs.Decimal.{allDigits, value}
-use Rattle.field.specs.Fields.{room, checkDigits, checkDelimiter, checkAirfield}
-use Rattle.field.specs.Boxes.{latitude, longitude, isLetter, belowZero, edgeAt, checkEdge, checkPair, checkBox, northFirst, westFirst, regionAt}
+use Rattle.field.specs.Fields.{after, room, checkDigits, checkDelimiter, checkAirfield}
+use Rattle.field.specs.Boxes.{latitude, longitude, isLetter, belowZero, edgeAt, checkEdge, checkPair, checkBox, northFirst, regionAt}
 use Rattle.field.specs.declared.Step.{Step}
 use Rattle.field.specs.declared.Step.the-variants.{Next, Stop}
 use Rattle.field.specs.declared.Circle.{Circle}
 use Rattle.field.specs.declared.Edge.{Edge}
 use Rattle.field.specs.declared.Region.{Region}
+use Rattle.field.specs.Steps.{inOrder}
+use Rattle.field.proofs.Edges.{any-order}
 use Rattle.field.proofs.Local.{Local, Reads, Sized, outcome, field, field-local, field-reads, field-sized, part-byte, local-same, same-reads, same-sized, reads-fixed, reads-with, reads-same}
 use Rattle.field.proofs.LocalThen.{bound-local, bound-first, bound-second, bound-sized, judged, judged-local, judged-reads, judged-sized}
 
@@ -183,22 +185,26 @@ module _ (c : Circle) (inOrder : Edge → Edge → Bool) where
 abbrev noValue : List ℕ → ℕ → ℕ
 noValue s at = 0
 
+-- longitudes are a pair in any order
+abbrev anyPair : List ℕ → ℕ → Step
+anyPair = checkPair longitude (inOrder false longitude)
+
 abbrev longitudes : ℕ → List ℕ → ℕ → Step
-longitudes a = checkPair longitude westFirst
+longitudes a s at = after (checkEdge longitude s at) (checkEdge longitude s)
 
 -- a box is local
 pub box-local : Local checkBox
 unfolding checkBox
 box-local =
     bound-local (checkPair latitude northFirst) noValue longitudes (pair-local latitude northFirst)
-    (reads-fixed (checkPair latitude northFirst) 0) (λ a. pair-local longitude westFirst)
+    (reads-fixed (checkPair latitude northFirst) 0) (λ a. local-same (longitudes a) anyPair (any-order longitude) (pair-local longitude (inOrder false longitude)))
 
 -- it has 14 bytes
 pub box-sized : Sized checkBox (λ s at. 14)
 unfolding checkBox
 box-sized =
     bound-sized (checkPair latitude northFirst) noValue longitudes (λ s at. 6) (λ a s at. 8)
-    (reads-fixed (checkPair latitude northFirst) 0) (pair-sized latitude northFirst) (λ a. pair-sized longitude westFirst)
+    (reads-fixed (checkPair latitude northFirst) 0) (pair-sized latitude northFirst) (λ a. same-sized (longitudes a) anyPair (any-order longitude) (λ s at. 8) (pair-sized longitude (inOrder false longitude)))
 
 abbrev regionOf : Edge × Edge → Edge × Edge → Region
 regionOf p q = record { north = p .0; south = p .1; west = q .0; east = q .1 }
@@ -212,4 +218,4 @@ box-reads =
     (reads-with checkBox (pairAt latitude) (λ s at. pairAt longitude s (at + 6)) regionOf
     (bound-first (checkPair latitude northFirst) noValue longitudes (pairAt latitude) (pair-reads latitude northFirst))
     (bound-second (checkPair latitude northFirst) noValue longitudes (λ s at. 6) (λ a. pairAt longitude)
-    (reads-fixed (checkPair latitude northFirst) 0) (pair-sized latitude northFirst) (λ a. pair-reads longitude westFirst)))
+    (reads-fixed (checkPair latitude northFirst) 0) (pair-sized latitude northFirst) (λ a. same-reads (longitudes a) anyPair (any-order longitude) (pairAt longitude) (pair-reads longitude (inOrder false longitude)))))

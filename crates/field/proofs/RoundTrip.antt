@@ -20,7 +20,7 @@ use Rattle.field.specs.declared.Region.{Region}
 use Rattle.field.specs.declared.Step.the-variants.{Next}
 use Rattle.field.specs.Decimal.{allDigits, value, decimal}
 use Rattle.field.specs.Fields.{checkDigits, checkDelimiter}
-use Rattle.field.specs.Boxes.{latitude, longitude, isLetter, belowZero, northFirst, westFirst, edgeAt, edgeText, edgeAllowed, checkEdge, regionAt, regionText, regionAllowed, checkBox}
+use Rattle.field.specs.Boxes.{latitude, longitude, isLetter, belowZero, northFirst, edgeAt, edgeText, edgeAllowed, checkEdge, regionAt, regionText, regionAllowed, checkBox}
 use Rattle.field.proofs.Decimal.{part-long, decimal-length, decimal-digits, value-decimal, decimal-value}
 use Rattle.field.proofs.Number.{digits-fine}
 use Rattle.field.proofs.Accepted.{number, edge, box, box-next}
@@ -144,7 +144,6 @@ pub record AllowedBox (b : Region) : Type 0 where
   pub falling : northFirst (b .north) (b .south) ≡ true
   pub west : Allowed longitude (b .west)
   pub east : Allowed longitude (b .east)
-  pub rising : westFirst (b .west) (b .east) ≡ true
 
 pub region-held : (at : ℕ) (b : Region) → regionAllowed at b ≡ Fine → AllowedBox b
 unfolding regionAllowed
@@ -153,19 +152,16 @@ region-held at b fine =
     let s3 = must (northFirst (b .north) (b .south)) 7 (at + 3) in
     let s4 = edgeAllowed longitude (at + 6) (b .west) in
     let s5 = edgeAllowed longitude (at + 10) (b .east) in
-    let s6 = must (westFirst (b .west) (b .east)) 7 (at + 10) in
-    let f1 = both-fine (edgeAllowed latitude at (b .north)) (s2 andThen s3 andThen s4 andThen s5 andThen s6) fine in
-    let f2 = both-fine s2 (s3 andThen s4 andThen s5 andThen s6) (f1 .1) in
-    let f3 = both-fine s3 (s4 andThen s5 andThen s6) (f2 .1) in
-    let f4 = both-fine s4 (s5 andThen s6) (f3 .1) in
-    let f5 = both-fine s5 s6 (f4 .1) in
+    let f1 = both-fine (edgeAllowed latitude at (b .north)) (s2 andThen s3 andThen s4 andThen s5) fine in
+    let f2 = both-fine s2 (s3 andThen s4 andThen s5) (f1 .1) in
+    let f3 = both-fine s3 (s4 andThen s5) (f2 .1) in
+    let f4 = both-fine s4 s5 (f3 .1) in
     record {
       north = edge-held latitude at (b .north) (f1 .0);
       south = edge-held latitude (at + 3) (b .south) (f2 .0);
       falling = must-held (northFirst (b .north) (b .south)) 7 (at + 3) (f3 .0);
       west = edge-held longitude (at + 6) (b .west) (f4 .0);
-      east = edge-held longitude (at + 10) (b .east) (f5 .0);
-      rising = must-held (westFirst (b .west) (b .east)) 7 (at + 10) (f5 .1);
+      east = edge-held longitude (at + 10) (b .east) (f4 .1);
     }
 
 pub region-fine : (at : ℕ) (b : Region) → AllowedBox b → regionAllowed at b ≡ Fine
@@ -177,7 +173,6 @@ region-fine at b a =
       a .falling,
       edge-fine longitude (at + 6) (b .west) (a .west),
       edge-fine longitude (at + 10) (b .east) (a .east),
-      a .rising,
     )
 
 -- four texts of 3, 3, 4 and 4 bytes
@@ -233,9 +228,6 @@ module _ (b : Region) (a : AllowedBox b) (s : List ℕ) (at : ℕ) (stands : Sta
             (a .falling);
         west = edge-stands longitude (lit< tt) (b .west) (a .west) s (at + 6) (edges-stand .2) ∙ ap Next w;
         east = edge-stands longitude (lit< tt) (b .east) (a .east) s (at + 10) (edges-stand .3) ∙ ap Next e;
-        rising =
-            rw (edge-back longitude (lit< tt) (b .west) (a .west) s (at + 6) (edges-stand .2), edge-back longitude (lit< tt) (b .east) (a .east) s (at + 10) (edges-stand .3))
-            (a .rising);
       })
 
 -- an accepted box is allowed in a record
@@ -249,7 +241,6 @@ region-allowed s at p e =
       falling = r .falling;
       west = edge-allowed longitude s (at + 6) (at + 10) (r .west);
       east = edge-allowed longitude s (at + 10) (at + 14) (r .east);
-      rising = r .rising;
     }
 
 -- and is written back as the same bytes

@@ -33,10 +33,6 @@ pair-is falling c a b at mid more =
     ∙ rw (edge-is c at a, fine-then (edgeAllowed c mid b) last, edge-is c mid b, fine-then (must order 7 mid) more, fine-must order 7 mid)
     (simp and-assoc)
 
-nothing-more : (x : Seen) → x ≡ (x andThen Fine)
-nothing-more Fine = refl
-nothing-more (Bad code place) = refl
-
 pub region-is : (b : Region) (at : ℕ) → isFine (regionAllowed at b) ≡ regionIs b
 unfolding regionIs regionAllowed
 region-is b at =
@@ -44,10 +40,8 @@ region-is b at =
     let s = b .south in
     let w = b .west in
     let e = b .east in
-    let east = must (inOrder false longitude w e) 7 (at + 10) in
-    let ends = edgeAllowed longitude (at + 6) w andThen edgeAllowed longitude (at + 10) e andThen east in
+    let ends = edgeAllowed longitude (at + 6) w andThen edgeAllowed longitude (at + 10) e in
     let we : isFine ends ≡ pairIs false longitude w e =
-    ap (λ (z : Seen). isFine (edgeAllowed longitude (at + 6) w andThen edgeAllowed longitude (at + 10) e andThen z)) (nothing-more east)
-    ∙ pair-is false longitude w e (at + 6) (at + 10) Fine
-    ∙ and-true (pairIs false longitude w e) in
+    fine-then (edgeAllowed longitude (at + 6) w) (edgeAllowed longitude (at + 10) e)
+    ∙ rw (edge-is longitude (at + 6) w, edge-is longitude (at + 10) e) (sym (and-true (edgeIs longitude w && edgeIs longitude e))) in
     pair-is true latitude n s at (at + 3) ends ∙ ap (λ (t : Bool). pairIs true latitude n s && t) we

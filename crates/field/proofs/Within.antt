@@ -16,7 +16,7 @@ use Rattle.field.specs.declared.Step.{Step}
 use Rattle.field.specs.declared.Step.the-variants.{Next, Stop}
 use Rattle.field.specs.Decimal.{allDigits, value}
 use Rattle.field.specs.Fields.{after, room, checkDigits, checkDelimiter, checkAirfield, repeat}
-use Rattle.field.specs.Boxes.{latitude, longitude, isLetter, belowZero, edgeAt, checkEdge, checkPair, checkBox, northFirst, westFirst}
+use Rattle.field.specs.Boxes.{latitude, longitude, isLetter, belowZero, edgeAt, checkEdge, checkPair, checkBox, northFirst}
 
 abbrev pub Within : List ℕ → ℕ → Step → Type 0
 Within s at (Next p) = (at ≤ p) × (p ≤ length s)
@@ -96,8 +96,10 @@ module _ (s : List ℕ) where
   pub box-within : (at : ℕ) → at ≤ length s → Within s at (checkBox s at)
   unfolding checkBox
   box-within at h =
-      after-within at (checkPair latitude northFirst s at) (checkPair longitude westFirst s) (pair-within latitude northFirst at h)
-      (λ p e k. pair-within longitude westFirst p k)
+      after-within at (checkPair latitude northFirst s at) (λ west. after (checkEdge longitude s west) (checkEdge longitude s)) (pair-within latitude northFirst at h)
+      (λ west e k.
+      after-within west (checkEdge longitude s west) (checkEdge longitude s) (edge-within longitude west k)
+      (λ east f l. edge-within longitude east l))
 
   -- n fields of one kind, where each stays in the text
   pub repeat-within : (check : ℕ → Step) → ((p : ℕ) → p ≤ length s → Within s p (check p))

@@ -1,5 +1,6 @@
 -- "A box is 14 bytes: two latitudes, north edge first (00-90, N or S), two longitudes, west first (000-180, E or W);
--- north not below south, west not above east (else 7). Zero is spelt only 00N and 000E (else 6)."
+-- north not below south (else 7). Zero is spelt only 00N and 000E (else 6)." Document 02, §2: "code 7 is no longer given for
+-- longitudes", in which an area runs eastward from its first and may wrap.
 use mathlib.Core.Bool.{Bool, cond, _&&_, _||_, not}
 use mathlib.Core.List.{List, [], _∷_, _++_}
 use Prim.Native.Nat.{ℕ, _+_, _-_}
@@ -65,10 +66,6 @@ lineOf c e = cond (eqb (e .letter) (c .below)) (1000 - e .degrees) (1000 + e .de
 abbrev pub northFirst : Edge → Edge → Bool
 northFirst n s = leb (lineOf latitude s) (lineOf latitude n)
 
--- west not above east
-abbrev pub westFirst : Edge → Edge → Bool
-westFirst w e = leb (lineOf longitude w) (lineOf longitude e)
-
 unfoldable pub regionAt : List ℕ → ℕ → Region
 regionAt s at =
     record {
@@ -86,8 +83,10 @@ checkPair c inOrder s at =
     after (checkEdge c s second)
     (λ end. cond (inOrder (edgeAt c s at) (edgeAt c s second)) (Next end) (Stop 7 second)))
 
+-- longitudes come in any order
 unfoldable pub checkBox : List ℕ → ℕ → Step
-checkBox s at = after (checkPair latitude northFirst s at) (checkPair longitude westFirst s)
+checkBox s at =
+    after (checkPair latitude northFirst s at) (λ west. after (checkEdge longitude s west) (checkEdge longitude s))
 
 unfoldable pub regionAllowed : ℕ → Region → Seen
 regionAllowed at b =
@@ -96,7 +95,6 @@ regionAllowed at b =
     andThen must (northFirst (b .north) (b .south)) 7 (at + 3)
     andThen edgeAllowed longitude (at + 6) (b .west)
     andThen edgeAllowed longitude (at + 10) (b .east)
-    andThen must (westFirst (b .west) (b .east)) 7 (at + 10)
 
 unfoldable pub regionText : Region → List ℕ
 regionText b =

@@ -1,5 +1,5 @@
 -- What the inner functions answer. No promise to a caller rests on these names.
-use mathlib.Core.Bool.{Bool, true, false, cond, not, _&&_}
+use mathlib.Core.Bool.{Bool, true, false, cond, not, _&&_, _||_}
 use mathlib.Core.List.{List, [], _∷_, _++_}
 use Prim.Native.Nat.{ℕ, _+_, _-_, _*_}
 use lib.Dec.{leb, ltb, eqb}
@@ -35,9 +35,9 @@ unfoldable pub edgeLine : Circle → List ℕ → ℕ → Line
 edgeLine c s at =
     cond (leb (at + (c .width + 1)) (length s)) (lineOr c (numberOr (part at (c .width) s)) (getD s (at + c .width) 0)) (Wrong 8)
 
--- falling: the second does not lie above the first; else it does not lie below it
+-- falling: the second does not lie above the first; else they come in any order
 abbrev pub orderly : Bool → ℕ → ℕ → Bool
-orderly falling x y = cond falling (leb y x) (leb x y)
+orderly falling x y = not falling || leb y x
 
 abbrev pub inOrder : Bool → Circle → Edge → Edge → Bool
 inOrder falling c a b = orderly falling (lineOf c a) (lineOf c b)
@@ -74,9 +74,7 @@ abbrev pub longitudeFine : ℕ → ℕ → ℕ → ℕ → Bool
 longitudeFine k middle last l = isDigit middle && edgeFine longitude (keyOf 49 56 48) k last l
 
 abbrev pub longitudesFine : ℕ → ℕ → ℕ → ℕ → ℕ → ℕ → ℕ → ℕ → Bool
-longitudesFine a b d l e f g m =
-    (longitudeFine (keyOf a b d) b d l && longitudeFine (keyOf e f g) f g m)
-    && leb (keyLine longitude l (keyOf a b d)) (keyLine longitude m (keyOf e f g))
+longitudesFine a b d l e f g m = longitudeFine (keyOf a b d) b d l && longitudeFine (keyOf e f g) f g m
 
 -- a record's pair of edges, which would stand at two places
 unfoldable pub pairAllowed : Bool → Circle → Edge → Edge → ℕ → ℕ → Seen

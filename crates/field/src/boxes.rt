@@ -1,4 +1,4 @@
-// A box: two latitudes, north edge first, then two longitudes, west first.
+// A box: two latitudes, north edge first, then two longitudes, from the first eastward to the second.
 use crate::Circle;
 use crate::Step;
 use crate::digits::number_at;
@@ -75,13 +75,14 @@ fn edge_line(c: Circle, s: &[u8], at: usize) -> Line
     line_or(c, number_at(s, at, w), s[last])
 }
 
+// Latitudes fall, from north to south; longitudes come in any order, since an area may wrap.
 pub fn in_order(falling: bool, x: usize, y: usize) -> bool
     ensures { λ r. ⌜ r ≡ orderly falling x y ⌝ }
 {
-    if falling { y <= x } else { x <= y }
+    !falling | (y <= x)
 }
 
-// Two edges, at `at` and `mid`: each one's own refusal, then 7 at the second where they are in the wrong order.
+// Two edges, at `at` and `mid`: each one's own refusal, then 7 at the second where they should fall and do not.
 fn two_lines(falling: bool, first: Line, second: Line, at: usize, mid: usize, end: usize) -> Step
     ensures { λ r. ⌜ r ≡ twoLines falling first second at mid end ⌝ }
 {
@@ -130,7 +131,7 @@ fn by_edges(s: &[u8], at: usize) -> Step
     }
 }
 
-// North not below south, west not above east. A box that is fine is passed whole, any other one edge by edge.
+// North not below south; longitudes in any order. A box that is fine is passed whole, any other one edge by edge.
 pub fn a_box(s: &[u8], at: usize) -> Step
     requires { ⌜ at ≤ length (now s) ⌝ }
     ensures { λ r. ⌜ r ≡ checkBox (now (s .entry)) at ⌝ }

@@ -5,12 +5,12 @@ use crate::boxes::latitudes;
 use crate::boxes::longitudes;
 use crate::digits::is_digit;
 ghost use mathlib.Core.Path.{_≡_};
-ghost use mathlib.Core.Bool.{true};
+ghost use mathlib.Core.Bool.{true, false};
 ghost use Prim.Native.Nat.{_+_, _≤_};
 ghost use lib.ListN.{length};
 ghost use Rattle.field.specs.declared.Step.the-variants.{Next};
-ghost use Rattle.field.specs.Boxes.{latitude, longitude, northFirst, westFirst, checkPair, checkBox};
-ghost use Rattle.field.specs.Steps.{keyOf, leastKey, keyLine, edgeFine, latitudesFine, longitudeFine, longitudesFine};
+ghost use Rattle.field.specs.Boxes.{latitude, longitude, northFirst, checkPair, checkBox};
+ghost use Rattle.field.specs.Steps.{inOrder, keyOf, leastKey, keyLine, edgeFine, latitudesFine, longitudeFine, longitudesFine};
 
 // The bytes of three digits as one number. Digits stand in the order of their bytes, so it grows as what they spell.
 fn key(a: u8, b: u8, c: u8) -> usize
@@ -70,16 +70,13 @@ fn longitude_fine(k: usize, middle: u8, last: u8, l: u8) -> bool
     is_digit(middle) & edge_fine(longitudes(), most, k, last, l)
 }
 
-// West and east.
+// The two longitudes.
 fn longitudes_fine(a: u8, b: u8, d: u8, l: u8, e: u8, f: u8, g: u8, m: u8) -> bool
     ensures { λ r. ⌜ r ≡ longitudesFine a b d l e f g m ⌝ }
 {
-    let c = longitudes();
     let west = key(a, b, d);
     let east = key(e, f, g);
-    longitude_fine(west, b, d, l)
-        & longitude_fine(east, f, g, m)
-        & (line(c, l, west) <= line(c, m, east))
+    longitude_fine(west, b, d, l) & longitude_fine(east, f, g, m)
 }
 
 // The two that stand at a place.
@@ -100,7 +97,7 @@ fn north_south_fine(s: &[u8], at: usize) -> bool
 
 fn west_east_fine(s: &[u8], at: usize) -> bool
     requires { ⌜ at + 8 ≤ length (now s) ⌝ }
-    ensures { λ r. ⌜ (r ≡ true → checkPair longitude westFirst (now (s .entry)) at ≡ Next (at + 8)) ⌝ }
+    ensures { λ r. ⌜ (r ≡ true → checkPair longitude (inOrder false longitude) (now (s .entry)) at ≡ Next (at + 8)) ⌝ }
 {
     let east = at + 4;
     longitudes_fine(

@@ -53,7 +53,7 @@ pub fn edge_allowed(c: Circle, at: usize, e: Edge) -> Seen
     Seen::Fine
 }
 
-// Two edges, and 7 at the second where they are in the wrong order.
+// Two edges, and 7 at the second where they should fall and do not.
 fn pair_allowed(falling: bool, c: Circle, first: Edge, second: Edge, at: usize, mid: usize) -> Seen
     ensures { λ r. ⌜ r ≡ pairAllowed falling c first second at mid ⌝ }
 {

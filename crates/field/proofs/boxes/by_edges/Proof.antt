@@ -5,8 +5,9 @@ use Rattle.field.proofs.boxes.by_edges.Tie as tie
 use mathlib.Core.Path.{_≡_, sym, _∙_}
 use denote.Ref.{now}
 use lib.Dec.{lit≤}
-use Rattle.field.specs.Boxes.{checkBox, checkPair, latitude, northFirst}
+use Rattle.field.specs.Boxes.{checkPair, latitude, northFirst}
 use Rattle.field.specs.declared.Step.the-variants.{Next}
+use Rattle.field.proofs.Edges.{box-pairs}
 use Rattle.field.proofs.Within.{pair-within}
 
 -- what was said of the latitudes
@@ -42,12 +43,10 @@ pair-requires-2 c κs =
     rw (c .longitudes .ensures) ((rw (seen (c .before)) at (pair-within (now (start .args .s)) latitude northFirst (start .args .at) (start .pre))) .1, lit≤ tt)
 
 returns : tie.Need-returns
-unfolding checkBox
-returns c = rw (sym (latitudes-seen (c .before .before .before)) ∙ c .before .latitudes2 .given .1)
+returns c = rw (box-pairs _ _, sym (latitudes-seen (c .before .before .before)) ∙ c .before .latitudes2 .given .1)
 
 returns-2 : tie.Need-returns-2
-unfolding checkBox
-returns-2 c = rw (seen (c .before .before), c .pair2 .ensures, c .before .longitudes .ensures)
+returns-2 c = rw (box-pairs _ _, seen (c .before .before), c .pair2 .ensures, c .before .longitudes .ensures)
 
 pub by-edges-spec : {M : Type 1} → statement M
 by-edges-spec =
