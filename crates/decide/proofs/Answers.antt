@@ -15,6 +15,7 @@ use Rattle.decide.specs.Question.{Question}
 use Rattle.decide.specs.Tests.{inWindow, minutes, firstHolding, has}
 use Rattle.decide.specs.Reason.{decisionOf, inhibitingBox, noReportingBox, isSilent, schemeReason, orRoutine, routineBy, phaseReason, reasonFor, explained, decided}
 use Rattle.decide.specs.Words.{Amdar, InhibitHours, Regions, Airports, flagOf, InRange, SomeHolds, Has, Own, ofAscent, ofDescent}
+use Rattle.decide.specs.Dateline.{Longitude}
 use Rattle.decide.specs.Rules.{Window, Inhibiting, Reporting, Heard, Admitted, TurnedAway, switchedOff, inhibited, notSelected, Profile, Rules, Answers}
 use Rattle.decide.specs.declared.Decision.{Decision}
 use Rattle.decide.specs.declared.Decision.the-variants.{Silent, Routine, Scheme}
@@ -106,8 +107,8 @@ module _ (x : Settings) (own : Own) (airfield : List ℕ) where
 -- ---- The rules in order
 
 module _ (x : Settings) (q : Question) (ok : Sound x) (r : InRange q) where
-  pub small : (mag (q .north) < 60000) × (mag (q .east) < 60000)
-  small = in-span q (range-said q .so-yes r)
+  pub small : (mag (q .north) < 60000) × Longitude (q .east)
+  small = (in-span q (range-said q .so-yes r) .0, (r .west, r .east))
 
   -- the hour against the window, the position against the boxes
   pub window-holds : Says (inWindow (x .hours .start) (x .hours .end) (q .hour)) (Window x q)

@@ -15,6 +15,7 @@ use Rattle.field.specs.declared.Region.{Region}
 use Rattle.field.proofs.RoundTrip.{AllowedBox}
 use Rattle.lists.specs.declared.Boxes.{Boxes}
 use Rattle.decide.specs.Tests.{minutes, holds as holdsAt, firstFrom, firstHolding}
+use Rattle.decide.specs.Dateline.{Longitude}
 use Rattle.decide.specs.Words.{Holds, SomeHolds}
 use Rattle.decide.proofs.Tests.{Says, says-no, by-said, never-said, not-said}
 use Rattle.decide.proofs.Words.{holds-said}
@@ -38,7 +39,7 @@ pub record NotFound (n e : ℤ) (m k : ℕ) (bs : List Region) : Type 0 where
   pub none : (j : ℕ) → j < k → j < length bs → ¬ Holds (getD bs j noRegion) n e
   pub number : firstFrom m (take k bs) (minutes n) (minutes e) ≡ 0
 
-module _ (n e : ℤ) (small : mag n < 60000) (little : mag e < 60000) where
+module _ (n e : ℤ) (small : mag n < 60000) (little : Longitude e) where
   -- one of the two is so
   pub first-said : (m k : ℕ) (bs : List Region) → ((i : ℕ) → i < k → i < length bs → AllowedBox (getD bs i noRegion))
       → Found n e m k bs ⊎ NotFound n e m k bs

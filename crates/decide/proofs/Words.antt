@@ -5,7 +5,7 @@ use mathlib.Core.Bool.{true, false, _||_}
 use mathlib.Core.List.{List, [], _∷_}
 use Prim.Native.Nat.{ℕ, zero, suc, _+_, _-_, _*_, _≤_, _<_}
 use native.Mathlib.Omega.{arith}
-use lib.Dec.{leb, eqb}
+use lib.Dec.{leb, eqb, leb→le}
 use lib.IntN.{ℤ, pos, negsuc, negℤ}
 use lib.Signed.{mag, leZ, _≤ℤ_}
 use lib.ListN.{length, getD, take, drop}
@@ -24,7 +24,9 @@ use Rattle.field.proofs.RoundTrip.{Allowed, AllowedBox}
 use Rattle.lists.specs.declared.Airfields.{Airfields}
 use Rattle.decide.specs.Question.{Question}
 use Rattle.decide.specs.Tests.{inWindow, minutes, holds, hasAirfield, has, inRange, isAirfield}
-use Rattle.decide.specs.Words.{InRange, AllowedByte, FourAllowed, InWindow, liesAt, Holds, Has}
+use Rattle.decide.specs.Dateline.{Longitude}
+use Rattle.decide.specs.Words.{InRange, AllowedByte, FourAllowed, InWindow, liesAt, turned, Holds, Has}
+use Rattle.decide.proofs.Eastward.{along-said}
 use Rattle.decide.proofs.Tests.{Says, never-said, reworded, both-said, either-said, le-said, lt-said, eq-said, leZ-said}
 
 -- ---- The window
@@ -155,20 +157,38 @@ module _ (c : Circle) (most : c .most ≤ 180)
   to-said : Says (leb (minutes n) (60 * lineOf c e)) (n ≤ℤ liesAt e)
   to-said = rw (edge-line, above-order n (liesAt e) 60000 small edge-size) (leZ-said n (liesAt e))
 
-module _ (n e : ℤ) (small : mag n < 60000) (little : mag e < 60000) where
+-- minutes from 1000 degrees below zero, of a place from 180W on
+place : (x : ℤ) → Longitude x → (minutes x ≡ 49200 + turned x) × (turned x ≤ 21600)
+place (pos a) h = (omega arith, omega (arith, leb→le a 10800 (h .1 .le)))
+place (negsuc a) h = (omega (arith, leb→le a 10799 (h .0 .le)), omega arith)
+
+-- and of a longitude's edge
+edge-place : (e : Edge) → Allowed longitude e → (60 * lineOf longitude e ≡ 49200 + turned (liesAt e)) × (turned (liesAt e) ≤ 21600)
+unfolding lineOf
+edge-place e ok =
+    rw (edge-below longitude (omega arith) refl refl e ok (pos 0) (omega arith))
+    (by-test (eqb (e .letter) 87)
+    (λ (t : eqb (e .letter) 87 ≡ true).
+    let b = above-below (60 * e .degrees) 10800 in
+    rw t (omega (arith, ok .most), omega arith))
+    (λ (t : eqb (e .letter) 87 ≡ false). rw t (omega arith, omega (arith, ok .most))))
+
+module _ (n e : ℤ) (small : mag n < 60000) (little : Longitude e) where
   -- whether a box holds the position
   pub holds-said : (b : Region) → AllowedBox b → Says (holds b (minutes n) (minutes e)) (Holds b n e)
   unfolding holds
   holds-said b ok =
-      reworded
-      (both-said
+      let w = edge-place (b .west) (ok .west) in
+      let x = edge-place (b .east) (ok .east) in
+      let p = place e little in
+      rw (w .0, x .0, p .0)
+      (reworded
       (both-said
       (both-said (from-said latitude (omega arith) refl refl (b .south) (ok .south) n small)
       (to-said latitude (omega arith) refl refl (b .north) (ok .north) n small))
-      (from-said longitude (omega arith) refl refl (b .west) (ok .west) e little))
-      (to-said longitude (omega arith) refl refl (b .east) (ok .east) e little))
-      (λ p. record { south = p .0 .0 .0; north = p .0 .0 .1; west = p .0 .1; east = p .1 })
-      (λ h. (((h .south, h .north), h .west), h .east))
+      (along-said (turned (liesAt (b .west))) (turned (liesAt (b .east))) (w .1) (x .1) (turned e) (p .1)))
+      (λ p. record { south = p .0 .0; north = p .0 .1; along = p .1 })
+      (λ h. ((h .south, h .north), h .along)))
 
 -- ---- Airfields
 

@@ -1,3 +1,4 @@
+pub mod Dateline
 pub mod Question
 pub mod Reason
 pub mod Rules

@@ -1,4 +1,4 @@
--- The tests of document 01, "Whether to report", in its words and order.
+-- The tests of document 01, "Whether to report", in its words and order, and those of document 02, §2, for longitudes.
 use mathlib.Core.Bool.{Bool, false, cond, _&&_, _||_}
 use mathlib.Core.List.{List, [], _∷_}
 use Prim.Native.Nat.{ℕ, zero, suc, _*_}
@@ -42,13 +42,23 @@ inWindow start end hour =
 abbrev pub minutes : ℤ → ℕ
 minutes x = above x 60000
 
+-- whether a longitude lies between two edges or, where the first is above the second, "at or east of the first edge or at or
+-- west of the second"
+abbrev pub eastward : ℕ → ℕ → ℕ → Bool
+eastward first second east =
+    cond (leb first second) (leb first east && leb east second) (leb first east || leb east second)
+
+-- "180W and 180E are the same meridian": the other spelling of a longitude, which 180 degrees alone have
+abbrev pub otherSpelling : ℕ → ℕ
+otherSpelling east = cond (eqb east 49200) 70800 (cond (eqb east 70800) 49200 east)
+
 -- whether a box holds the position, in such minutes
 unfoldable pub holds : Region → ℕ → ℕ → Bool
 holds b north east =
     leb (60 * lineOf latitude (b .south)) north
     && leb north (60 * lineOf latitude (b .north))
-    && leb (60 * lineOf longitude (b .west)) east
-    && leb east (60 * lineOf longitude (b .east))
+    && (eastward (60 * lineOf longitude (b .west)) (60 * lineOf longitude (b .east)) east
+    || eastward (60 * lineOf longitude (b .west)) (60 * lineOf longitude (b .east)) (otherSpelling east))
 
 -- the number of the first box that holds the position, where the boxes are numbered from n on; 0 where none does
 unfoldable pub firstFrom : ℕ → List Region → ℕ → ℕ → ℕ

@@ -10,6 +10,7 @@ use lib.IntN.{ℤ, pos, negℤ}
 use lib.Signed.{_≤ℤ_}
 use lib.ListN.{length, getD}
 use Rattle.text.specs.Parts.{part}
+use Rattle.packed.specs.Packed.{above}
 use Rattle.field.specs.Boxes.{noRegion}
 use Rattle.field.specs.declared.Edge.{Edge}
 use Rattle.field.specs.declared.Region.{Region}
@@ -79,11 +80,22 @@ pub record InWindow (start end hour : ℕ) : Type 0 where
 abbrev pub liesAt : Edge → ℤ
 liesAt e = cond (eqb (e .letter) 83 || eqb (e .letter) 87) (negℤ (pos (60 * e .degrees))) (pos (60 * e .degrees))
 
+-- Document 02, §2: "an area runs eastward from its first longitude and may wrap", "180W and 180E are the same meridian". Places
+-- are minutes eastward from 180W: 180W is 0 and 180E is 21600, a whole turn.
+abbrev pub turned : ℤ → ℕ
+turned x = above x 10800
+
+-- going on from the first edge, a minute at a time round the globe, one comes to the meridian, and not past the second edge on
+-- the way: that lies a turn further on where the first is above it
+pub record Eastward (first second place : ℕ) : Type 0 where
+  pub steps : ℕ
+  pub comes : (first + steps) % 21600 ≡ place % 21600
+  pub before : (first + steps ≤ second) ⊎ ((second < first) × (first + steps ≤ second + 21600))
+
 pub record Holds (b : Region) (latitude longitude : ℤ) : Type 0 where
   pub south : liesAt (b .south) ≤ℤ latitude
   pub north : latitude ≤ℤ liesAt (b .north)
-  pub west : liesAt (b .west) ≤ℤ longitude
-  pub east : longitude ≤ℤ liesAt (b .east)
+  pub along : Eastward (turned (liesAt (b .west))) (turned (liesAt (b .east))) (turned longitude)
 
 -- one box of a list; of its entries the first, as many as its count says, are boxes
 pub record SomeHolds (l : Boxes) (latitude longitude : ℤ) : Type 0 where

@@ -11,7 +11,7 @@ ghost use mathlib.Core.Path.{_≡_};
 ghost use Prim.Native.Nat.{_*_, _≤_, _<_};
 ghost use lib.Signed.{mag};
 ghost use Rattle.field.specs.Boxes.{lineOf};
-ghost use Rattle.decide.specs.Tests.{minutes, holds, firstHolding};
+ghost use Rattle.decide.specs.Tests.{minutes, eastward, otherSpelling, holds, firstHolding};
 ghost use Rattle.decide.specs.Reason.{inhibitingBox, noReportingBox};
 ghost use Rattle.lists.specs.Lists.{mostBoxes};
 
@@ -29,15 +29,39 @@ fn edge_minutes(c: Circle, e: Edge) -> usize
     60 * line_of(c, e)
 }
 
-// Edges belong to a box. The four tests are gathered: which of them fails plays no part.
-fn box_holds(b: Region, north: usize, east: usize) -> bool
+// Between two longitudes or, where the first is above the second, on one of the two sides: any two of the three tests.
+fn is_eastward(first: usize, second: usize, east: usize) -> bool
+    ensures { λ r. ⌜ r ≡ eastward first second east ⌝ }
+{
+    let past = first <= east;
+    let before = east <= second;
+    (past & before) | ((second < first) & (past | before))
+}
+
+// 180W and 180E are one meridian: the position's other spelling, where it is that; else the position.
+fn spelt_otherwise(east: usize) -> usize
+    ensures { λ r. ⌜ r ≡ otherSpelling east ⌝ }
+{
+    if east == 49200 {
+        return 70800;
+    }
+    if east == 70800 {
+        return 49200;
+    }
+    east
+}
+
+// Edges belong to a box. The tests are gathered: which of them fails plays no part.
+fn box_holds(b: Region, north: usize, east: usize, again: usize) -> bool
+    requires { ⌜ again ≡ otherSpelling east ⌝ }
     ensures { λ r. ⌜ r ≡ holds b north east ⌝ }
 {
     let top = edge_minutes(latitudes(), b.north);
     let bottom = edge_minutes(latitudes(), b.south);
     let left = edge_minutes(longitudes(), b.west);
     let right = edge_minutes(longitudes(), b.east);
-    (bottom <= north) & (north <= top) & (left <= east) & (east <= right)
+    let along = is_eastward(left, right, east) | is_eastward(left, right, again);
+    (bottom <= north) & (north <= top) & along
 }
 
 // The lowest number, from 1, of the boxes that hold the position; 0 where none does.
@@ -47,10 +71,11 @@ fn first_holding(l: Boxes, north: usize, east: usize) -> u8
 {
     let regions = l.regions;
     let n = l.count;
+    let again = spelt_otherwise(east);
     let mut i = 0;
     while i < n {
         let at = wide(i);
-        if box_holds(regions[at], north, east) {
+        if box_holds(regions[at], north, east, again) {
             return i + 1;
         }
         i += 1;

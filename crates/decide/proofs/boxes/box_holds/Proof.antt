@@ -28,18 +28,29 @@ longitudes-requires-2 c κs = search needs
 edge-minutes-requires-4 : tie.Need-edge-minutes-requires-4
 edge-minutes-requires-4 c κs = search needs
 
+is-eastward-requires : tie.Need-is-eastward-requires
+is-eastward-requires c κs = search needs
+
+is-eastward-requires-2 : tie.Need-is-eastward-requires-2
+is-eastward-requires-2 c κs = search needs
+
 returns : tie.Need-returns
 unfolding holds
 returns c =
+    let d = c .before .before in
+    let l = d .before .before .before .before in
     rw (
-      c .edge-minutes4 .ensures,
-      c .before .longitudes2 .ensures,
-      c .before .before .edge-minutes3 .ensures,
-      c .before .before .before .longitudes .ensures,
-      c .before .before .before .before .edge-minutes2 .ensures,
-      c .before .before .before .before .before .latitudes2 .ensures,
-      c .before .before .before .before .before .before .edge-minutes .ensures,
-      c .before .before .before .before .before .before .before .latitudes .ensures,
+      c .is-eastward2 .ensures,
+      c .before .is-eastward .ensures,
+      l .before .before .before .before .pre,
+      d .edge-minutes4 .ensures,
+      d .before .longitudes2 .ensures,
+      d .before .before .edge-minutes3 .ensures,
+      d .before .before .before .longitudes .ensures,
+      l .edge-minutes2 .ensures,
+      l .before .latitudes2 .ensures,
+      l .before .before .edge-minutes .ensures,
+      l .before .before .before .latitudes .ensures,
     )
 
 pub box-holds-spec : {M : Type 1} → statement M
@@ -54,4 +65,6 @@ box-holds-spec =
     edge-minutes-requires-3
     longitudes-requires-2
     edge-minutes-requires-4
+    is-eastward-requires
+    is-eastward-requires-2
     returns)
