@@ -5,6 +5,7 @@ pub mod Board
 mod Codes
 pub mod Command
 pub mod Configuration
+pub mod Dateline
 pub mod Decision
 pub mod Explain
 mod InRun
@@ -12,8 +13,10 @@ pub mod Join
 pub mod Journal
 mod JournalBytes
 pub mod Packed
+mod Relaid
 pub mod Report
 mod Sections
+mod Sevens
 mod Takings
 mod Waiting
 mod Waits

@@ -2,6 +2,7 @@ pub mod Board
 pub mod BoardRuns
 pub mod Command
 pub mod Configuration
+pub mod Dateline
 pub mod Decision
 pub mod Explain
 pub mod Join
