@@ -122,7 +122,6 @@ fn boxes(of: &Boxes, mut at: usize) -> Result<usize, Refusal> {
         must(LATITUDE.degrees(region.north) >= LATITUDE.degrees(region.south), DISAGREE, at + 3)?;
         edge(&LONGITUDE, region.west, at + 6)?;
         edge(&LONGITUDE, region.east, at + 10)?;
-        must(LONGITUDE.degrees(region.west) <= LONGITUDE.degrees(region.east), DISAGREE, at + 10)?;
         at += 14;
     }
     Ok(at)

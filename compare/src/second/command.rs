@@ -199,7 +199,7 @@ fn boxes(list: usize, text: &[u8], mut at: usize, keep: &mut impl Keep) -> Resul
     Ok(at)
 }
 
-/// "North not below south, west not above east (else 7)", at the second edge of each two.
+/// "North not below south (else 7)", at the south edge. Any two longitudes make a box.
 #[inline(always)]
 fn region(text: &[u8], at: usize) -> Result<Region, Refusal> {
     let north = edge::<3>(&LATITUDE, text, at)?;
@@ -209,9 +209,6 @@ fn region(text: &[u8], at: usize) -> Result<Region, Refusal> {
     }
     let west = edge::<4>(&LONGITUDE, text, at + 6)?;
     let east = edge::<4>(&LONGITUDE, text, at + 10)?;
-    if LONGITUDE.degrees(west) > LONGITUDE.degrees(east) {
-        return refuse(DISAGREE, at + 10);
-    }
     Ok(Region { north, south, west, east })
 }
 

@@ -1,4 +1,5 @@
-//! Whether to report, and why: document 01's rules in their order, and the reasons that document 02, §1, names.
+//! Whether to report, and why: document 01's rules in their order, and the reasons that document 02, §1, names. A box may
+//! go over the date line: document 02, §2.
 
 use super::record::named;
 use super::settings::*;
@@ -136,7 +137,27 @@ fn kept_out([reporting, inhibiting]: &[Boxes; 2], question: &Question) -> Option
 fn holds(region: &Region, latitude: i32, longitude: i32) -> bool {
     let [south, north] = [region.south, region.north].map(|edge| 60 * LATITUDE.degrees(edge));
     let [west, east] = [region.west, region.east].map(|edge| 60 * LONGITUDE.degrees(edge));
-    (south..=north).contains(&latitude) && (west..=east).contains(&longitude)
+    (south..=north).contains(&latitude) && eastward(west, longitude) <= width(west, east)
+}
+
+/// Minutes once round the earth.
+const ROUND: i32 = 360 * 60;
+
+/// How far a box goes: it "runs eastward from its first longitude and may wrap". From 180W to 180E that is once round,
+/// from 180E to 180W not at all.
+#[inline(always)]
+fn width(west: i32, east: i32) -> i32 {
+    if west <= east {
+        east - west
+    } else {
+        east - west + ROUND
+    }
+}
+
+/// How far a place lies to the east of a meridian, less than once round: 180W and 180E are as far.
+#[inline(always)]
+fn eastward(from: i32, to: i32) -> i32 {
+    (to - from).rem_euclid(ROUND)
 }
 
 /// "The airfield isn't inhibited, and the selected list is empty or has it": the first of the two that fails.

@@ -77,6 +77,59 @@ fn regions() {
     assert_eq!(ask(&with("AWR049919999020000000/0000/"), HERE), Ok(Scheme));
 }
 
+/// Every two edges by every minute near an edge, against the request's own words: "at or east of the first edge or at or
+/// west of the second" where the first is above the second, and a place on 180 degrees is inside when either spelling is.
+#[test]
+fn over_the_date_line() {
+    let degrees: Vec<i32> = (-180..=180).step_by(10).chain([-179, -1, 1, 179]).collect();
+    let near = |edge: i32| [60 * edge - 1, 60 * edge, 60 * edge + 1];
+    let minutes: Vec<i32> =
+        degrees.iter().flat_map(|edge| near(*edge)).filter(|at| (-10_800..=10_800).contains(at)).collect();
+    let spelt = |degrees: i32| format!("{:03}{}", degrees.abs(), if degrees < 0 { 'W' } else { 'E' });
+    for &first in &degrees {
+        for &second in &degrees {
+            let edges = [spelt(first), spelt(second)].concat();
+            let [reporting, inhibiting] = [format!("0110N10S{edges}00"), format!("000110N10S{edges}")]
+                .map(|lists| with(&format!("AWR049919999020000000/{lists}/")));
+            let inside = |at: i32| {
+                let (east_of_first, west_of_second) = (at >= 60 * first, at <= 60 * second);
+                if first > second {
+                    east_of_first || west_of_second
+                } else {
+                    east_of_first && west_of_second
+                }
+            };
+            for &longitude in &minutes {
+                let either = inside(longitude) || longitude.abs() == 10_800 && inside(-longitude);
+                let question = Question { longitude, ..HERE };
+                assert_eq!(ask(&reporting, question), Ok(if either { Scheme } else { Silent }), "{edges} {longitude}");
+                assert_eq!(ask(&inhibiting, question), Ok(if either { Silent } else { Scheme }), "{edges} {longitude}");
+            }
+        }
+    }
+}
+
+#[test]
+fn a_hundred_and_eighty_degrees() {
+    let holds = |edges: &str, longitude| {
+        let held = with(&format!("AWR049919999020000000/0110N10S{edges}00/"));
+        ask(&held, Question { longitude, ..HERE }) == Ok(Scheme)
+    };
+    for longitude in [-10_800, -10_799, 0, 10_799, 10_800] {
+        let meridian = longitude == -10_800 || longitude == 10_800;
+        assert!(holds("180W180E", longitude), "the globe");
+        for edges in ["180E180W", "180E180E", "180W180W"] {
+            assert_eq!(holds(edges, longitude), meridian, "{edges} {longitude}");
+        }
+        for edges in ["180W170W", "180E170W"] {
+            assert_eq!(holds(edges, longitude), meridian || longitude == -10_799, "{edges} {longitude}");
+        }
+        for edges in ["170E180E", "170E180W"] {
+            assert_eq!(holds(edges, longitude), meridian || longitude == 10_799, "{edges} {longitude}");
+        }
+    }
+}
+
 #[test]
 fn phases_without_airports() {
     let at = |text: &str| [0, 1, 2].map(|phase| ask(&with(text), Question { phase, ..HERE }).unwrap());

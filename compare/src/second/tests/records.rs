@@ -71,7 +71,9 @@ fn sides_of_a_box() {
     assert_eq!(spell::write(&record, &mut []), Err(code(4, 30)));
     record.sections.boxes[0].entries[0].west = Edge { degrees: 10, letter: b'E' };
     record.sections.boxes[0].entries[0].east = Edge { degrees: 10, letter: b'W' };
-    assert_eq!(spell::write(&record, &mut []), Err(code(7, 34)));
+    assert_eq!(spell::write(&record, &mut [0; 900]), Ok(835), "over the date line");
+    record.sections.boxes[0].entries[0].east = Edge { degrees: 0, letter: b'W' };
+    assert_eq!(spell::write(&record, &mut []), Err(code(6, 34)));
 }
 
 #[test]
