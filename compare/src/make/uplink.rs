@@ -49,17 +49,14 @@ pub fn edge(circle: &Circle, degrees: i32) -> Edge {
     Edge { degrees: degrees.unsigned_abs() as u8, letter }
 }
 
-/// An allowed box; one in ten has no height, one in ten no width.
+/// An allowed box; one in ten has no height, one in ten no width, and of the others every second goes over 180 degrees.
 pub fn region(random: &mut Random) -> Region {
     let mut two = |most| {
-        let [one, other] = [degrees(random, most), degrees(random, most)];
-        if random.percent(10) {
-            [one, one]
-        } else {
-            [one.min(other), one.max(other)]
-        }
+        let one = degrees(random, most);
+        [one, if random.percent(10) { one } else { degrees(random, most) }]
     };
-    let ([south, north], [west, east]) = (two(90), two(180));
+    let ([one, other], [west, east]) = (two(90), two(180));
+    let [south, north] = [one.min(other), one.max(other)];
     let [north, south] = [north, south].map(|degrees| edge(&LATITUDE, degrees));
     let [west, east] = [west, east].map(|degrees| edge(&LONGITUDE, degrees));
     Region { north, south, west, east }

@@ -21,6 +21,11 @@ pub fn families_of<C: Asked + From<Case>>(run: &mut Run, call: &str) {
     run.family(&name("flags"), "every flag and routine digit x phase, airfield, hour and place in and out", flags::<C>);
     run.family(&name("hours"), "every start, end and hour", hours::<C>);
     run.family(&name("edges"), "on, inside and outside every edge of boxes, by a minute", edges::<C>);
+    run.family(
+        &name("date-line"),
+        "every two longitudes of 0, 1, 89, 90, 170, 179 and 180 E and W, on, a minute beside and far from every edge",
+        date_line::<C>,
+    );
     run.family(&name("airfields"), "lists of every length, the airfield at every place", airfields::<C>);
     run.family(
         &name("refused"),
@@ -176,7 +181,7 @@ fn edges<C: Asked + From<Case>>(random: &mut Random, queue: &mut Queue<C>) -> Do
     let mut two = |most: i32| [random.between(-most, most), random.between(-most, most)];
     for _ in 0..200 {
         let ([a, b], [c, d]) = (two(90), two(180));
-        regions.push([a.max(b), a.min(b), c.min(d), c.max(d)]);
+        regions.push([a.max(b), a.min(b), c, d]);
     }
     let mut held = config::reset();
     held.flags[2] = 1;
@@ -204,10 +209,33 @@ fn edges<C: Asked + From<Case>>(random: &mut Random, queue: &mut Queue<C>) -> Do
     Ok(())
 }
 
-/// On both edges, a minute to each side, and between.
+/// Boxes from every edge to every other, reporting and inhibiting, alone and behind one that holds nothing that is asked.
+fn date_line<C: Asked + From<Case>>(_: &mut Random, queue: &mut Queue<C>) -> Done {
+    let degrees = [-180, -179, -170, -90, -89, -1, 0, 1, 89, 90, 170, 179, 180];
+    let places: Vec<i32> = degrees.iter().flat_map(|edge| round([*edge, 180], 10_800)).collect();
+    let question = |longitude| [0, 600, 601].map(|latitude| Question { latitude, longitude, ..HERE });
+    let questions: Vec<Question> = places.into_iter().flat_map(question).collect();
+    let far = region([90, 80, 170, -170]);
+    let mut held = config::reset();
+    held.flags[2] = 1;
+    for west in degrees {
+        for east in degrees {
+            let one = region([10, -10, west, east]);
+            let lists: [[&[Region]; 2]; 4] =
+                [[&[one], &[]], [&[], &[one]], [&[far, one], &[far]], [&[one], &[far, one]]];
+            for [reporting, inhibiting] in lists {
+                held.sections.boxes = [boxes(reporting), boxes(inhibiting)];
+                ask(queue, &held, questions.clone())?;
+            }
+        }
+    }
+    Ok(())
+}
+
+/// On both edges, a minute to each side, between, and at both ends.
 fn round([one, other]: [i32; 2], most: i32) -> Vec<i32> {
     let (one, other) = (60 * one, 60 * other);
-    let near = [one - 1, one, one + 1, (one + other) / 2, other - 1, other, other + 1];
+    let near = [one - 1, one, one + 1, (one + other) / 2, other - 1, other, other + 1, -most, most];
     near.into_iter().filter(|minutes| (-most..=most).contains(minutes)).collect()
 }
 
