@@ -31,8 +31,9 @@
  * 3.1.0: esk_explain.
  * 3.2.0: esk_words, esk_reason_words, esk_version and esk_size_of; a shared library, libeskelvor.so.3.
  * 3.3.0: the journal, six calls and code 14.
- * 3.4.0: code 4 in a packed field points at the byte that is wrong, no longer at the field's first. */
-#define ESK_VERSION "3.4.0"
+ * 3.4.0: code 4 in a packed field points at the byte that is wrong, no longer at the field's first.
+ * 3.5.0: a box may go over 180 degrees, and 7 is not given for longitudes; 180E and 180W hold the same positions. */
+#define ESK_VERSION "3.5.0"
 
 #ifdef __cplusplus
 extern "C" {
@@ -267,8 +268,9 @@ esk_answer esk_report_write(esk_report report, uint8_t *out, size_t room);
  *     2    count of reporting boxes, 00 to 16, and so many boxes of 14 bytes
  *     2    count of inhibiting boxes, 00 to 16, and so many boxes
  *     A box is four edges: north, south (two digits, 00 to 90, and 'N' or 'S'), west, east (three digits, 000 to 180,
- *     and 'E' or 'W'). North is not below south, and west not above east: no box goes over 180 degrees. Zero is spelt
- *     00N and 000E alone.
+ *     and 'E' or 'W'). North is not below south. A box runs eastward from its west edge to its east edge, over 180
+ *     degrees where west is above east: 170E to 170W is 20 degrees wide. 180E and 180W are two spellings of one
+ *     meridian: 180W to 180E is the globe, 180E to 180W the meridian alone. Zero is spelt 00N and 000E alone.
  *   section 3, airports: 10 to 330 bytes
  *     2    four times a count, 00 to 20, and so many airfields of 4 bytes, 'A' to 'Z' or '0' to '9': selected for
  *          ascent, selected for descent, inhibited for ascent, inhibited for descent
@@ -306,7 +308,7 @@ typedef struct esk_edge {
 /* A box. 8 bytes. */
 typedef struct esk_region {
     esk_edge north, south; /* north not below south */
-    esk_edge west, east;   /* west not above east */
+    esk_edge west, east;   /* from west eastward to east, over 180 degrees where west is above east */
 } esk_region;
 
 /* A list of boxes. 129 bytes. */
@@ -398,7 +400,7 @@ typedef struct esk_command_got {
  *      edge has a non-digit or another letter; an airfield has a byte that is not allowed
  *   6  zero degrees spelt 00S or 000W
  *   5  a number outside its range
- *   7  north below south (at the south edge), west above east (at the east edge)
+ *   7  north below south (at the south edge); never for longitudes
  * and last
  *   8  bytes after the last delimiter; place: the first of them
  */
@@ -415,7 +417,7 @@ esk_command_got esk_command_read(const uint8_t *text, size_t length);
  *   6  zero degrees with the letter 'S' or 'W'
  *   5  a count, or a number, outside its range
  *   7  spare not 0 (at byte 21); unused entries of a list that are not 0 (at the list's count, after its own check);
- *      north below south, west above east, as above; a section that is not named and not 0 (where it would begin)
+ *      north below south, as above; a section that is not named and not 0 (where it would begin)
  * and then
  *   2  room below the text's length; place 0
  */
@@ -465,7 +467,9 @@ typedef struct esk_decided {
 
 /*
  * Whether an aircraft with this configuration reports: in a phase (ESK_ASCENT..), at a latitude and longitude in
- * minutes, in an hour, at an airfield. The configuration, which is never NULL, and the airfield are lent for reading.
+ * minutes, in an hour, at an airfield. Edges belong to a box; a box over 180 degrees holds what is at or east of its west
+ * edge or at or west of its east edge; longitudes 10800 and -10800 are answered alike, and in every box that has one of
+ * them. The configuration, which is never NULL, and the airfield are lent for reading.
  * Codes, all at place 0:
  *   12  the configuration is not valid
  *   5   phase above 2, hour above 23, latitude not -5400 to 5400 or longitude not -10800 to 10800

@@ -7,11 +7,12 @@
 /* The spellings of a box. Each that the program prints can be typed back. */
 typedef enum box_spelling {
     BOX_TYPED,   /* "60N-40N,10W-5E" */
-    BOX_BRIEF,   /* "60N to 40N, 10W to 5E" */
-    BOX_IN_WORDS /* "from 60N down to 40N, from 10W east to 5E" */
+    BOX_BRIEF,   /* "60N to 40N, 10W to 5E"; "60N to 40N, 170E eastward over the date line to 170W" */
+    BOX_IN_WORDS /* "from 60N down to 40N, from 10W east to 5E"; "from 60N down to 40N, from 170E eastward over the date
+                    line to 170W" */
 } box_spelling;
 
-enum { EDGE_ROOM = 8, BOX_ROOM = 64 };
+enum { EDGE_ROOM = 8, BOX_ROOM = 96 };
 
 /* "60N" */
 void name_edge(const esk_edge *e, char to[EDGE_ROOM]);

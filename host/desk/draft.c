@@ -108,7 +108,7 @@ static int list_at(const record_place *at)
     return -1;
 }
 
-/* Of a box: the edge at fault and what may stand there; or how two edges disagree; or how zero is spelt. */
+/* Of a box: the edge at fault and what may stand there; or that its latitudes disagree; or how zero is spelt. */
 static void word_box(const esk_region *r, const record_place *at, unsigned code, char *to, size_t room)
 {
     int latitude = at->offset < 6;
@@ -121,9 +121,7 @@ static void word_box(const esk_region *r, const record_place *at, unsigned code,
     if (code == ESK_SPELLING)
         snprintf(to, room, "%s: zero degrees are %s", edge, latitude ? "0N" : "0E");
     else if (code == ESK_DISAGREE)
-        snprintf(to, room, "%s: %s", box,
-                 latitude ? "the north edge, which comes first, is below the south edge"
-                          : "the west edge, which comes first, is east of the east edge");
+        snprintf(to, room, "%s: the north edge, which comes first, is below the south edge", box);
     else
         snprintf(to, room, "%s is not %s", edge, latitude ? "0 to 90 and N or S" : "0 to 180 and E or W");
 }

@@ -9,7 +9,7 @@
 #include <stdio.h>
 #include <string.h>
 
-enum { SENTENCE = 160 };
+enum { SENTENCE = 192 };
 
 /* The reasons by position: inside a box, or outside of all. */
 static void name_where(const question *q, esk_explained e, char *to, size_t room)

@@ -45,8 +45,14 @@ static const text_case texts[] = {
     {H2 "0110N10N000W", 6, 30, "000W"},
     {H2 "0110N11N181E000E00/", 7, 27, "latitudes disagree, before the longitudes"},
     {H2 "0110N10N181E", 5, 30, "west"},
-    {H2 "0110N10N010E009E00/", 7, 34, "longitudes disagree, at the east edge"},
-    {H2 "0110N10N180E180W00/", 7, 34, "180E to 180W"},
+    {H2 "0110N10N010E009E00/", 0, 0, "over the date line, all but a degree"},
+    {H2 "0110N10N170E170W00/", 0, 0, "over the date line"},
+    {H2 "0110N10N180E180W00/", 0, 0, "180E to 180W"},
+    {H2 "0110N10N180E181W00/", 5, 34, "east, over the date line"},
+    {H2 "0110N10N170E000W00/", 6, 34, "000W, over the date line"},
+    {H2 "0110N10N170E170N00/", 4, 34, "a letter, over the date line"},
+    {H2 "0110N11N170E170W00/", 7, 27, "latitudes disagree, over the date line"},
+    {H2 "0110N10N170E170W0110N11N170E170W/", 7, 43, "latitudes disagree in the second list"},
     {H2 "0110N10N180W180E00/", 0, 0, "180W to 180E"},
     {H2 "0100N00N000E000E00/", 0, 0, "a point at zero"},
     {H2 "0110S10S010E010E00/", 0, 0, "a point"},
@@ -214,7 +220,6 @@ static const record_case records[] = {
     {below, 7, 27, "north below south"},
     {west_zero, 6, 30, "000W"},
     {east, 5, 34, "181E"},
-    {above, 7, 34, "west above east"},
     {airfields, 5, 475, "21 airfields"},
     {airfields_low, 7, 721, "an unused airfield not zero"},
     {airfield, 4, 563, "an airfield"},
@@ -249,6 +254,14 @@ static void write_all(void)
         for (size_t j = 0; j < sizeof rooms / sizeof *rooms; j++)
             write_holds(c, rooms[j], records[i].code, records[i].place, "", 0, records[i].why);
     }
+    /* over the date line */
+    char over[ESK_COMMAND_BYTES];
+    memcpy(over, longest, sizeof over);
+    memcpy(over + 30, "180E179E", 8);
+    esk_command c = good;
+    above(&c);
+    write_holds(c, 835, 0, 0, over, sizeof over, "west above east");
+    write_holds(c, 834, 2, 0, "", 0, "west above east: 2 and not 7");
     esk_command four = esk_command_read(bytes(H4 "071/"), 26).command;
     for (unsigned value = 1; value < 256; value++) {
         four.spare = (uint8_t)value;

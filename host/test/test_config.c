@@ -95,7 +95,7 @@ static const valid_case valids[] = {
     {zero_south, 0, "zero degrees south"},
     {zero_north, 1, "zero degrees north"},
     {below, 0, "north below south"},
-    {above, 0, "west above east"},
+    {above, 1, "west above east: over the date line"},
     {letter, 0, "a longitude's letter"},
     {airfields, 0, "21 airfields"},
     {unused_airfield, 0, "an unused airfield not zero"},

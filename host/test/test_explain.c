@@ -72,6 +72,13 @@ static const explain_case cases[] = {
     {REGIONS "0150N40N000E010E00/", 0, 3000, 600, 0, "ABCD", 0, 2, 5, 5, "a corner belongs to the reporting box"},
     {REGIONS "0150N40N000E010E00/", 0, 3001, 600, 0, "ABCD", 0, 0, 4, 0, "a minute north of it"},
     {REGIONS "0000/", 0, 0, 0, 0, "ABCD", 0, 2, 5, 5, "no boxes: everywhere"},
+    /* over the date line */
+    {REGIONS "000210N10S000E010E10N10S170E170W/", 1, 0, -10800, 0, "ABCD", 0, 0, 3, 2, "180W in 170E to 170W"},
+    {REGIONS "000210N10S000E010E10N10S170E170W/", 1, 0, 10200, 0, "ABCD", 0, 0, 3, 2, "its first edge"},
+    {REGIONS "000210N10S000E010E10N10S170E170W/", 1, 0, 10199, 0, "ABCD", 0, 1, 5, 6, "a minute west of it"},
+    {REGIONS "000210N10S180E180W10N10S170E170W/", 1, 0, -10800, 0, "ABCD", 0, 0, 3, 1, "180E to 180W: the meridian"},
+    {REGIONS "0110N10S170E180E00/", 1, 0, -10800, 0, "ABCD", 0, 1, 5, 6, "180W in 170E to 180E"},
+    {REGIONS "0110N10S170E180E00/", 1, 0, -10799, 0, "ABCD", 0, 0, 4, 0, "a minute east of it"},
     {"AWR049919000020000000/0150N40N000E010E00/", 0, 0, 0, 0, "ABCD", 0, 0, 4, 0, "before the phase flag"},
     {H2 "0150N40N000E010E00/", 0, 0, 0, 0, "ABCD", 0, 2, 5, 5, "the regions flag is 0"},
     /* 5 and 7 in level flight: the enroute flag, whatever else */
@@ -231,6 +238,52 @@ static void full_lists(void)
     }
 }
 
+/* Which meridians a box holds: one goes eastward from its first edge, a minute at a time and from 180E on at 180W, up to its
+ * second edge. Edges and positions are spelt from -10800 to 10800, and the two ends are one meridian. */
+static void walk(int first, int second, uint8_t held[21600])
+{
+    memset(held, 0, 21600);
+    for (int at = first;; at = at == 10800 ? -10800 : at + 1) {
+        held[(at + 10800) % 21600] = 1;
+        if (at == second)
+            return;
+    }
+}
+
+/* All pairs of edges, by positions at every edge and a minute beside it: as a reporting box and as an inhibiting one. */
+static void date_line(void)
+{
+    static const int degrees[] = {-180, -179, -170, -90, -89, -1, 0, 1, 89, 90, 170, 179, 180};
+    enum { EDGES = sizeof degrees / sizeof *degrees };
+    static uint8_t held[21600];
+    esk_settings reporting = after(REGIONS "0110N10S000E000E00/"), inhibiting = after(REGIONS "000110N10S000E000E/");
+    esk_region *boxes[] = {&reporting.regions.reporting.regions[0], &inhibiting.regions.inhibiting.regions[0]};
+    for (int i = 0; i < EDGES * EDGES; i++) {
+        int first = degrees[i / EDGES], second = degrees[i % EDGES];
+        walk(60 * first, 60 * second, held);
+        for (int k = 0; k < 2; k++) {
+            boxes[k]->west.degrees = (uint8_t)(first < 0 ? -first : first), boxes[k]->west.letter = first < 0 ? 'W' : 'E';
+            boxes[k]->east.degrees = (uint8_t)(second < 0 ? -second : second);
+            boxes[k]->east.letter = second < 0 ? 'W' : 'E';
+        }
+        for (int j = 0; j < 3 * EDGES; j++) {
+            int at = 60 * degrees[j / 3] + j % 3 - 1;
+            if (at < -10800 || at > 10800)
+                continue;
+            int inside = held[(at + 10800) % 21600];
+            question q = {1, 0, 0, at, "ABCD", 4};
+            esk_explained in = ask(reporting, q, "a reporting box"), out = ask(inhibiting, q, "an inhibiting box");
+            checks++;
+            if (in.reason == (inside ? 5 : 4) && out.reason == (inside ? 3 : 5) && out.number == (inside ? 1 : 6))
+                continue;
+            tell(inside ? "inside" : "outside", q);
+            fprintf(stderr, "  of a box from %d to %d degrees: reasons %u and %u\n", first, second, (unsigned)in.reason,
+                    (unsigned)out.reason);
+            exit(1);
+        }
+    }
+}
+
 /* Airfields of every length that is lent and every byte in each place: four allowed bytes are taken, all else is 4. */
 static void airfields(void)
 {
@@ -320,8 +373,8 @@ static esk_boxes some_boxes(unsigned most)
         esk_region *r = &boxes.regions[i];
         r->north = degrees_of(a) >= degrees_of(b) ? a : b;
         r->south = degrees_of(a) >= degrees_of(b) ? b : a;
-        r->west = degrees_of(c) <= degrees_of(d) ? c : d;
-        r->east = degrees_of(c) <= degrees_of(d) ? d : c;
+        r->west = c;
+        r->east = d;
     }
     return boxes;
 }
@@ -379,10 +432,14 @@ static question some_question(void)
 
 /* Document 02's reasons as they are said there, each by itself. */
 
+/* A box over the date line holds what is at or east of its first longitude or at or west of its second. No edge of these is at
+ * 180 degrees. */
 static int box_holds(const esk_region *r, question q)
 {
+    int first = 60 * degrees_of(r->west), second = 60 * degrees_of(r->east);
+    int past = q.longitude >= first, before = q.longitude <= second;
     return q.latitude <= 60 * degrees_of(r->north) && q.latitude >= 60 * degrees_of(r->south) &&
-           q.longitude >= 60 * degrees_of(r->west) && q.longitude <= 60 * degrees_of(r->east);
+           (first <= second ? past && before : past || before);
 }
 
 /* The lowest box that holds the position, from 1; 0 where none does. */
@@ -502,6 +559,7 @@ int main(void)
         explain_holds(after(cases[i].command), &cases[i], strlen(cases[i].airfield));
     not_valid();
     full_lists();
+    date_line();
     airfields();
     ranges();
     generated();

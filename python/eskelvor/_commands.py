@@ -40,7 +40,8 @@ class Flags(NamedTuple):
 
 
 class Box(NamedTuple):
-    """A box, in whole degrees: north and east are positive. North is not below south, west not above east."""
+    """A box, in whole degrees: north and east are positive. North is not below south. It runs eastward from west to east, over
+    180 degrees where west is above east: 170 to -170 is 20 degrees wide. 180 and -180 are two spellings of one meridian."""
 
     north: int
     south: int

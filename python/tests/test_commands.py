@@ -30,7 +30,8 @@ class Commands(Case):
     def test_round_trips(self) -> None:
         texts = [
             eskelvor.NO_CHANGE, FIRST, SECOND, BOTH, LONGEST, head(2) + b"0000/", head(6) + b"0/", head(8) + b"1/",
-            head(6, 8) + b"1/0/", head(2) + b"000190N90S180W180E/", b"AWR040000000200000000/", head(9) + b"0000/",
+            head(6, 8) + b"1/0/", head(2) + b"000190N90S180W180E/", head(2) + b"0210N10S170E170W10N10S180E180W00/",
+            b"AWR040000000200000000/", head(9) + b"0000/",
         ]
         texts += (EXAMPLES / "evening.commands").read_bytes().split()
         for text in texts:
@@ -56,7 +57,7 @@ class Commands(Case):
             (Command(level_flight=LevelFlight(0, True)), 5, 22), (Command(level_flight=LevelFlight(300, True)), 5, 22),
             (Command(level_flight=LevelFlight(7, 2)), 5, 24), (Command(hours=Hours(-1, 0)), 5, 22),
             (Command(regions=Regions(17 * (box,))), 5, 22), (Command(regions=Regions((), 300 * (box,))), 5, 24),
-            (Command(regions=Regions((Box(1, 2, 0, 0),))), 7, 27), (Command(regions=Regions((Box(0, 0, 5, 4),))), 7, 34),
+            (Command(regions=Regions((Box(1, 2, 0, 0),))), 7, 27), (Command(regions=Regions((Box(1, 2, 170, -170),))), 7, 27),
             (Command(regions=Regions((Box(91, 0, 0, 0),))), 5, 24), (Command(regions=Regions((Box(999, 0, 0, 0),))), 5, 24),
             (Command(airports=Airports(("ABC",))), 4, 24), (Command(airports=Airports(21 * ("ABCD",))), 5, 22),
             (Command(ascent_scheme=AscentScheme(1, 6, 70000, 20, 51, 200, 2, 1)), 5, 25),
@@ -154,6 +155,21 @@ class Configurations(Case):
         decisions = [held.decide(Phase.LEVEL, 0, 0, hour) for hour in (22, 23, 0, 1)]
         self.assertEqual(decisions, [Decision.ROUTINE, Decision.SILENT, Decision.SILENT, Decision.ROUTINE])
         self.assertEqual(held.decide(Phase.ASCENT, 0, 0, 1, "YMML"), Decision.SCHEME)
+
+    def test_over_the_date_line(self) -> None:
+        over = Regions((), (Box(10, -10, 170, -170),))
+        text = write_command(Command(Flags(regions=True), regions=over))
+        self.assertEqual(text, b"AWR049919999020000000/000110N10S170E170W/")
+        self.assertEqual(read_command(text).regions, over)
+        held = Configuration()
+        held.apply(text)
+        for longitude in (10200, 10799, 10800, -10800, -10799, -10200):
+            self.assertEqual(held.explain(Phase.LEVEL, 0, longitude, 0)[1:3], (Reason.INHIBITING_BOX, 1))
+        for longitude in (10199, 0, -10199):
+            self.assertEqual(held.decide(Phase.LEVEL, 0, longitude, 0), Decision.ROUTINE)
+        held = Configuration(replace(held.settings, regions=Regions((Box(10, -10, 170, 180),))))
+        self.assertEqual(held.decide(Phase.LEVEL, 0, -10800, 0), Decision.ROUTINE)
+        self.assertEqual(held.decide(Phase.LEVEL, 0, -10799, 0), Decision.SILENT)
 
     def test_every_reason(self) -> None:
         cases = [

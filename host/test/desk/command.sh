@@ -130,6 +130,15 @@ out_has 'downlink         2  the whole configuration is sent down' 'reporting bo
     '     1. from 10S down to 45S, from 110E east to 155E' '     1. from 0N down to 1S, from 0E east to 1E' \
     '  selected for ascent: YMML' '  selected for descent: none, so every airfield' '  inhibited for ascent: YPAD' \
     '  routine reports instead of a scheme: no'
+answers 0 'boxes over the date line' explain AWR049919999020000000/0210N10S170E170W10N10S180E180W0110N10S180W180E/
+out_has '     1. from 10N down to 10S, from 170E eastward over the date line to 170W' \
+    '     2. from 10N down to 10S, from 180E eastward over the date line to 180W' \
+    '     1. from 10N down to 10S, from 180W east to 180E'
+answers 0 'accepted' check AWR049919999020000000/0210N10S170E170W10N10S180E180W00/
+answers 0 'for a machine' explain --json AWR049919999020000000/0110N10S170E170W00/
+json_has results.0.sections.2.reporting.0.west=170E results.0.sections.2.reporting.0.east=170W status=0
+answers 0 'its options' explain --options AWR049919999020000000/0110N10S170E170W00/
+out_has ' --reporting-box 10N-10S,170E-170W '
 answers 0 'the ascent scheme, and routine reports' explain AWR049999999000056080/0032006011120010/1/0/
 out_has 'mode 0: samples by pressure level' 'series 1: every 3 seconds, for 200 seconds' \
     'series 2: every 60 seconds, until 1110 seconds in all' 'top of the ascent: 20000 feet' \

@@ -25,6 +25,7 @@ done <<'END'
 9999999200000000/|--downlink configuration
 9999999020000000/0160N40N010W005E00/|--reporting-box 60N-40N,10W-5E
 9999999020000000/000290N90S180W180E00N00N000E000E/|--inhibiting-box 90N-90S,180W-180E --inhibiting-box=0N-0N,0E-0E
+9999999020000000/0260N40N170E170W60N40N005E010W00/|--report 60N-40N,170E-170W --reporting-box=60N-40N,5E-10W
 9999999020000000/0260N40N010W005E10S45S110E155E0101N01N001E001E/|--report 60N-40N,10W-5E --inhibit=1N-1N,1E-1E --report 10S-45S,110E-155E
 9999999020000000/0000/|--reporting-box none
 9999999020000000/0000/|--inhibiting-box none
@@ -50,6 +51,13 @@ answers 0 'a box as explain prints it' compose --reporting-box 'from 10S down to
 out_is 'AWR049999999020000000/0110S45S110E155E00/'
 answers 0 'a box as why prints it' compose --reporting-box '10S to 45S, 110E to 155E'
 out_is 'AWR049999999020000000/0110S45S110E155E00/'
+for box in 'from 10N down to 10S, from 170E eastward over the date line to 170W' 'from 10N down to 10S, from 170E east to 170W' \
+    '10N to 10S, 170E eastward over the date line to 170W' '10N to 10S, 170E to 170W' 10N-10S,170E-170W; do
+    answers 0 'a box over the date line' compose --inhibiting-box "$box"
+    out_is 'AWR049999999020000000/000110N10S170E170W/'
+done
+answers 2 'one that does not go over it' compose --report '10S to 45S, 110E eastward over the date line to 155E'
+err_has 'is not a box, as 60N-40N,10W-5E'
 answers 0 'the hours as explain prints them' compose --hours 'from 23:00 up to 01:00, over midnight'
 out_is 'AWR049999999000000009/2301/'
 answers 0 'and by day' compose --hours 'from 02:00 up to 04:00'
@@ -85,7 +93,6 @@ done <<'END'
 --hours 23-99|5 at byte 24, section 9, end hour: 99 is not 0 to 23|
 --hours 24-01|5 at byte 61, section 9, start hour: 24 is not 0 to 23|--reporting-box 60N-40N,10W-5E --selected-for-ascent YMML,YPAD --routine-instead no --routine-in-ascent yes
 --inhibiting-box 40N-60N,10W-5E|7 at byte 29, section 2, inhibiting boxes, box 1, south edge: 40N-60N,10W-5E: the north edge, which comes first, is below the south edge|
---inhibiting-box 60N-40N,5E-10W|7 at byte 36, section 2, inhibiting boxes, box 1, east edge: 60N-40N,5E-10W: the west edge, which comes first, is east of the east edge|
 --reporting-box 91N-40N,10W-5E|5 at byte 24, section 2, reporting boxes, box 1, north edge: 91N is not 0 to 90 and N or S|
 --reporting-box 60N-40N,10W-181E|5 at byte 34, section 2, reporting boxes, box 1, east edge: 181E is not 0 to 180 and E or W|
 --reporting-box 60N-40X,10W-5E|4 at byte 27, section 2, reporting boxes, box 1, south edge: 40X is not 0 to 90 and N or S|

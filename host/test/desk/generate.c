@@ -60,11 +60,11 @@ static void boxes(esk_boxes *to)
 {
     to->count = (uint8_t)between(0, 16);
     for (int i = 0; i < to->count; i++) {
-        long north = between(-90, 90), east = between(-180, 180);
+        long north = between(-90, 90);
         to->regions[i].north = edge(north, "NS");
         to->regions[i].south = edge(between(-90, north), "NS");
-        to->regions[i].east = edge(east, "EW");
-        to->regions[i].west = edge(between(-180, east), "EW");
+        to->regions[i].east = edge(between(-180, 180), "EW");
+        to->regions[i].west = edge(between(-180, 180), "EW");
     }
 }
 

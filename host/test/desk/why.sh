@@ -32,6 +32,15 @@ reporting=AWR049919999020000000/0110S45S110E155E00/
         'an inhibiting box, though a reporting box holds the place too' --phase level $at $boxes
     because silent 3 1 'silent: at 10.0000 N 5.0000 E, inside inhibiting box 1, 10N to 10S, 10W to 10E' \
         'an edge belongs to a box' --phase level --lat 10N --lon 5E --hour 0 $boxes
+    pacific=AWR049919999020000000/000210N10S010W010E10N10S170E170W/
+    because silent 3 2 'silent: at 0.0000 N 175.0000 W, inside inhibiting box 2, 10N to 10S, 170E eastward over the date line to 170W' \
+        'over the date line' --phase level --lat 0 --lon 175W --hour 0 $pacific
+    because silent 3 2 'silent: at 0.0000 N 180.0000 W, inside inhibiting box 2, 10N to 10S, 170E eastward over the date line to 170W' \
+        'on the date line' --phase level --lat 0 --lon 180W --hour 0 $pacific
+    because routine 5 6 'reports routinely: the enroute flag is 1' \
+        'outside of it' --phase level --lat 0 --lon 169.9W --hour 0 $pacific
+    because routine 5 6 'reports routinely: the enroute flag is 1' '180W is in a box that ends at 180E' \
+        --phase level --lat 0 --lon 180W --hour 0 AWR049919999020000000/0110N10S170E180E00/
     because silent 4 0 "silent: at $here, outside every reporting box" \
         'no reporting box, before the flags' --phase ascent $at $reporting AWR049999000000000000/
     because scheme 5 5 'reports by the ascent scheme: the ascent flag is 1' 'ascent after reset' --phase ascent $at
