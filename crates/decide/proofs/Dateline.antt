@@ -1,25 +1,24 @@
 -- Document 02's words on boxes over the date line are so of what the rules go by.
-use mathlib.Core.Path.{_≡_, refl, sym, ap, _∙_}
+use mathlib.Core.Path.{_≡_, refl, ap}
 use mathlib.Core.Logic.{_↔_, _⊎_, inl, inr}
-use mathlib.Core.Bool.{Bool, true, false, cond, _||_}
+use mathlib.Core.Bool.{Bool, true, false, _||_}
 use mathlib.Core.List.{List, [], _∷_}
-use Prim.Native.Nat.{ℕ, zero, suc, _+_, _-_, _*_, _%_, _≤_, _<_}
+use Prim.Native.Nat.{ℕ, zero, suc, _+_, _-_, _*_, _≤_, _<_}
 use native.Mathlib.Omega.{arith}
 use lib.Dec.{leb→le, eqb}
 use lib.IntN.{ℤ, pos, negsuc, negℤ}
 use lib.ListN.{take}
 use lib.Signed.{_≤ℤ_}
 use borrow.Author.Tests.{le-leb}
-use Rattle.text.proofs.Cases.{by-test, by-le, by-eq}
+use Rattle.text.proofs.Cases.{by-test, by-le}
 use Rattle.field.specs.Boxes.{longitude, lineOf}
 use Rattle.field.specs.declared.Edge.{Edge}
 use Rattle.field.specs.declared.Region.{Region}
-use Rattle.lists.specs.declared.Boxes.{Boxes}
 use Rattle.settings.specs.declared.Settings.{Settings}
 use Rattle.decide.specs.Question.{Question}
-use Rattle.decide.specs.Tests.{eastward, holds, firstFrom, firstHolding}
+use Rattle.decide.specs.Tests.{eastward, holds, firstFrom}
 use Rattle.decide.specs.Reason.{inhibitingBox, noReportingBox, reasonFor, explained, decidedBy, decided}
-use Rattle.decide.specs.Words.{liesAt, turned, Eastward, Holds}
+use Rattle.decide.specs.Words.{liesAt, fromDateLine, Eastward, Holds}
 use Rattle.decide.proofs.Eastward.{Ends, over-in, over-out, Straight, straight-in, straight-out}
 use Rattle.decide.specs.Dateline.{OnMeridian, Longitude, Wraps, Latitudes, Between, running, e180, w180, asked, BoxWords, Spellings, Dateline}
 
@@ -31,29 +30,29 @@ low a h = leb→le a 10799 (h .0 .le)
 high : (a : ℕ) → Longitude (pos a) → a ≤ 10800
 high a h = leb→le a 10800 (h .1 .le)
 
-most : (x : ℤ) → Longitude x → turned x ≤ 21600
+most : (x : ℤ) → Longitude x → fromDateLine x ≤ 21600
 most (pos a) h = omega (arith, high a h)
 most (negsuc a) h = omega arith
 
 -- they lie as the signed minutes do
-turned-le : (a b : ℤ) → Longitude a → Longitude b → a ≤ℤ b → turned a ≤ turned b
-turned-le (pos a) (pos b) h k l = omega (arith, leb→le a b (l .le))
-turned-le (pos a) (negsuc b) h k l = absurd (l .le)
-turned-le (negsuc a) (pos b) h k l = omega arith
-turned-le (negsuc a) (negsuc b) h k l = omega (arith, leb→le b a (l .le))
+place-le : (a b : ℤ) → Longitude a → Longitude b → a ≤ℤ b → fromDateLine a ≤ fromDateLine b
+place-le (pos a) (pos b) h k l = omega (arith, leb→le a b (l .le))
+place-le (pos a) (negsuc b) h k l = absurd (l .le)
+place-le (negsuc a) (pos b) h k l = omega arith
+place-le (negsuc a) (negsuc b) h k l = omega (arith, leb→le b a (l .le))
 
-le-turned : (a b : ℤ) → Longitude a → Longitude b → turned a ≤ turned b → a ≤ℤ b
-le-turned (pos a) (pos b) h k l = record { le = rw (le-leb a b (omega arith)) tt }
-le-turned (pos a) (negsuc b) h k l = absurd (omega (arith, low b k))
-le-turned (negsuc a) (pos b) h k l = record { le = tt }
-le-turned (negsuc a) (negsuc b) h k l = record { le = rw (le-leb b a (omega (arith, low a h, low b k))) tt }
+le-place : (a b : ℤ) → Longitude a → Longitude b → fromDateLine a ≤ fromDateLine b → a ≤ℤ b
+le-place (pos a) (pos b) h k l = record { le = rw (le-leb a b (omega arith)) tt }
+le-place (pos a) (negsuc b) h k l = absurd (omega (arith, low b k))
+le-place (negsuc a) (pos b) h k l = record { le = tt }
+le-place (negsuc a) (negsuc b) h k l = record { le = rw (le-leb b a (omega (arith, low a h, low b k))) tt }
 
 -- the meridian is at both ends
-to-ends : (x : ℤ) → OnMeridian x → Ends (turned x)
-to-ends x (inl e) = inr (ap turned e)
-to-ends x (inr e) = inl (ap turned e)
+to-ends : (x : ℤ) → OnMeridian x → Ends (fromDateLine x)
+to-ends x (inl e) = inr (ap fromDateLine e)
+to-ends x (inr e) = inl (ap fromDateLine e)
 
-from-ends : (x : ℤ) → Longitude x → Ends (turned x) → OnMeridian x
+from-ends : (x : ℤ) → Longitude x → Ends (fromDateLine x) → OnMeridian x
 from-ends (pos a) h (inl e) = absurd (omega arith)
 from-ends (pos a) h (inr e) = let z : a ≡ 10800 = omega arith in inl (ap pos z)
 from-ends (negsuc a) h (inl e) = let z : a ≡ 10799 = omega (arith, low a h) in inr (ap negsuc z)
@@ -76,7 +75,7 @@ edge-lies e h =
 
 -- what a box holds, its latitudes aside
 apart : (b : Region) (latitude longitude : ℤ) (P : Type 0)
-    → (Eastward (turned (liesAt (b .west))) (turned (liesAt (b .east))) (turned longitude) ↔ P)
+    → (Eastward (fromDateLine (liesAt (b .west))) (fromDateLine (liesAt (b .east))) (fromDateLine longitude) ↔ P)
     → Holds b latitude longitude ↔ (Latitudes b latitude × P)
 apart b latitude longitude P f = (
   λ h. ((h .south, h .north), f .0 (h .along)),
@@ -91,10 +90,10 @@ module _ (b : Region) (n x : ℤ) (west : b .west .degrees ≤ 180) (east : b .e
   second = edge-lies (b .east) east
 
   abbrev w : ℕ
-  w = turned (liesAt (b .west))
+  w = fromDateLine (liesAt (b .west))
 
   abbrev e : ℕ
-  e = turned (liesAt (b .east))
+  e = fromDateLine (liesAt (b .east))
 
   w-most : w ≤ 21600
   w-most = most (liesAt (b .west)) first
@@ -103,24 +102,24 @@ module _ (b : Region) (n x : ℤ) (west : b .west .degrees ≤ 180) (east : b .e
   e-most = most (liesAt (b .east)) second
 
   falls : Wraps b → e < w
-  falls v = by-le w e (λ (l : w ≤ e). absurd (v (le-turned (liesAt (b .west)) (liesAt (b .east)) first second l))) (λ (l : e < w). l)
+  falls v = by-le w e (λ (l : w ≤ e). absurd (v (le-place (liesAt (b .west)) (liesAt (b .east)) first second l))) (λ (l : e < w). l)
 
   rises : ¬ Wraps b → w ≤ e
   rises v =
       by-le w e (λ (l : w ≤ e). l)
-      (λ (l : e < w). absurd (v (λ g. omega (arith, turned-le (liesAt (b .west)) (liesAt (b .east)) first second g))))
+      (λ (l : e < w). absurd (v (λ g. omega (arith, place-le (liesAt (b .west)) (liesAt (b .east)) first second g))))
 
-  from : (liesAt (b .west) ≤ℤ x) ↔ (w ≤ turned x)
-  from = (turned-le (liesAt (b .west)) x first at, le-turned (liesAt (b .west)) x first at)
+  from : (liesAt (b .west) ≤ℤ x) ↔ (w ≤ fromDateLine x)
+  from = (place-le (liesAt (b .west)) x first at, le-place (liesAt (b .west)) x first at)
 
-  to : (x ≤ℤ liesAt (b .east)) ↔ (turned x ≤ e)
-  to = (turned-le x (liesAt (b .east)) at second, le-turned x (liesAt (b .east)) at second)
+  to : (x ≤ℤ liesAt (b .east)) ↔ (fromDateLine x ≤ e)
+  to = (place-le x (liesAt (b .east)) at second, le-place x (liesAt (b .east)) at second)
 
-  sides : ((liesAt (b .west) ≤ℤ x) ⊎ (x ≤ℤ liesAt (b .east))) → (w ≤ turned x) ⊎ (turned x ≤ e)
+  sides : ((liesAt (b .west) ≤ℤ x) ⊎ (x ≤ℤ liesAt (b .east))) → (w ≤ fromDateLine x) ⊎ (fromDateLine x ≤ e)
   sides (inl l) = inl (from .0 l)
   sides (inr l) = inr (to .0 l)
 
-  sides-back : ((w ≤ turned x) ⊎ (turned x ≤ e)) → (liesAt (b .west) ≤ℤ x) ⊎ (x ≤ℤ liesAt (b .east))
+  sides-back : ((w ≤ fromDateLine x) ⊎ (fromDateLine x ≤ e)) → (liesAt (b .west) ≤ℤ x) ⊎ (x ≤ℤ liesAt (b .east))
   sides-back (inl l) = inl (from .1 l)
   sides-back (inr l) = inr (to .1 l)
 
@@ -128,7 +127,7 @@ module _ (b : Region) (n x : ℤ) (west : b .west .degrees ≤ 180) (east : b .e
   Straightly = Between b x ⊎ (OnMeridian x × (OnMeridian (liesAt (b .west)) ⊎ OnMeridian (liesAt (b .east))))
 
   abbrev Places : Type 0
-  Places = Straight w e (turned x) w-most e-most (most x at)
+  Places = Straight w e (fromDateLine x) w-most e-most (most x at)
 
   straightly : Straightly → Places
   straightly (inl l) = inl (from .0 (l .0), to .0 (l .1))
@@ -146,10 +145,10 @@ module _ (b : Region) (n x : ℤ) (west : b .west .degrees ≤ 180) (east : b .e
       either (inl o) = inl (from-ends (liesAt (b .west)) first o)
       either (inr o) = inr (from-ends (liesAt (b .east)) second o)
 
-  straight-is : w ≤ e → Eastward w e (turned x) ↔ Straightly
+  straight-is : w ≤ e → Eastward w e (fromDateLine x) ↔ Straightly
   straight-is l = (
-    λ a. straight-back (straight-out w e (turned x) w-most e-most (most x at) l a),
-    λ s. straight-in w e (turned x) w-most e-most (most x at) l (straightly s),
+    λ a. straight-back (straight-out w e (fromDateLine x) w-most e-most (most x at) l a),
+    λ s. straight-in w e (fromDateLine x) w-most e-most (most x at) l (straightly s),
   )
 
   no-edge : ¬ OnMeridian (liesAt (b .west)) → ¬ OnMeridian (liesAt (b .east)) → Straightly → Between b x
@@ -165,8 +164,8 @@ module _ (b : Region) (n x : ℤ) (west : b .west .degrees ≤ 180) (east : b .e
       record {
         wrapping = λ v.
             apart b n x ((liesAt (b .west) ≤ℤ x) ⊎ (x ≤ℤ liesAt (b .east))) (
-              λ a. sides-back (over-out w e (turned x) w-most e-most (most x at) (falls v) a),
-              λ s. over-in w e (turned x) w-most e-most (most x at) (falls v) (sides s),
+              λ a. sides-back (over-out w e (fromDateLine x) w-most e-most (most x at) (falls v) a),
+              λ s. over-in w e (fromDateLine x) w-most e-most (most x at) (falls v) (sides s),
             );
         straight = λ v. apart b n x Straightly (straight-is (rises v));
         as-before = λ v i j.
@@ -212,37 +211,37 @@ module _ (e p : ℕ) (within : (0 < e) × (e < 21600)) where
 
 module _ (b : Region) (n x : ℤ) (at : Longitude x) where
   -- from one end to the other, over the date line, there is nothing but the meridian
-  end-to-end : Eastward 21600 0 (turned x) ↔ OnMeridian x
+  end-to-end : Eastward 21600 0 (fromDateLine x) ↔ OnMeridian x
   end-to-end = (
-    λ a. from-ends x at (out (over-out 21600 0 (turned x) (omega arith) (omega arith) (most x at) (omega arith) a)),
-    λ o. over-in 21600 0 (turned x) (omega arith) (omega arith) (most x at) (omega arith) (inside (to-ends x o)),
+    λ a. from-ends x at (out (over-out 21600 0 (fromDateLine x) (omega arith) (omega arith) (most x at) (omega arith) a)),
+    λ o. over-in 21600 0 (fromDateLine x) (omega arith) (omega arith) (most x at) (omega arith) (inside (to-ends x o)),
   )
     where
-      out : (21600 ≤ turned x) ⊎ (turned x ≤ 0) → Ends (turned x)
+      out : (21600 ≤ fromDateLine x) ⊎ (fromDateLine x ≤ 0) → Ends (fromDateLine x)
       out (inl l) = let m = most x at in inr (omega arith)
       out (inr l) = inl (omega arith)
 
-      inside : Ends (turned x) → (21600 ≤ turned x) ⊎ (turned x ≤ 0)
+      inside : Ends (fromDateLine x) → (21600 ≤ fromDateLine x) ⊎ (fromDateLine x ≤ 0)
       inside (inl z) = inr (omega arith)
       inside (inr z) = inl (omega arith)
 
   -- nor is there from an end to itself
-  at-an-end : (w : ℕ) → w ≤ 21600 → Ends w → Eastward w w (turned x) ↔ OnMeridian x
+  at-an-end : (w : ℕ) → w ≤ 21600 → Ends w → Eastward w w (fromDateLine x) ↔ OnMeridian x
   at-an-end w l i = (
-    λ a. from-ends x at (out (straight-out w w (turned x) l l (most x at) (omega arith) a)),
-    λ o. straight-in w w (turned x) l l (most x at) (omega arith) (inr (to-ends x o, inl i)),
+    λ a. from-ends x at (out (straight-out w w (fromDateLine x) l l (most x at) (omega arith) a)),
+    λ o. straight-in w w (fromDateLine x) l l (most x at) (omega arith) (inr (to-ends x o, inl i)),
   )
     where
-      out : Straight w w (turned x) l l (most x at) → Ends (turned x)
-      out (inl m) = let z : w ≡ turned x = omega (arith, m .0, m .1) in rw z at i
+      out : Straight w w (fromDateLine x) l l (most x at) → Ends (fromDateLine x)
+      out (inl m) = let z : w ≡ fromDateLine x = omega (arith, m .0, m .1) in rw z at i
       out (inr m) = m .0
 
-  round : Eastward 0 21600 (turned x)
-  round = let m = most x at in record { steps = turned x; comes = omega arith; before = inl (omega arith) }
+  round : Eastward 0 21600 (fromDateLine x)
+  round = let m = most x at in record { steps = fromDateLine x; comes = omega arith; before = inl (omega arith) }
 
-  off-meridian : (e : Edge) → e .degrees ≤ 180 → ¬ OnMeridian (liesAt e) → (0 < turned (liesAt e)) × (turned (liesAt e) < 21600)
+  off-meridian : (e : Edge) → e .degrees ≤ 180 → ¬ OnMeridian (liesAt e) → (0 < fromDateLine (liesAt e)) × (fromDateLine (liesAt e) < 21600)
   off-meridian e h i =
-      let l = edge-lies e h in inner (turned (liesAt e)) (most (liesAt e) l) (λ o. i (from-ends (liesAt e) l o))
+      let l = edge-lies e h in inner (fromDateLine (liesAt e)) (most (liesAt e) l) (λ o. i (from-ends (liesAt e) l o))
 
   pub spellings : Spellings b n x
   spellings =
@@ -252,10 +251,10 @@ module _ (b : Region) (n x : ℤ) (at : Longitude x) where
           λ h. record { south = h .south; north = h .north; along = record { steps = h .along .steps; comes = h .along .comes; before = h .along .before } },
         );
         first = λ e h i.
-            let f = from-either (turned (liesAt e)) (turned x) (off-meridian e h i) in
+            let f = from-either (fromDateLine (liesAt e)) (fromDateLine x) (off-meridian e h i) in
             through (apart (running b w180 e) n x _ f) (apart (running b e180 e) n x _ (λ a. a, λ a. a));
         second = λ e h i.
-            let f = to-either (turned (liesAt e)) (turned x) (off-meridian e h i) in
+            let f = to-either (fromDateLine (liesAt e)) (fromDateLine x) (off-meridian e h i) in
             through (apart (running b e w180) n x _ f) (apart (running b e e180) n x _ (λ a. a, λ a. a));
         globe = (λ h. (h .south, h .north), λ l. record { south = l .0; north = l .1; along = round });
         line = apart (running b e180 w180) n x (OnMeridian x) end-to-end;
@@ -265,16 +264,16 @@ module _ (b : Region) (n x : ℤ) (at : Longitude x) where
 
 -- ---- What is decided
 
-or-turned : (s t : Bool) → (s || t) ≡ (t || s)
-or-turned true true = refl
-or-turned true false = refl
-or-turned false true = refl
-or-turned false false = refl
+or-either : (s t : Bool) → (s || t) ≡ (t || s)
+or-either true true = refl
+or-either true false = refl
+or-either false true = refl
+or-either false false = refl
 
 held-same : (b : Region) (n : ℕ) → holds b n 70800 ≡ holds b n 49200
 unfolding holds
 held-same b n =
-    rw (or-turned (eastward (60 * lineOf longitude (b .west)) (60 * lineOf longitude (b .east)) 70800)
+    rw (or-either (eastward (60 * lineOf longitude (b .west)) (60 * lineOf longitude (b .east)) 70800)
     (eastward (60 * lineOf longitude (b .west)) (60 * lineOf longitude (b .east)) 49200))
 
 found-same : (m : ℕ) (bs : List Region) (n : ℕ) → firstFrom m bs n 70800 ≡ firstFrom m bs n 49200

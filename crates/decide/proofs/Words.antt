@@ -25,7 +25,7 @@ use Rattle.lists.specs.declared.Airfields.{Airfields}
 use Rattle.decide.specs.Question.{Question}
 use Rattle.decide.specs.Tests.{inWindow, minutes, holds, hasAirfield, has, inRange, isAirfield}
 use Rattle.decide.specs.Dateline.{Longitude}
-use Rattle.decide.specs.Words.{InRange, AllowedByte, FourAllowed, InWindow, liesAt, turned, Holds, Has}
+use Rattle.decide.specs.Words.{InRange, AllowedByte, FourAllowed, InWindow, liesAt, fromDateLine, Holds, Has}
 use Rattle.decide.proofs.Eastward.{along-said}
 use Rattle.decide.proofs.Tests.{Says, never-said, reworded, both-said, either-said, le-said, lt-said, eq-said, leZ-said}
 
@@ -158,12 +158,12 @@ module _ (c : Circle) (most : c .most ≤ 180)
   to-said = rw (edge-line, above-order n (liesAt e) 60000 small edge-size) (leZ-said n (liesAt e))
 
 -- minutes from 1000 degrees below zero, of a place from 180W on
-place : (x : ℤ) → Longitude x → (minutes x ≡ 49200 + turned x) × (turned x ≤ 21600)
+place : (x : ℤ) → Longitude x → (minutes x ≡ 49200 + fromDateLine x) × (fromDateLine x ≤ 21600)
 place (pos a) h = (omega arith, omega (arith, leb→le a 10800 (h .1 .le)))
 place (negsuc a) h = (omega (arith, leb→le a 10799 (h .0 .le)), omega arith)
 
 -- and of a longitude's edge
-edge-place : (e : Edge) → Allowed longitude e → (60 * lineOf longitude e ≡ 49200 + turned (liesAt e)) × (turned (liesAt e) ≤ 21600)
+edge-place : (e : Edge) → Allowed longitude e → (60 * lineOf longitude e ≡ 49200 + fromDateLine (liesAt e)) × (fromDateLine (liesAt e) ≤ 21600)
 unfolding lineOf
 edge-place e ok =
     rw (edge-below longitude (omega arith) refl refl e ok (pos 0) (omega arith))
@@ -186,7 +186,7 @@ module _ (n e : ℤ) (small : mag n < 60000) (little : Longitude e) where
       (both-said
       (both-said (from-said latitude (omega arith) refl refl (b .south) (ok .south) n small)
       (to-said latitude (omega arith) refl refl (b .north) (ok .north) n small))
-      (along-said (turned (liesAt (b .west))) (turned (liesAt (b .east))) (w .1) (x .1) (turned e) (p .1)))
+      (along-said (fromDateLine (liesAt (b .west))) (fromDateLine (liesAt (b .east))) (w .1) (x .1) (fromDateLine e) (p .1)))
       (λ p. record { south = p .0 .0; north = p .0 .1; along = p .1 })
       (λ h. ((h .south, h .north), h .along)))
 

@@ -1,7 +1,7 @@
 -- Document 02, §2, "Boxes over the date line", in its own words: which positions a box holds. A field is a sentence.
 use mathlib.Core.Path.{_≡_}
 use mathlib.Core.Logic.{_↔_, _⊎_}
-use Prim.Native.Nat.{ℕ, _≤_}
+use Prim.Native.Nat.{_≤_}
 use lib.IntN.{ℤ, pos, negℤ}
 use lib.Signed.{_≤ℤ_}
 use Rattle.field.specs.declared.Edge.{Edge}

@@ -82,8 +82,8 @@ liesAt e = cond (eqb (e .letter) 83 || eqb (e .letter) 87) (negℤ (pos (60 * e 
 
 -- Document 02, §2: "an area runs eastward from its first longitude and may wrap", "180W and 180E are the same meridian". Places
 -- are minutes eastward from 180W: 180W is 0 and 180E is 21600, a whole turn.
-abbrev pub turned : ℤ → ℕ
-turned x = above x 10800
+abbrev pub fromDateLine : ℤ → ℕ
+fromDateLine x = above x 10800
 
 -- going on from the first edge, a minute at a time round the globe, one comes to the meridian, and not past the second edge on
 -- the way: that lies a turn further on where the first is above it
@@ -95,7 +95,7 @@ pub record Eastward (first second place : ℕ) : Type 0 where
 pub record Holds (b : Region) (latitude longitude : ℤ) : Type 0 where
   pub south : liesAt (b .south) ≤ℤ latitude
   pub north : latitude ≤ℤ liesAt (b .north)
-  pub along : Eastward (turned (liesAt (b .west))) (turned (liesAt (b .east))) (turned longitude)
+  pub along : Eastward (fromDateLine (liesAt (b .west))) (fromDateLine (liesAt (b .east))) (fromDateLine longitude)
 
 -- one box of a list; of its entries the first, as many as its count says, are boxes
 pub record SomeHolds (l : Boxes) (latitude longitude : ℤ) : Type 0 where

@@ -6,7 +6,6 @@ use mathlib.Core.List.{List}
 use Prim.Native.Nat.{ℕ, _+_, _*_, _≤_}
 use native.Mathlib.Omega.{arith}
 use lib.Dec.{eqb}
-use lib.IntN.{pos, negℤ}
 use lib.ListN.{length, getD}
 use borrow.Author.Tests.{leb-false}
 use Rattle.text.specs.declared.Seen.{Seen}
@@ -17,15 +16,10 @@ use Rattle.field.specs.declared.Region.{Region}
 use Rattle.field.proofs.Accepted.{edge}
 use Rattle.settings.specs.declared.Settings.{Settings}
 use Rattle.command.specs.Record.{commandText}
-use Rattle.command.specs.Sections.{placeFrom, placeOf}
+use Rattle.command.specs.Sections.{placeFrom}
 use Rattle.command.specs.Text.{longest, checkCommand}
 use Rattle.command.specs.declared.Command.{Command}
 use Rattle.command_write.specs.Filled.{Filled}
-use Rattle.decide.specs.Dateline.{asked}
-use Rattle.decide.specs.Question.{Question}
-use Rattle.decide.specs.Reason.{decided, explained}
-use Rattle.decide.specs.declared.Decided.{Decided}
-use Rattle.decide.specs.declared.Explained.{Explained}
 use Rattle.decide.proofs.Dateline.{dateline}
 use Rattle.desk.specs.Decisions.{decidedNumbers, explainedNumbers}
 use Rattle.desk.specs.Numbers.{checkNumbers}
@@ -36,7 +30,7 @@ use Rattle.promises.specs.Sections.{numberAt, pastBoxes}
 use Rattle.promises.proofs.Command.{command-promises}
 use Rattle.promises.proofs.Configuration.{configuration-promises}
 use Rattle.promises.proofs.Relaid.{settings-kept, command-kept, length-kept}
-use Rattle.promises.proofs.Sevens.{South, Disagrees, check-seven}
+use Rattle.promises.proofs.Sevens.{Disagrees, check-seven}
 
 -- ---- Where 7 stands
 
