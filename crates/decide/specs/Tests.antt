@@ -48,7 +48,7 @@ abbrev pub eastward : ℕ → ℕ → ℕ → Bool
 eastward first second east =
     cond (leb first second) (leb first east && leb east second) (leb first east || leb east second)
 
--- "180W and 180E are the same meridian": the other spelling of a longitude, which 180 degrees alone have
+-- "180W and 180E are the same meridian": the other spelling of a longitude, which 180W (49200) and 180E (70800) alone have
 abbrev pub otherSpelling : ℕ → ℕ
 otherSpelling east = cond (eqb east 49200) 70800 (cond (eqb east 70800) 49200 east)
 

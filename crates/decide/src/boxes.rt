@@ -38,7 +38,7 @@ fn is_eastward(first: usize, second: usize, east: usize) -> bool
     (past & before) | ((second < first) & (past | before))
 }
 
-// 180W and 180E are one meridian: the position's other spelling, where it is that; else the position.
+// 180W (49200) and 180E (70800) are one meridian: the position's other spelling, where it is that; else the position.
 fn spelt_otherwise(east: usize) -> usize
     ensures { λ r. ⌜ r ≡ otherSpelling east ⌝ }
 {
