@@ -33,7 +33,7 @@ past-over d at k t h l =
     ∙ drop-drop r (at + length t) d
     ∙ ap (λ (n : ℕ). drop n d) e
 
--- a text written into slot i leaves the 835 bytes of every other slot
+-- a text written into slot i leaves the bytes of every other slot
 bytes-kept : (area : List ℕ) (n i j : ℕ) (t : List ℕ) → length area ≡ longest * n → i < n → length t ≤ longest → (j ≡ i → ⊥)
     → take longest (drop (longest * j) (over area (longest * i) t)) ≡ take longest (drop (longest * j) area)
 bytes-kept area n i j t e l h q =

@@ -51,7 +51,7 @@ shape-false true true f v h = never refl h
 shape-false true false f v h = refl
 shape-false false e f v h = refl
 
--- two accepted texts join in 835 bytes
+-- two accepted texts join in the longest's bytes
 join-is : (s t : List ℕ) → checkCommand s ≡ Fine → checkCommand t ≡ Fine → join s t longest ≡ Joins (joinText s t)
 unfolding join
 join-is s t e f = rw (e, f, le-leb (length (joinText s t)) longest (join-short s t e f))

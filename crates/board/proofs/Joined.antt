@@ -21,7 +21,7 @@ use Rattle.board.proofs.Steps.{is-fine, accepted-some, joins}
 
 -- ---- One text
 
--- an accepted text has at most 835 bytes
+-- an accepted text is no longer than the longest
 pub accepted-short : (t : List ℕ) → isFine (checkCommand t) ≡ true → length t ≤ longest
 accepted-short t f = accepted t (is-fine (checkCommand t) f) .short
 

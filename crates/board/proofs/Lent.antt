@@ -61,7 +61,7 @@ drop-here d n t h =
 
 -- ---- The shape
 
--- at most 64 slots, an area of exactly 835 bytes for each, no length above 835
+-- at most 64 slots, an area of exactly the longest for each, no length above it
 pub record Shape (xs : List Slot) (area : List ℕ) : Type 0 where
   pub few : length xs ≤ 64
   pub bytes : length area ≡ longest * length xs
@@ -102,7 +102,7 @@ unfolding boardOf
 length-board [] area = refl
 length-board (x ∷ xs) area = ap suc (length-board xs (drop longest area))
 
--- place i: the designator of slot i, and as many bytes of its own 835 as wait
+-- place i: the designator of slot i, and as many of its own bytes as wait
 pub slot-at : (xs : List Slot) (area : List ℕ) (i : ℕ) → i < length xs
     → getD (boardOf xs area) i emptySlot
     ≡ record {
@@ -137,13 +137,13 @@ free-at (x ∷ xs) area (suc i) e f l =
     let k : length area ≡ longest + longest * length xs = e ∙ omega arith in
     free-at xs (drop longest area) i (length-drop longest area ∙ omega arith) (fit-rest x xs f) (omega arith)
 
--- no slot's length is above 835
+-- no slot's length is above the longest
 pub fit-at : (xs : List Slot) (i : ℕ) → lengthsFit xs ≡ true → getD xs i noSlot .length ≤ longest
 fit-at [] i f = omega arith
 fit-at (x ∷ xs) zero f = fit-first x xs f
 fit-at (x ∷ xs) (suc i) f = fit-at xs i (fit-rest x xs f)
 
--- the text of place i stands in the area from 835 i on
+-- the text of place i stands in the area behind i of the longest
 pub text-at : (xs : List Slot) (area : List ℕ) (i : ℕ) → lengthsFit xs ≡ true → i < length xs
     → getD (boardOf xs area) i emptySlot .text ≡ take (getD xs i noSlot .length) (drop (longest * i) area)
 text-at xs area i f l =

@@ -1,7 +1,7 @@
 -- The statement by figures: the log that the events of a night call for, from the definitions of the history alone, and the board's own log.
 use mathlib.Core.Path.{_≡_, refl}
 use mathlib.Core.List.{List, [], _∷_, _++_, map}
-use Prim.Native.Nat.{ℕ}
+use Prim.Native.Nat.{ℕ, _-_, _*_}
 use lib.ListN.{replicate}
 use Rattle.text.specs.Equal.{sameBytes}
 use Rattle.text.specs.Names.{allowed, allAllowed}
@@ -87,15 +87,15 @@ slots-used : after (emptySlot ∷ emptySlot ∷ emptySlot ∷ []) refilled
 unfolding after add takeOut isValid any lowest isFor isFree waiting sameBytes allowed allAllowed first second checkCommand sectionsMost layoutOf tableOf itemsMost checkHead checkAwr04 checkEach checkDelimiter checkFrom checkItems checkDigits allDigits valueFrom
 slots-used = refl
 
--- ---- And on what is lent: two slots of 835 bytes
+-- ---- And on what is lent: two slots, each with the longest command's bytes
 
 abbrev lent : Lent
-lent = record { slots = noSlot ∷ noSlot ∷ []; area = replicate 1670 0 }
+lent = record { slots = noSlot ∷ noSlot ∷ []; area = replicate (longest * 2) 0 }
 
 lent-holds : afterCalls lent (Add xy first ∷ Add zz second ∷ Take xy 31 ∷ [])
     ≡ record {
       slots = record { designator = xy; length = 0 } ∷ record { designator = zz; length = 31 } ∷ [];
-      area = first ++ (replicate 809 0 ++ (second ++ replicate 804 0));
+      area = first ++ (replicate (longest - 26) 0 ++ (second ++ replicate (longest - 31) 0));
     }
 unfolding afterCalls addLent takeLent isShaped lengthsFit boardOf over add takeOut isValid any lowest isFor isFree waiting sameBytes allowed allAllowed first second checkCommand sectionsMost layoutOf tableOf itemsMost checkHead checkAwr04 checkEach checkDelimiter checkFrom checkItems checkDigits allDigits valueFrom
 lent-holds = refl

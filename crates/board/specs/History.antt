@@ -128,7 +128,7 @@ act x t = cond (isFine (checkCommand t)) (applyTo x t) x
 pub record Demand3 (b : List WaitingSlot) (es : List Event) : Type 0 where
   -- what waits for an aircraft is all its accepted commands since the last hand-over, joined in order
   pub waits : (d : List ℕ) → waiting d (after b es) ≡ joined (since d (logged b es))
-  -- in at most 835 bytes
+  -- in no more bytes than the longest command
   pub short : (d : List ℕ) → length (waiting d (after b es)) ≤ longest
   -- it leaves a configuration as those commands would have, one after the other
   pub acts : (d : List ℕ) (x : Settings) → act x (waiting d (after b es)) ≡ foldl act x (since d (logged b es))

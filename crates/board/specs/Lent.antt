@@ -1,4 +1,4 @@
--- The board as it is lent: a run of at most 64 slot records, and a text area of 835 bytes a slot.
+-- The board as it is lent: a run of at most 64 slot records, and a text area with the longest command's bytes a slot.
 use mathlib.Core.Bool.{Bool, true, cond, _&&_}
 use mathlib.Core.List.{List, [], _∷_}
 use Prim.Native.Nat.{ℕ, _*_}
@@ -9,7 +9,7 @@ use Rattle.command.specs.Text.{longest}
 use Rattle.board.specs.Board.{mostSlots, WaitingSlot, Move, Stay, Put, Free, Reply, Given, Refused, add, takeOut, isValid}
 use Rattle.board.specs.declared.Slot.{Slot}
 
--- what waits, by slots and area: in each slot the first of its own 835 bytes, as many as its length says
+-- what waits, by slots and area: in each slot the first of its own bytes, as many as its length says
 unfoldable pub boardOf : List Slot → List ℕ → List WaitingSlot
 boardOf [] area = []
 boardOf (x ∷ xs) area =
@@ -19,7 +19,7 @@ unfoldable pub lengthsFit : List Slot → Bool
 lengthsFit [] = true
 lengthsFit (x ∷ xs) = leb (x .length) longest && lengthsFit xs
 
--- at most 64 slots, an area of exactly 835 bytes for each, no length above 835
+-- at most 64 slots, an area of exactly the longest for each, no length above it
 unfoldable pub isShaped : List Slot → List ℕ → Bool
 isShaped xs area = leb (length xs) mostSlots && (eqb (length area) (longest * length xs) && lengthsFit xs)
 

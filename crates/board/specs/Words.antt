@@ -20,7 +20,7 @@ slotAt slots i = getD slots i noSlot
 abbrev pub InUse : List Slot → ℕ → Type 0
 InUse slots i = slotAt slots i .length ≡ 0 → ⊥
 
--- "a text area of 835 bytes a slot": the text of slot i is the first of its bytes, as many as its length says
+-- "a text area of" as many bytes a slot as the longest command has: the text of slot i is the first of its bytes, as many as its length says
 abbrev pub textIn : List Slot → List ℕ → ℕ → List ℕ
 textIn slots area i = take (slotAt slots i .length) (take longest (drop (longest * i) area))
 
@@ -28,7 +28,7 @@ textIn slots area i = take (slotAt slots i .length) (take longest (drop (longest
 abbrev pub WellFormed : List ℕ → Type 0
 WellFormed d = (length d ≡ 6) × (allOneOf nameBytes d ≡ true)
 
--- "Valid: at most 64 slots, an area of exactly 835 bytes for each, used designators well formed and different, used texts accepted."
+-- "Valid: at most 64 slots, an area of exactly" so many "bytes for each, used designators well formed and different, used texts accepted."
 pub record ValidBoard (slots : List Slot) (area : List ℕ) : Type 0 where
   pub few : length slots ≤ mostSlots
   pub bytes : length area ≡ longest * length slots

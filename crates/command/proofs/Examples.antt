@@ -23,7 +23,7 @@ unfolding examples longestText checkCommand sectionsMost itemsMost checkHead che
 examples-read =
     ((refl, refl, refl), ((refl, refl, refl), ((refl, refl, refl), ((refl, refl, refl), ((refl, refl, refl), tt)))))
 
--- the longest command has 835 bytes
+-- the longest command has as many bytes as any may have
 pub longest-text : length longestText ≡ longest
 unfolding longestText
 longest-text = refl

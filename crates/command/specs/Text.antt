@@ -1,4 +1,4 @@
--- Document 01, "The command, 22 to 835 bytes": its text, field by field from left to right.
+-- Document 01, "The command": its text, field by field from left to right.
 use mathlib.Core.Bool.{Bool, true, false, cond, _&&_, _||_, not}
 use mathlib.Core.List.{List, [], _∷_, _++_}
 use Prim.Native.Nat.{ℕ, zero, suc, _+_}
@@ -78,7 +78,7 @@ checkFrom (k ∷ ks) s at = cond (isNamed s k) (after (checkSection k s at) (che
 
 -- ---- The whole
 
--- "22 to 835 bytes": the longest has 22 bytes and every section at its longest
+-- the most bytes: the longest has 22 and every section at its longest
 abbrev pub longest : ℕ
 longest = 835
 

@@ -1,4 +1,4 @@
-// The uplink command of document 01, 22 to 835 bytes.
+// The uplink command of document 01.
 pub mod check;
 pub mod read;
 

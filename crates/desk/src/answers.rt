@@ -35,7 +35,7 @@ pub fn numbers(seen: Seen, length: u32) -> Answer
     }
 }
 
-// No command is longer than 835 bytes.
+// A length that no command passes fits in 32 bits.
 pub fn length_of(length: usize) -> u32
     requires { ⌜ length ≤ longest ⌝ }
     ensures { λ r. ⌜ r ≡ length ⌝ }

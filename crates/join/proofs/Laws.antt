@@ -35,7 +35,7 @@ module _ (a b : List ℕ) (x : checkCommand a ≡ Fine) (y : checkCommand b ≡ 
   pub join-fine : checkCommand (joinText a b) ≡ Fine
   join-fine = accepts (joinText a b) ok
 
-  -- in at most 835 bytes
+  -- in no more bytes than the longest command
   pub join-short : length (joinText a b) ≤ longest
   join-short = ok .short
 

@@ -144,7 +144,7 @@ module _ (s d : List ℕ) (end : ℕ) where
 
 -- ---- The join that is written
 
--- two accepted commands are joined in 835 bytes
+-- two accepted commands are joined in the longest's bytes
 pub joins : (a b : List ℕ) → checkCommand a ≡ Fine → checkCommand b ≡ Fine → join a b longest ≡ Joins (joinText a b)
 unfolding join
 joins a b x y = rw (x, y, le-leb (length (joinText a b)) longest (join-short a b x y))

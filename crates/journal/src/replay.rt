@@ -1,7 +1,7 @@
 // What configuration an aircraft has after the commands of a journal.
 //
 // The walk goes from the newest entry to the oldest, and commands act from the oldest on. So each older command of the aircraft is joined
-// before those that were read already: one command that acts as all of them, in 835 bytes. It is applied once, to the configuration
+// before those that were read already: one command that acts as all of them, no longer than any. It is applied once, to the configuration
 // after reset.
 use crate::Last;
 use crate::Replayed;

@@ -74,7 +74,7 @@ module _ (r : Run) (d : List ℕ) where
       go (t ∷ ts) n a =
           ap checkCommand (sym (joined-is (t ∷ ts) a)) ∙ is-fine (checkCommand (joined (t ∷ ts))) (joined-fine t ts a)
 
-  -- in at most 835 bytes
+  -- in no more bytes than the longest command
   pub short : length (joinOf (acceptedFor r d)) ≤ longest
   short =
       by-said (none-said r d)

@@ -110,7 +110,7 @@ IsRefusal (Free i t) = ⊥
 pub record BoardPromises : Type 0 where
   -- "what waits for an aircraft is always all its accepted commands since the last hand-over, joined in order"
   pub waits : (r : Run) (d : List ℕ) → ¬ (acceptedFor r d ≡ []) → Waits (now r) d (joinOf (acceptedFor r d))
-  -- "in at most 835 bytes"
+  -- in no more bytes than the longest command
   pub short : (r : Run) (d : List ℕ) → length (joinOf (acceptedFor r d)) ≤ longest
   -- one accepted command
   pub fine : (r : Run) (d : List ℕ) → ¬ (acceptedFor r d ≡ []) → IsAccepted (joinOf (acceptedFor r d))

@@ -54,7 +54,7 @@ bufferAfter x (Take d out) = onOut (moveOf x (Take d out)) out
 abbrev pub slotAt : Lent → ℕ → Slot
 slotAt x i = getD (x .slots) i noSlot
 
--- at most 64 slots, 835 bytes of area for each, every slot free; designators and area may hold any bytes
+-- at most 64 slots, the longest command's bytes of area for each, every slot free; designators and area may hold any bytes
 pub record BeganEmpty (x : Lent) : Type 0 where
   pub few : length (x .slots) ≤ mostSlots
   pub bytes : length (x .area) ≡ longest * length (x .slots)
@@ -130,7 +130,7 @@ pub record UsedFor (x : Lent) (d : List ℕ) (i : ℕ) : Type 0 where
 abbrev pub NothingWaits : Lent → List ℕ → Type 0
 NothingWaits x d = (i : ℕ) → ¬ UsedFor x d i
 
--- the text t waits for d: in one slot i and no other; as many bytes as its length says, in the area from 835 i on
+-- the text t waits for d: in one slot i and no other; as many bytes as its length says, in the area behind i of the longest
 pub record Waits (x : Lent) (d t : List ℕ) : Type 0 where
   pub slot : ℕ
   pub used : UsedFor x d slot

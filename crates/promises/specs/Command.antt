@@ -1,4 +1,4 @@
--- Document 01, "The command, 22 to 835 bytes": what is promised of esk_command_check, esk_command_read and
+-- Document 01, "The command": what is promised of esk_command_check, esk_command_read and
 -- esk_command_write.
 use mathlib.Core.Path.{_≡_}
 use mathlib.Core.Logic.{_↔_}
@@ -53,7 +53,7 @@ pub record CommandPromises : Type 0 where
       → (write c out ≡ accepted (length (commandText c)))
       × (read (take (length (commandText c)) (written c out)) ≡ record { answer = accepted 0; command = c })
       × (drop (length (commandText c)) (written c out) ≡ drop (length (commandText c)) out)
-  -- in at most 835 bytes: the first 22 and every section at its longest
+  -- in no more bytes than the longest: the first 22 and every section at its longest
   pub short : (s : List ℕ) → check s .code ≡ 0 → length s ≤ longest
   pub longest-is : longest ≡ 22 + sectionsMost numbers
   -- accepted is code 0: a text is accepted just where it is what an allowed record is written as

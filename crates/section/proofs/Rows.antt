@@ -4,15 +4,52 @@ use mathlib.Core.Bool.{Bool, true, false, cond, not, _&&_, _||_}
 use mathlib.Core.List.{List, [], _∷_, map}
 use Prim.Native.Nat.{ℕ, zero, suc, _+_, _≤_, _<_}
 use native.Mathlib.Omega.{arith}
-use lib.Dec.{leb, eqb}
+use lib.Dec.{leb, ltb, eqb}
 use lib.ListN.{length, getD, drop}
-use lib.Seq.{drop-nil, getD-take, getD-drop}
-use borrow.Author.Tests.{leb-true, eqb-true}
+use lib.Seq.{drop-nil, getD-take}
+use borrow.Author.Tests.{leb-true, ltb-true, eqb-true, ne-eqb}
 use Rattle.text.proofs.Cases.{by-test, both-left, both-right}
 use Rattle.section.specs.declared.Row.{Row}
 use Rattle.section.specs.declared.Layout.{Layout}
-use Rattle.section.specs.Layout.{Item, Digits, AirfieldList, BoxList, Section, noRow, isEmpty, itemsOf, tableOf, layoutOf}
-use Rattle.section.specs.Inner.{allSmall, allRows, Laid}
+use Rattle.section.specs.Layout.{Item, Digits, AirfieldList, BoxList, Section, noRow, look, sections, none, isEmpty, itemsOf, tableOf, layoutOf}
+use Rattle.section.specs.Inner.{allSmall, Laid}
+
+-- ---- What is so of every section
+
+abbrev passes : {A : Type 0} → (A → Bool) → List (ℕ × A) → Bool
+passes test [] = true
+passes test ((j, a) ∷ rows) = test a && passes test rows
+
+-- what is so of each entry of a table, and of what there is for any other number, is so at every number
+pub look-passes : {A : Type 0} (test : A → Bool) (k : ℕ) (rows : List (ℕ × A)) (other : A) → passes test rows ≡ true → test other ≡ true
+    → test (look k rows other) ≡ true
+look-passes test k [] other p o = o
+look-passes test k ((j, a) ∷ rows) other p o =
+    by-test (eqb k j)
+    (λ (y : eqb k j ≡ true). rw y (both-left (test a) (passes test rows) p))
+    (λ (y : eqb k j ≡ false). rw y (look-passes test k rows other (both-right (test a) (passes test rows) p) o))
+
+abbrev allBelow : {A : Type 0} → ℕ → List (ℕ × A) → Bool
+allBelow n [] = true
+allBelow n ((j, a) ∷ rows) = ltb j n && allBelow n rows
+
+-- past the numbers of a table there is what there is for any other
+pub look-past : {A : Type 0} (n k : ℕ) (rows : List (ℕ × A)) (other : A) → allBelow n rows ≡ true → n ≤ k → look k rows other ≡ other
+look-past n k [] other b h = refl
+look-past n k ((j, a) ∷ rows) other b h =
+    let low = ltb-true j n (both-left (ltb j n) (allBelow n rows) b) in
+    rw (ne-eqb k j (λ e. omega (arith, low))) (look-past n k rows other (both-right (ltb j n) (allBelow n rows) b) h)
+
+-- no section has a number past 9
+pub table-past : (k : ℕ) → 10 ≤ k → tableOf k ≡ none
+unfolding tableOf
+table-past k h = look-past 10 k sections none refl h
+
+-- ---- The rows of a section
+
+-- what an array of rows has past its end
+abbrev pub zeroRow : Row
+zeroRow = record { code = 0; width = 0; least = 0; most = 0 }
 
 -- the rows from the i-th on
 abbrev pub rowsFrom : List Row → ℕ → List Item
@@ -49,20 +86,9 @@ small-row (r ∷ rows) (suc i) d h s = small-row rows i d (omega arith) (both-ri
 abbrev isSmall : Section → Bool
 isSmall x = leb (length (x .rows)) 8 && allSmall (x .rows)
 
-either : {A : Type 0} (test : A → Bool) (t : Bool) (a b : A) → test a ≡ true → test b ≡ true → test (cond t a b) ≡ true
-either test true a b x y = x
-either test false a b x y = y
-
 is-small : (k : ℕ) → isSmall (tableOf k) ≡ true
 unfolding tableOf allSmall
-is-small k =
-    either isSmall (eqb k 2) _ _ refl
-    (either isSmall (eqb k 3) _ _ refl
-    (either isSmall (eqb k 4) _ _ refl
-    (either isSmall (eqb k 5) _ _ refl
-    (either isSmall (eqb k 6) _ _ refl
-    (either isSmall (eqb k 8) _ _ refl
-    (either isSmall (eqb k 9) _ _ refl refl))))))
+is-small k = look-passes isSmall k sections none refl refl
 
 -- every section's are
 pub table-small : (k : ℕ) → (length (tableOf k .rows) ≤ 8) × (allSmall (tableOf k .rows) ≡ true)
@@ -71,12 +97,17 @@ table-small k =
     let small = allSmall (tableOf k .rows) in
     (leb-true (length (tableOf k .rows)) 8 (both-left few small (is-small k)), both-right few small (is-small k))
 
--- the rows of a section stand one behind the other
-pub laid-row : {x : Section} {l : Layout} → Laid x l → (i : ℕ) → i < length (x .rows) → getD allRows (l .first + i) noRow ≡ getD (x .rows) i noRow
+any-default : (rows : List Row) (i : ℕ) (d e : Row) → i < length rows → getD rows i d ≡ getD rows i e
+any-default [] i d e h = absurd (omega arith)
+any-default (r ∷ rows) zero d e h = refl
+any-default (r ∷ rows) (suc i) d e h = any-default rows i d e (omega arith)
+
+-- a row of the layout is that of the section
+pub laid-row : {x : Section} {l : Layout} → Laid x l → (i : ℕ) → i < length (x .rows) → getD (l .rows) i zeroRow ≡ getD (x .rows) i noRow
 laid-row {x} {l} e i h =
-    sym (getD-drop (l .first) allRows i noRow)
-    ∙ sym (getD-take (l .count) (drop (l .first) allRows) i noRow (omega (arith, e .count)))
-    ∙ ap (λ (rows : List Row). getD rows i noRow) (e .rows)
+    sym (getD-take (l .count) (l .rows) i zeroRow (omega (arith, e .count)))
+    ∙ ap (λ (rows : List Row). getD rows i zeroRow) (e .rows)
+    ∙ any-default (x .rows) i zeroRow noRow h
 
 -- whether a section has an item
 abbrev hasSome : Section → Bool
@@ -96,13 +127,7 @@ pub table-some : (k : ℕ)
 unfolding tableOf
 table-some k =
     same-some (hasSome (tableOf k)) (isEmpty (itemsOf (tableOf k)))
-    (either saysSome (eqb k 2) _ _ refl
-    (either saysSome (eqb k 3) _ _ refl
-    (either saysSome (eqb k 4) _ _ refl
-    (either saysSome (eqb k 5) _ _ refl
-    (either saysSome (eqb k 6) _ _ refl
-    (either saysSome (eqb k 8) _ _ refl
-    (either saysSome (eqb k 9) _ _ refl refl)))))))
+    (look-passes saysSome k sections none refl refl)
 
 -- ---- Codes
 
@@ -122,11 +147,4 @@ four-or-five test code a b e =
 
 pub table-coded : (k : ℕ) → codesFit (layoutOf k) ≡ true
 unfolding layoutOf tableOf codesFit
-table-coded k =
-    either (λ l. codesFit (itemsOf l)) (eqb k 2) _ _ refl
-    (either (λ l. codesFit (itemsOf l)) (eqb k 3) _ _ refl
-    (either (λ l. codesFit (itemsOf l)) (eqb k 4) _ _ refl
-    (either (λ l. codesFit (itemsOf l)) (eqb k 5) _ _ refl
-    (either (λ l. codesFit (itemsOf l)) (eqb k 6) _ _ refl
-    (either (λ l. codesFit (itemsOf l)) (eqb k 8) _ _ refl
-    (either (λ l. codesFit (itemsOf l)) (eqb k 9) _ _ refl refl))))))
+table-coded k = look-passes (λ l. codesFit (itemsOf l)) k sections none refl refl

@@ -4,14 +4,14 @@ use mathlib.Core.Bool.{Bool, true, _&&_}
 use mathlib.Core.List.{List, [], _∷_, _++_, map}
 use Prim.Native.Nat.{ℕ, _+_, _-_, _≤_}
 use lib.Dec.{leb}
-use lib.ListN.{length, getD, take, drop, replicate}
+use lib.ListN.{length, getD, take, replicate}
 use Rattle.text.specs.declared.Seen.{Seen}
 use Rattle.text.specs.declared.Seen.the-variants.{Fine, Bad}
 use Rattle.field.specs.declared.Step.{Step}
 use Rattle.field.specs.declared.Step.the-variants.{Next, Stop}
 use Rattle.section.specs.declared.Row.{Row}
 use Rattle.section.specs.declared.Layout.{Layout}
-use Rattle.section.specs.Layout.{Item, Section, noRow, tableOf}
+use Rattle.section.specs.Layout.{Item, Section, noRow}
 use Rattle.section.specs.Contents.{Content, amountOf, contentsText, contentsAllowed}
 
 -- ---- Rows
@@ -21,17 +21,12 @@ unfoldable pub allSmall : List Row → Bool
 allSmall [] = true
 allSmall (r ∷ rs) = (leb (r .width) 3 && leb (r .most) 999) && allSmall rs
 
--- every row that there is, those of a section one behind the other
-unfoldable pub allRows : List Row
-allRows = tableOf 4 .rows ++ (tableOf 5 .rows ++ tableOf 9 .rows)
-
--- a section's lists, and where its rows stand among all
+-- a section's lists, and its rows
 pub record Laid (x : Section) (l : Layout) : Type 0 where
   pub boxes : l .boxes ≡ x .boxes
   pub airfields : l .airfields ≡ x .airfields
   pub count : l .count ≡ length (x .rows)
-  pub inside : l .first + l .count ≤ 12
-  pub rows : take (l .count) (drop (l .first) allRows) ≡ x .rows
+  pub rows : take (l .count) (l .rows) ≡ x .rows
 
 -- ---- A section's numbers, eight of them, those without a row zero
 

@@ -46,10 +46,9 @@ look k [] other = other
 look k ((j, a) ∷ rows) other = cond (eqb k j) a (look k rows other)
 
 -- the sections, each ended by `/`
-unfoldable pub tableOf : ℕ → Section
-tableOf k =
-    look k
-    ((2, layout 2 0 [])
+abbrev pub sections : List (ℕ × Section)
+sections =
+    (2, layout 2 0 [])
     ∷ (3, layout 0 4 (number 1 0 1 ∷ []))
     ∷ (4, layout 0 0 (number 2 1 60 ∷ number 1 0 1 ∷ []))
     ∷ (
@@ -68,8 +67,14 @@ tableOf k =
     ∷ (6, layout 0 0 (number 1 0 1 ∷ []))
     ∷ (8, layout 0 0 (number 1 0 1 ∷ []))
     ∷ (9, layout 0 0 (number 2 0 23 ∷ number 2 0 23 ∷ []))
-    ∷ [])
-    (layout 0 0 [])
+    ∷ []
+
+-- any other number has nothing
+abbrev pub none : Section
+none = layout 0 0 []
+
+unfoldable pub tableOf : ℕ → Section
+tableOf k = look k sections none
 
 -- n items of one kind before others
 abbrev pub several : Item → ℕ → List Item → List Item
@@ -89,7 +94,7 @@ itemsOf x = several BoxList (x .boxes) (listsAndDigits x)
 unfoldable pub layoutOf : ℕ → List Item
 layoutOf k = itemsOf (tableOf k)
 
--- E7 is only 0: no layout, no section
+-- no items, no section
 abbrev pub isEmpty : List Item → Bool
 isEmpty [] = true
 isEmpty (i ∷ is) = false

@@ -1,6 +1,5 @@
 // The sections of a command in a text, from a place on: each number's own length, limits and refusals.
 use crate::table::layout_of;
-use crate::table::row_at;
 use field::Step;
 use field::check::delimiter;
 use field::check::digits;
@@ -62,11 +61,11 @@ fn all_digits(s: &[u8], at: usize, k: usize) -> Step
 {
     let l = layout_of(k);
     let n = l.count;
-    let first = l.first;
+    let rows = l.rows;
     let mut p = at;
     let mut i: usize = 0;
     while i < n {
-        let row = row_at(first + i);
+        let row = rows[i];
         let q = match digits(
             s,
             p,

@@ -11,11 +11,10 @@ pub struct Row {
     pub most: u16,
 }
 
-// A section: so many lists of boxes, so many of airfields, then digits, as the rows of the table say from `first` on, `count` of them,
-// and `/`.
+// A section: so many lists of boxes, so many of airfields, then digits, as its rows say, `count` of them, and `/`.
 pub struct Layout {
     pub boxes: usize,
     pub airfields: usize,
-    pub first: usize,
     pub count: usize,
+    pub rows: [Row; 8],
 }

@@ -1,6 +1,5 @@
 // The numbers of a section, by the rows of its layout: out of a text, checked as a record, into a text.
 use crate::table::layout_of;
-use crate::table::row_at;
 use field::Step;
 use field::digits::value_at;
 use field::record::middle;
@@ -24,12 +23,12 @@ pub fn numbers_at(s: &[u8], at: usize, k: usize) -> [u16; 8]
 {
     let l = layout_of(k);
     let n = l.count;
-    let first = l.first;
+    let rows = l.rows;
     let mut numbers: [u16; 8] = [0; 8];
     let mut p = at;
     let mut i: usize = 0;
     while i < n {
-        let row = row_at(first + i);
+        let row = rows[i];
         let w = wide(row.width);
         numbers[i] = value_at(s, p, w) as u16;
         p += w;
@@ -45,11 +44,11 @@ pub fn pass_numbers(v: [u16; 8], k: usize, at: usize) -> Step
 {
     let l = layout_of(k);
     let n = l.count;
-    let first = l.first;
+    let rows = l.rows;
     let mut p = at;
     let mut i: usize = 0;
     while i < n {
-        let row = row_at(first + i);
+        let row = rows[i];
         let x = v[i];
         if !((row.least <= x) & (x <= row.most)) {
             return Step::Stop(row.code, p);
@@ -83,11 +82,11 @@ pub fn put_numbers(v: [u16; 8], k: usize, d: &mut [u8]) -> usize
 {
     let l = layout_of(k);
     let n = l.count;
-    let first = l.first;
+    let rows = l.rows;
     let mut p = 0;
     let mut i: usize = 0;
     while i < n {
-        let row = row_at(first + i);
+        let row = rows[i];
         let end = p + wide(row.width);
         put_decimal(&mut d[p..end], middle(v[i]));
         p = end;

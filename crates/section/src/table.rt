@@ -1,45 +1,103 @@
 // Each section number has its own length and its own limits: one match gives the lists that a section begins with, as long as their
-// counts say, and which rows its digits have, each row with its limits and the code of a number outside them.
+// counts say, and the rows of its digits, each row with its limits and the code of a number outside them.
 use crate::Layout;
 use crate::Row;
 ghost use mathlib.Core.Path.{_≡_};
 ghost use mathlib.Core.Bool.{not};
-ghost use lib.ListN.{getD};
-ghost use Rattle.section.specs.Layout.{number as numberRow, mark as markRow, noRow, tableOf, layoutOf, isEmpty};
-ghost use Rattle.section.specs.Inner.{allRows, Laid};
+ghost use Rattle.section.specs.Layout.{tableOf, layoutOf, isEmpty};
+ghost use Rattle.section.specs.Inner.{Laid};
 
-// A number: one that doesn't fit is 5.
-fn number(width: u8, least: u16, most: u16) -> Row
-    ensures { λ r. ⌜ r ≡ numberRow width least most ⌝ }
-{
-    Row {
-        code: 5,
-        width,
-        least,
-        most,
-    }
-}
+// ---- Rows. A number that doesn't fit is 5; a mark is one byte that is one of few digits, and any other is 4.
 
-// A mark, one byte that is one of few digits: any other is 4.
-fn mark(least: u16, most: u16) -> Row
-    ensures { λ r. ⌜ r ≡ markRow least most ⌝ }
-{
-    Row {
-        code: 4,
-        width: 1,
-        least,
-        most,
-    }
-}
+const NO_ROW: Row = Row {
+    code: 5,
+    width: 0,
+    least: 0,
+    most: 0,
+};
 
-fn laid_out(boxes: usize, airfields: usize, first: usize, count: usize) -> Layout
-    ensures { λ r. ⌜ r ≡ record { boxes = boxes; airfields = airfields; first = first; count = count } ⌝ }
+// Routine, and maximum wind.
+const DIGIT: Row = Row {
+    code: 5,
+    width: 1,
+    least: 0,
+    most: 1,
+};
+
+// Section 4: the interval.
+const MINUTES: Row = Row {
+    code: 5,
+    width: 2,
+    least: 1,
+    most: 60,
+};
+
+// Section 5, in its order; the mark of its timer is that of its mode.
+const MODE: Row = Row {
+    code: 4,
+    width: 1,
+    least: 0,
+    most: 1,
+};
+
+const INTERVAL1: Row = Row {
+    code: 5,
+    width: 2,
+    least: 3,
+    most: 20,
+};
+
+const DURATION: Row = Row {
+    code: 5,
+    width: 3,
+    least: 30,
+    most: 600,
+};
+
+const INTERVAL2: Row = Row {
+    code: 5,
+    width: 2,
+    least: 3,
+    most: 60,
+};
+
+const TOTAL: Row = Row {
+    code: 5,
+    width: 3,
+    least: 51,
+    most: 111,
+};
+
+const TOP: Row = Row {
+    code: 5,
+    width: 3,
+    least: 150,
+    most: 350,
+};
+
+const LIST: Row = Row {
+    code: 4,
+    width: 1,
+    least: 1,
+    most: 2,
+};
+
+// Section 9: start and end.
+const HOUR: Row = Row {
+    code: 5,
+    width: 2,
+    least: 0,
+    most: 23,
+};
+
+fn laid_out(boxes: usize, airfields: usize, count: usize, rows: [Row; 8]) -> Layout
+    ensures { λ r. ⌜ r ≡ record { boxes = boxes; airfields = airfields; count = count; rows = rows } ⌝ }
 {
     Layout {
         boxes,
         airfields,
-        first,
         count,
+        rows,
     }
 }
 
@@ -47,39 +105,24 @@ fn laid_out(boxes: usize, airfields: usize, first: usize, count: usize) -> Layou
 pub fn layout_of(k: usize) -> Layout
     ensures { λ r. ⌜ Laid (tableOf k) r ⌝ }
 {
+    let no = NO_ROW;
     match k {
-        2 => laid_out(2, 0, 0, 0),
-        3 => laid_out(0, 4, 1, 1),
-        4 => laid_out(0, 0, 0, 2),
-        5 => laid_out(0, 0, 2, 8),
-        6 | 8 => laid_out(0, 0, 1, 1),
-        9 => laid_out(0, 0, 10, 2),
-        _ => laid_out(0, 0, 0, 0),
+        2 => laid_out(2, 0, 0, [no; 8]),
+        3 => laid_out(0, 4, 1, [DIGIT, no, no, no, no, no, no, no]),
+        4 => laid_out(0, 0, 2, [MINUTES, DIGIT, no, no, no, no, no, no]),
+        5 => laid_out(
+            0,
+            0,
+            8,
+            [MODE, INTERVAL1, DURATION, INTERVAL2, TOTAL, TOP, LIST, MODE],
+        ),
+        6 | 8 => laid_out(0, 0, 1, [DIGIT, no, no, no, no, no, no, no]),
+        9 => laid_out(0, 0, 2, [HOUR, HOUR, no, no, no, no, no, no]),
+        _ => laid_out(0, 0, 0, [no; 8]),
     }
 }
 
-// The rows of sections 4, 5 and 9, one after the other; what 3, 6 and 8 have is the second of section 4.
-pub fn row_at(j: usize) -> Row
-    ensures { λ r. ⌜ r ≡ getD allRows j noRow ⌝ }
-{
-    match j {
-        0 => number(2, 1, 60),
-        1 => number(1, 0, 1),
-        2 => mark(0, 1),
-        3 => number(2, 3, 20),
-        4 => number(3, 30, 600),
-        5 => number(2, 3, 60),
-        6 => number(3, 51, 111),
-        7 => number(3, 150, 350),
-        8 => mark(1, 2),
-        9 => mark(0, 1),
-        10 => number(2, 0, 23),
-        11 => number(2, 0, 23),
-        _ => number(0, 0, 0),
-    }
-}
-
-// Whether there is a section of this number: E7 is only 0.
+// Whether there is a section of this number.
 pub fn is_section(k: usize) -> bool
     ensures { λ r. ⌜ r ≡ not (isEmpty (layoutOf k)) ⌝ }
 {

@@ -12,7 +12,8 @@ use Rattle.lists.specs.Lists.{allZero}
 use Rattle.section.specs.Layout.{Section, Item, tableOf, layoutOf, digitsOf}
 use Rattle.section.specs.Contents.{Content, Amount, amountOf, contentsText, contentsAllowed}
 use Rattle.section.specs.Inner.{numbersOf, Fit, passContents}
-use Rattle.settings.specs.Settings.{ascentHold, amountIn, enrouteFrom, ascentFrom, hoursFrom, fixedOf, fixedHold, contentsOf}
+use Rattle.section.proofs.Rows.{look-past, table-past}
+use Rattle.settings.specs.Settings.{ascentHold, amountIn, enrouteFrom, ascentFrom, hoursFrom, fixedOf, fixedSections, fixedHold, contentsOf}
 use Rattle.settings.specs.Valid.{areZero}
 use Rattle.settings.specs.Inner.{Bytes}
 use Rattle.settings.specs.declared.Ascent.{Ascent}
@@ -102,53 +103,73 @@ ascent-fits x a b c d e f (suc (suc (suc (suc (suc (suc (suc (suc i)))))))) h = 
 
 -- ---- By the section's number
 
--- what is so of each section of numbers, and of none at all, is so of every section from 4 on
-pub from-four : (P : ℕ → Type 0) → P 4 → P 5 → P 6 → P 8 → P 9
-    → ((k : ℕ) → eqb k 2 ≡ false → eqb k 3 ≡ false → eqb k 4 ≡ false → eqb k 5 ≡ false → eqb k 6 ≡ false → eqb k 8 ≡ false → eqb k 9 ≡ false → P k)
-    → (k : ℕ) → 4 ≤ k → P k
-from-four P a b c d e other zero h = absurd (omega arith)
-from-four P a b c d e other (suc zero) h = absurd (omega arith)
-from-four P a b c d e other (suc (suc zero)) h = absurd (omega arith)
-from-four P a b c d e other (suc (suc (suc zero))) h = absurd (omega arith)
-from-four P a b c d e other (suc (suc (suc (suc zero)))) h = a
-from-four P a b c d e other (suc (suc (suc (suc (suc zero))))) h = b
-from-four P a b c d e other (suc (suc (suc (suc (suc (suc zero)))))) h = c
-from-four P a b c d e other (suc (suc (suc (suc (suc (suc (suc zero))))))) h = other 7 refl refl refl refl refl refl refl
-from-four P a b c d e other (suc (suc (suc (suc (suc (suc (suc (suc zero)))))))) h = d
-from-four P a b c d e other (suc (suc (suc (suc (suc (suc (suc (suc (suc zero))))))))) h = e
-from-four P a b c d e other (suc (suc (suc (suc (suc (suc (suc (suc (suc (suc k)))))))))) h =
-    let n = suc (suc (suc (suc (suc (suc (suc (suc (suc (suc k))))))))) in
-    other n (ne-eqb n 2 (λ x. omega arith)) (ne-eqb n 3 (λ x. omega arith)) (ne-eqb n 4 (λ x. omega arith)) (ne-eqb n 5 (λ x. omega arith))
-    (ne-eqb n 6 (λ x. omega arith)) (ne-eqb n 8 (λ x. omega arith)) (ne-eqb n 9 (λ x. omega arith))
+-- what is so of each number from 4 to 9, and of those past them, is so from 4 on
+pub from-four : (P : ℕ → Type 0) → P 4 → P 5 → P 6 → P 7 → P 8 → P 9 → ((k : ℕ) → 10 ≤ k → P k) → (k : ℕ) → 4 ≤ k → P k
+from-four P a b c d e f past zero h = absurd (omega arith)
+from-four P a b c d e f past (suc zero) h = absurd (omega arith)
+from-four P a b c d e f past (suc (suc zero)) h = absurd (omega arith)
+from-four P a b c d e f past (suc (suc (suc zero))) h = absurd (omega arith)
+from-four P a b c d e f past (suc (suc (suc (suc zero)))) h = a
+from-four P a b c d e f past (suc (suc (suc (suc (suc zero))))) h = b
+from-four P a b c d e f past (suc (suc (suc (suc (suc (suc zero)))))) h = c
+from-four P a b c d e f past (suc (suc (suc (suc (suc (suc (suc zero))))))) h = d
+from-four P a b c d e f past (suc (suc (suc (suc (suc (suc (suc (suc zero)))))))) h = e
+from-four P a b c d e f past (suc (suc (suc (suc (suc (suc (suc (suc (suc zero))))))))) h = f
+from-four P a b c d e f past (suc (suc (suc (suc (suc (suc (suc (suc (suc (suc k)))))))))) h =
+    past (suc (suc (suc (suc (suc (suc (suc (suc (suc (suc k)))))))))) (omega arith)
 
 -- the record holds there what its sections of numbers hold
 pub contents-fixed : (x : Settings) (k : ℕ) → 4 ≤ k → contentsOf x k ≡ fixedHold (fixedOf x) k
 unfolding contentsOf
 contents-fixed x k h = rw (ne-eqb k 2 (λ e. omega arith), ne-eqb k 3 (λ e. omega arith))
 
+past-digits : (k : ℕ) → 10 ≤ k → layoutOf k ≡ digitsOf (tableOf k)
+unfolding layoutOf
+past-digits k h = rw (table-past k h)
+
 -- such a section has no lists
 pub only-digits : (k : ℕ) → 4 ≤ k → layoutOf k ≡ digitsOf (tableOf k)
 unfolding layoutOf tableOf
-only-digits = from-four (λ k. layoutOf k ≡ digitsOf (tableOf k)) refl refl refl refl refl (λ k a b c d e f g. rw (a, b, c, d, e, f, g))
+only-digits = from-four (λ k. layoutOf k ≡ digitsOf (tableOf k)) refl refl refl refl refl refl past-digits
 
 module _ (x : Fixed) where
+  -- no section past them holds anything
+  holds-past : (k : ℕ) → 10 ≤ k → fixedHold x k ≡ []
+  unfolding fixedHold
+  holds-past k h = look-past 10 k (fixedSections x) [] refl h
+
+  abbrev PassesAt : ℕ → ℕ → Type 0
+  PassesAt at k = passContents (digitsOf (tableOf k)) at (map Amount (numbersOf (fixedHold x k))) ≡ passContents (layoutOf k) at (fixedHold x k)
+
+  pass-past : (at k : ℕ) → 10 ≤ k → PassesAt at k
+  unfolding contentsAllowed contentsText
+  pass-past at k h = rw (past-digits k h, table-past k h)
+
   -- it is passed by its numbers
-  pub pass-eight : (at k : ℕ) → 4 ≤ k → passContents (digitsOf (tableOf k)) at (map Amount (numbersOf (fixedHold x k))) ≡ passContents (layoutOf k) at (fixedHold x k)
+  pub pass-eight : (at k : ℕ) → 4 ≤ k → PassesAt at k
   unfolding layoutOf tableOf fixedHold numbersOf contentsAllowed contentsText
-  pass-eight at =
-      from-four (λ k. passContents (digitsOf (tableOf k)) at (map Amount (numbersOf (fixedHold x k))) ≡ passContents (layoutOf k) at (fixedHold x k)) refl refl refl refl refl
-      (λ k a b c d e f g. rw (a, b, c, d, e, f, g))
+  pass-eight at = from-four (PassesAt at) refl refl refl refl refl refl (pass-past at)
+
+  abbrev WrittenAt : ℕ → Type 0
+  WrittenAt k = contentsText (digitsOf (tableOf k)) (map Amount (numbersOf (fixedHold x k))) ≡ contentsText (layoutOf k) (fixedHold x k)
+
+  written-past : (k : ℕ) → 10 ≤ k → WrittenAt k
+  unfolding contentsText
+  written-past k h = rw (past-digits k h, table-past k h)
 
   -- and written by them
-  pub text-eight : (k : ℕ) → 4 ≤ k → contentsText (digitsOf (tableOf k)) (map Amount (numbersOf (fixedHold x k))) ≡ contentsText (layoutOf k) (fixedHold x k)
+  pub text-eight : (k : ℕ) → 4 ≤ k → WrittenAt k
   unfolding layoutOf tableOf fixedHold numbersOf contentsText
-  text-eight =
-      from-four (λ k. contentsText (digitsOf (tableOf k)) (map Amount (numbersOf (fixedHold x k))) ≡ contentsText (layoutOf k) (fixedHold x k)) refl refl refl refl refl
-      (λ k a b c d e f g. rw (a, b, c, d, e, f, g))
+  text-eight = from-four WrittenAt refl refl refl refl refl refl written-past
+
+  abbrev ZeroAt : ℕ → Type 0
+  ZeroAt k = allZero (numbersOf (fixedHold x k)) ≡ areZero (fixedHold x k)
+
+  zero-past : (k : ℕ) → 10 ≤ k → ZeroAt k
+  unfolding numbersOf allZero areZero
+  zero-past k h = rw (holds-past k h)
 
   -- it is zero where they are
-  pub zero-eight : (k : ℕ) → 4 ≤ k → allZero (numbersOf (fixedHold x k)) ≡ areZero (fixedHold x k)
+  pub zero-eight : (k : ℕ) → 4 ≤ k → ZeroAt k
   unfolding fixedHold numbersOf allZero areZero
-  zero-eight =
-      from-four (λ k. allZero (numbersOf (fixedHold x k)) ≡ areZero (fixedHold x k)) refl refl refl refl refl
-      (λ k a b c d e f g. rw (c, d, e, f, g))
+  zero-eight = from-four ZeroAt refl refl refl refl refl refl zero-past

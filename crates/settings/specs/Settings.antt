@@ -59,16 +59,17 @@ abbrev pub fixedOf : Settings → Fixed
 fixedOf x =
     record { enroute = x .enroute; ascent = x .ascent; routine6 = x .routine6; routine8 = x .routine8; hours = x .hours }
 
-unfoldable pub fixedHold : Fixed → ℕ → List Content
-fixedHold x k =
-    look k
-    ((4, enrouteHold (x .enroute))
+abbrev pub fixedSections : Fixed → List (ℕ × List Content)
+fixedSections x =
+    (4, enrouteHold (x .enroute))
     ∷ (5, ascentHold (x .ascent))
     ∷ (6, digitHold (x .routine6))
     ∷ (8, digitHold (x .routine8))
     ∷ (9, hoursHold (x .hours))
-    ∷ [])
-    []
+    ∷ []
+
+unfoldable pub fixedHold : Fixed → ℕ → List Content
+fixedHold x k = look k (fixedSections x) []
 
 -- what section k of the record holds
 unfoldable pub contentsOf : Settings → ℕ → List Content

@@ -1,4 +1,4 @@
--- `journal::replay::join_before` meets its contract: two accepted commands join in 835 bytes, and the join is copied.
+-- `journal::replay::join_before` meets its contract: two accepted commands join in the longest's bytes, and the join is copied.
 use borrow.Author.Needs.{needs}
 use mathlib.Core.Path.{_≡_, sym, ap, subst, _∙_}
 use mathlib.Core.List.{List}

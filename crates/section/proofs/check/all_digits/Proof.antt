@@ -11,46 +11,47 @@ use denote.Ref.{now}
 use Rattle.section.specs.declared.Row.{Row}
 use Rattle.section.specs.Layout.{Digits, noRow, tableOf, digitsOf, checkItem, checkItems}
 use Rattle.section.proofs.Come.{Come, come-none, come-on, come-stop, come-rest}
-use Rattle.section.proofs.Rows.{rowsFrom, rows-turn, rows-end, small-row, table-small, laid-row}
+use Rattle.section.proofs.Rows.{rowsFrom, rows-turn, rows-end, zeroRow, small-row, table-small, laid-row}
 
 abbrev Inv-loop : tie.InvT-loop
-Inv-loop s at k n first p₀ i₀ p i =
+Inv-loop s at k n rows p₀ i₀ p i =
     (n ≡ length (tableOf k .rows)) × ((i ≤ n) × Come (digitsOf (tableOf k)) s at (rowsFrom (tableOf k .rows) i) p)
 
 abbrev μ-loop : tie.MeasureT-loop
-μ-loop s at k n first p₀ i₀ p i = n - i
+μ-loop s at k n rows p₀ i₀ p i = n - i
 
 layout-of-requires : tie.Need-layout-of-requires Inv-loop μ-loop
 layout-of-requires c κs = search needs
 
 loop-holds : tie.Need-loop-holds Inv-loop μ-loop
-loop-holds c = (c .layout-of .ensures .count, (omega arith, come-none (c .before .before .pre)))
+loop-holds c = (c .before .layout-of .ensures .count, (omega arith, come-none (c .before .before .before .pre)))
 
 -- there is a row more
-more : (c : tie.In-loop Inv-loop μ-loop) → c .before .loop .i < length (tableOf (c .before .before .before .before .args .k) .rows)
+more : (c : tie.In-loop Inv-loop μ-loop) → c .before .loop .i < length (tableOf (c .before .before .before .before .before .args .k) .rows)
 more c = omega (arith, c .before .loop .inv .0, c .loop-test .taken)
 
-add-row-at : tie.Need-add-row-at Inv-loop μ-loop
-add-row-at c = let e = c .before .before .layout-of .ensures in omega (arith, e .inside, e .count, more c)
+mul-row : tie.Need-mul-row Inv-loop μ-loop
+mul-row c = omega (arith, more c, table-small (c .before .before .before .before .before .args .k) .0)
 
-row-at-requires : tie.Need-row-at-requires Inv-loop μ-loop
-row-at-requires c κs = search needs
+array-copy-out-row : tie.Need-array-copy-out-row Inv-loop μ-loop
+array-copy-out-row c = omega (arith, more c, table-small (c .before .before .before .before .before .args .k) .0)
 
 -- the row
-row-is : (c : tie.After-row-at Inv-loop μ-loop)
+row-is : (c : tie.After-row Inv-loop μ-loop)
     → let l = c .before .before in
-    c .row-at .result ≡ getD (tableOf (l .before .before .before .args .k) .rows) (l .loop .i) noRow
-row-is c = c .row-at .ensures ∙ laid-row (c .before .before .before .layout-of .ensures) (c .before .before .loop .i) (more (c .before))
+    getD (l .before .before .layout-of .result .rows) (l .loop .i) zeroRow
+    ≡ getD (tableOf (l .before .before .before .before .args .k) .rows) (l .loop .i) noRow
+row-is c = let l = c .before .before in laid-row (l .before .before .layout-of .ensures) (l .loop .i) (more (c .before))
 
 -- up to a row
 here : (c : tie.In-loop Inv-loop μ-loop)
     → let l = c .before in
-    let a = l .before .before .before .args in
+    let a = l .before .before .before .before .args in
     Come (digitsOf (tableOf (a .k))) (now (a .s)) (a .at)
     (Digits (getD (tableOf (a .k) .rows) (l .loop .i) noRow) ∷ rowsFrom (tableOf (a .k) .rows) (l .loop .i + 1)) (l .loop .p)
 here c =
     let l = c .before in
-    let a = l .before .before .before .args in
+    let a = l .before .before .before .before .args in
     rw (← rows-turn (tableOf (a .k) .rows) (l .loop .i) noRow (more c)) (l .loop .inv .1 .1)
 
 wide-requires : tie.Need-wide-requires Inv-loop μ-loop
@@ -68,7 +69,7 @@ digits-requires c κs =
     let row = width .before in
     let turn = row .before in
     let l = turn .before in
-    let k = l .before .before .before .args .k in
+    let k = l .before .before .before .before .args .k in
     let few = small-row (tableOf k .rows) (l .loop .i) noRow (more turn) (table-small k .1) in
     let is = row-is row in (
       l .loop .inv .1 .1 .inside,
@@ -81,7 +82,7 @@ digits-requires c κs =
 -- the row's own check
 checked : (c : tie.After-digits Inv-loop μ-loop)
     → let l = c .before .before .before .before .before .before in
-    let a = l .before .before .before .args in
+    let a = l .before .before .before .before .args in
     c .digits .result ≡ checkItem (Digits (getD (tableOf (a .k) .rows) (l .loop .i) noRow)) (now (a .s)) (l .loop .p)
 checked c =
     c .digits .ensures
@@ -117,7 +118,7 @@ returns-2 : tie.Need-returns-2 Inv-loop μ-loop
 unfolding checkItems
 returns-2 c =
     let l = c .before .before in
-    let a = l .before .before .before .args in
+    let a = l .before .before .before .before .args in
     come-rest (l .loop .inv .1 .1)
     (rw (rows-end (tableOf (a .k) .rows) (l .loop .i) (omega (arith, l .loop .inv .0, c .before .loop-test .left))) (c .delimiter .ensures))
 
@@ -129,8 +130,8 @@ all-digits-spec =
     μ-loop
     layout-of-requires
     loop-holds
-    add-row-at
-    row-at-requires
+    mul-row
+    array-copy-out-row
     wide-requires
     middle-requires
     middle-requires-2

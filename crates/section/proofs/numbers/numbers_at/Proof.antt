@@ -19,32 +19,32 @@ use Rattle.section.proofs.Walk.{number-read}
 use Rattle.section.proofs.ByRow.{Taken, amountsAt, amounts-end, numbers-are, taken-none, taken-item, taken-on}
 
 abbrev Inv-loop : tie.InvT-loop
-Inv-loop s at k n first numbers₀ p₀ i₀ numbers p i = (n ≡ length (tableOf k .rows)) × Taken (tableOf k .rows) s at numbers p i
+Inv-loop s at k n rows numbers₀ p₀ i₀ numbers p i = (n ≡ length (tableOf k .rows)) × Taken (tableOf k .rows) s at numbers p i
 
 abbrev μ-loop : tie.MeasureT-loop
-μ-loop s at k n first numbers₀ p₀ i₀ numbers p i = n - i
+μ-loop s at k n rows numbers₀ p₀ i₀ numbers p i = n - i
 
 layout-of-requires : tie.Need-layout-of-requires Inv-loop μ-loop
 layout-of-requires c κs = search needs
 
 loop-holds : tie.Need-loop-holds Inv-loop μ-loop
 loop-holds c =
-    let a = c .before .before .args in
-    (c .layout-of .ensures .count, taken-none (tableOf (a .k) .rows) (now (a .s)) (a .at) (c .before .before .pre))
+    let a = c .before .before .before .args in
+    (c .before .layout-of .ensures .count, taken-none (tableOf (a .k) .rows) (now (a .s)) (a .at) (c .before .before .before .pre))
 
 -- there is a row more, one of eight at the most
 more : (c : tie.In-loop Inv-loop μ-loop)
-    → let rows = tableOf (c .before .before .before .before .args .k) .rows in
+    → let rows = tableOf (c .before .before .before .before .before .args .k) .rows in
     (c .before .loop .i < length rows) × (length rows ≤ 8)
 more c =
-    let k = c .before .before .before .before .args .k in
+    let k = c .before .before .before .before .before .args .k in
     (omega (arith, c .before .loop .inv .0, c .loop-test .taken), table-small k .0)
 
-add-row-at : tie.Need-add-row-at Inv-loop μ-loop
-add-row-at c = let e = c .before .before .layout-of .ensures in omega (arith, e .inside, e .count, more c .0)
+mul-row : tie.Need-mul-row Inv-loop μ-loop
+mul-row c = let m = more c in omega (arith, m .0, m .1)
 
-row-at-requires : tie.Need-row-at-requires Inv-loop μ-loop
-row-at-requires c κs = search needs
+array-copy-out-row : tie.Need-array-copy-out-row Inv-loop μ-loop
+array-copy-out-row c = let m = more c in omega (arith, m .0, m .1)
 
 wide-requires : tie.Need-wide-requires Inv-loop μ-loop
 wide-requires c κs = search needs
@@ -52,20 +52,20 @@ wide-requires c κs = search needs
 -- how wide the row is
 width : (c : tie.After-wide Inv-loop μ-loop)
     → let l = c .before .before .before in
-    c .wide .result ≡ getD (tableOf (l .before .before .before .args .k) .rows) (l .loop .i) noRow .width
-width c = c .wide .ensures ∙ ap (λ (r : Row). r .width) (c .before .row-at .ensures ∙ laid-row (c .before .before .before .before .layout-of .ensures) (c .before .before .before .loop .i) (more (c .before .before) .0))
+    c .wide .result ≡ getD (tableOf (l .before .before .before .before .args .k) .rows) (l .loop .i) noRow .width
+width c = c .wide .ensures ∙ ap (λ (r : Row). r .width) (laid-row (c .before .before .before .before .before .layout-of .ensures) (c .before .before .before .loop .i) (more (c .before .before) .0))
 
 -- the next number: its row is small, and its field was accepted
 asks : (c : tie.After-wide Inv-loop μ-loop)
     → let l = c .before .before .before in
-    let a = l .before .before .before .args in
+    let a = l .before .before .before .before .args in
     let r = getD (tableOf (a .k) .rows) (l .loop .i) noRow in
     (l .loop .p + r .width ≤ length (now (a .s)))
     × ((r .width ≤ 3) × ((allDigits (part (l .loop .p) (r .width) (now (a .s))) ≡ true) × (value (part (l .loop .p) (r .width) (now (a .s))) < 1000)))
 asks c =
     let turn = c .before .before in
     let l = turn .before in
-    let a = l .before .before .before .args in
+    let a = l .before .before .before .before .args in
     let rows = tableOf (a .k) .rows in
     let r = getD rows (l .loop .i) noRow in
     let near = small-row rows (l .loop .i) noRow (more turn .0) (table-small (a .k) .1) in
@@ -98,7 +98,7 @@ loop-again : tie.Need-loop-again Inv-loop μ-loop
 loop-again c =
     let turn = c .before .before .before in
     let l = turn .before in
-    let a = l .before .before .before .args in (
+    let a = l .before .before .before .before .args in (
       l .loop .inv .0,
       rw (c .value-at .ensures, width (c .before))
           (taken-on (tableOf (a .k) .rows) (now (a .s)) (a .at) (l .loop .numbers) (l .loop .p) (l .loop .i) (l .loop .inv .1) (more turn .0) (more turn .1)),
@@ -107,7 +107,7 @@ loop-again c =
 returns : tie.Need-returns Inv-loop μ-loop
 returns c =
     let l = c .before .loop in
-    let a = c .before .before .before .before .args in
+    let a = c .before .before .before .before .before .args in
     let rows = tableOf (a .k) .rows in
     let t = l .inv .1 in
     let none = ap (λ is. amountsAt is (now (a .s)) (l .p)) (rows-end rows (l .i) (omega (arith, l .inv .0, c .loop-test .left))) ∙ amounts-end (now (a .s)) (l .p) in
@@ -122,8 +122,8 @@ numbers-at-spec =
     μ-loop
     layout-of-requires
     loop-holds
-    add-row-at
-    row-at-requires
+    mul-row
+    array-copy-out-row
     wide-requires
     value-at-requires
     cast-numbers

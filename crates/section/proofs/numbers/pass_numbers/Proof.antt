@@ -15,18 +15,18 @@ use Rattle.section.specs.declared.Row.{Row}
 use Rattle.section.specs.Layout.{Digits, noRow, tableOf, digitsOf}
 use Rattle.section.specs.Contents.{Amount}
 use Rattle.section.specs.Inner.{passContents}
-use Rattle.section.proofs.Rows.{rowsFrom, rows-turn, rows-end, small-row, table-small, laid-row}
+use Rattle.section.proofs.Rows.{rowsFrom, rows-turn, rows-end, zeroRow, small-row, table-small, laid-row}
 use Rattle.section.proofs.ByRow.{pass-on, pass-stop, pass-end, amounts-turn}
 
 abbrev Inv-loop : tie.InvT-loop
-Inv-loop k at v n first p₀ i₀ p i =
+Inv-loop k at v n rows p₀ i₀ p i =
     (n ≡ length (tableOf k .rows))
     × ((i ≤ n)
     × ((p ≤ at + 3 * i)
     × (passContents (digitsOf (tableOf k)) at (map Amount v) ≡ passContents (rowsFrom (tableOf k .rows) i) p (map Amount (drop i v)))))
 
 abbrev μ-loop : tie.MeasureT-loop
-μ-loop k at v n first p₀ i₀ p i = n - i
+μ-loop k at v n rows p₀ i₀ p i = n - i
 
 eight : (c : tie.Start Inv-loop μ-loop) → length (c .args .t1) ≡ 8
 eight c = search needs
@@ -35,44 +35,45 @@ layout-of-requires : tie.Need-layout-of-requires Inv-loop μ-loop
 layout-of-requires c κs = search needs
 
 loop-holds : tie.Need-loop-holds Inv-loop μ-loop
-loop-holds c = (c .layout-of .ensures .count, (omega arith, (omega arith, refl)))
+loop-holds c = (c .before .layout-of .ensures .count, (omega arith, (omega arith, refl)))
 
 -- there is a row for the next number, one of eight, and it is small
 near : (c : tie.In-loop Inv-loop μ-loop)
     → let l = c .before in
-    let rows = tableOf (l .before .before .args .k) .rows in
+    let rows = tableOf (l .before .before .before .args .k) .rows in
     (l .loop .i < length rows) × ((l .loop .i < 8) × (getD rows (l .loop .i) noRow .width ≤ 3))
 near c =
     let l = c .before in
-    let k = l .before .before .args .k in
+    let k = l .before .before .before .args .k in
     let there : l .loop .i < length (tableOf k .rows) = omega (arith, l .loop .inv .0, c .loop-test .taken) in
     (there, (omega (arith, table-small k .0), small-row (tableOf k .rows) (l .loop .i) noRow there (table-small k .1) .0))
 
 -- what decides, from the next number on
 here : (c : tie.In-loop Inv-loop μ-loop)
     → let l = c .before in
-    let a = l .before .before .args in
+    let a = l .before .before .before .args in
     passContents (digitsOf (tableOf (a .k))) (a .at) (map Amount (a .t1))
     ≡ passContents (Digits (getD (tableOf (a .k) .rows) (l .loop .i) noRow) ∷ rowsFrom (tableOf (a .k) .rows) (l .loop .i + 1)) (l .loop .p)
     (Amount (getD (a .t1) (l .loop .i) 0) ∷ map Amount (drop (l .loop .i + 1) (a .t1)))
 here c =
     let l = c .before in
-    let start = l .before .before in
+    let start = l .before .before .before in
     let a = start .args in
     l .loop .inv .1 .1 .1
     ∙ rw (rows-turn (tableOf (a .k) .rows) (l .loop .i) noRow (near c .0), amounts-turn (a .t1) (l .loop .i) (omega (arith, eight start, near c .1 .0)))
 
-add-row-at : tie.Need-add-row-at Inv-loop μ-loop
-add-row-at c = let e = c .before .before .layout-of .ensures in omega (arith, e .inside, e .count, near c .0)
+mul-row : tie.Need-mul-row Inv-loop μ-loop
+mul-row c = omega (arith, near c .1 .0)
 
-row-at-requires : tie.Need-row-at-requires Inv-loop μ-loop
-row-at-requires c κs = search needs
+array-copy-out-row : tie.Need-array-copy-out-row Inv-loop μ-loop
+array-copy-out-row c = omega (arith, near c .1 .0)
 
 -- the row
-row-is : (c : tie.After-row-at Inv-loop μ-loop)
+row-is : (c : tie.After-row Inv-loop μ-loop)
     → let l = c .before .before in
-    c .row-at .result ≡ getD (tableOf (l .before .before .args .k) .rows) (l .loop .i) noRow
-row-is c = c .row-at .ensures ∙ laid-row (c .before .before .before .layout-of .ensures) (c .before .before .loop .i) (near (c .before) .0)
+    getD (l .before .before .layout-of .result .rows) (l .loop .i) zeroRow
+    ≡ getD (tableOf (l .before .before .before .args .k) .rows) (l .loop .i) noRow
+row-is c = let l = c .before .before in laid-row (l .before .before .layout-of .ensures) (l .loop .i) (near (c .before) .0)
 
 mul-x : tie.Need-mul-x Inv-loop μ-loop
 mul-x c = omega (arith, near (c .before) .1 .0)
@@ -85,7 +86,7 @@ returns c =
     let row = c .before .before .before in
     let turn = row .before in
     let l = turn .before in
-    let a = l .before .before .args in
+    let a = l .before .before .before .args in
     let i = l .loop .i in
     let r = getD (tableOf (a .k) .rows) i noRow in
     let x = getD (a .t1) i 0 in (
@@ -102,13 +103,13 @@ wide-requires c κs = search needs
 -- how wide the row is
 width : (c : tie.After-wide Inv-loop μ-loop)
     → let l = c .before .before .before .before .before .before in
-    c .wide .result ≡ getD (tableOf (l .before .before .args .k) .rows) (l .loop .i) noRow .width
+    c .wide .result ≡ getD (tableOf (l .before .before .before .args .k) .rows) (l .loop .i) noRow .width
 width c = c .wide .ensures ∙ ap (λ (r : Row). r .width) (row-is (c .before .before .before .before))
 
 add-p : tie.Need-add-p Inv-loop μ-loop
 add-p c =
     let turn = c .before .before .before .before .before in
-    omega (arith, near turn .1 .0, near turn .1 .1, width c, turn .before .before .before .pre, turn .before .loop .inv .1 .1 .0)
+    omega (arith, near turn .1 .0, near turn .1 .1, width c, turn .before .before .before .before .pre, turn .before .loop .inv .1 .1 .0)
 
 add-i : tie.Need-add-i Inv-loop μ-loop
 add-i c = let turn = c .before .before .before .before .before in omega (arith, near turn .1 .0)
@@ -121,7 +122,7 @@ loop-again c =
     let row = c .before .before .before .before in
     let turn = row .before in
     let l = turn .before in
-    let a = l .before .before .args in
+    let a = l .before .before .before .args in
     let i = l .loop .i in
     let r = getD (tableOf (a .k) .rows) i noRow in
     let x = getD (a .t1) i 0 in
@@ -139,16 +140,16 @@ loop-again c =
       ),
     )
 
-add-t20 : tie.Need-add-t20 Inv-loop μ-loop
-add-t20 c =
+add-t23 : tie.Need-add-t23 Inv-loop μ-loop
+add-t23 c =
     let l = c .before in
-    let start = l .before .before in
+    let start = l .before .before .before in
     omega (arith, table-small (start .args .k) .0, l .loop .inv .0, l .loop .inv .1 .0, l .loop .inv .1 .1 .0, start .pre)
 
 returns-2 : tie.Need-returns-2 Inv-loop μ-loop
 returns-2 c =
     let l = c .before .loop in
-    let start = c .before .before .before in
+    let start = c .before .before .before .before in
     let a = start .args in
     let none = rows-end (tableOf (a .k) .rows) (l .i) (omega (arith, l .inv .0, c .loop-test .left)) in (
       pass-end (l .p) (map Amount (drop (l .i) (a .t1))) ∙ sym (l .inv .1 .1 .1 ∙ rw none),
@@ -163,8 +164,8 @@ pass-numbers-spec =
     μ-loop
     layout-of-requires
     loop-holds
-    add-row-at
-    row-at-requires
+    mul-row
+    array-copy-out-row
     mul-x
     array-read-x
     returns
@@ -173,5 +174,5 @@ pass-numbers-spec =
     add-i
     loop-less
     loop-again
-    add-t20
+    add-t23
     returns-2)

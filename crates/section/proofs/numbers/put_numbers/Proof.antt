@@ -22,14 +22,14 @@ use Rattle.section.proofs.Written.{number-written}
 use Rattle.section.proofs.ByRow.{digitsText, text-more, text-within, text-all}
 
 abbrev Inv-loop : tie.InvT-loop
-Inv-loop k d₀ v n first p₀ i₀ d p i =
+Inv-loop k d₀ v n rows p₀ i₀ d p i =
     (n ≡ length (tableOf k .rows))
     × ((i ≤ n)
     × ((length d ≡ length d₀)
     × ((p ≡ length (digitsText (take i (tableOf k .rows)) v)) × (d ≡ over d₀ 0 (digitsText (take i (tableOf k .rows)) v)))))
 
 abbrev μ-loop : tie.MeasureT-loop
-μ-loop k d₀ v n first p₀ i₀ d p i = n - i
+μ-loop k d₀ v n rows p₀ i₀ d p i = n - i
 
 eight : (c : tie.Start Inv-loop μ-loop) → length (c .args .t1) ≡ 8
 eight c = search needs
@@ -48,17 +48,17 @@ layout-of-requires c κs = search needs
 
 loop-holds : tie.Need-loop-holds Inv-loop μ-loop
 unfolding digitsText
-loop-holds c = (c .layout-of .ensures .count, (omega arith, (refl, (refl, over-none _ 0))))
+loop-holds c = (c .before .layout-of .ensures .count, (omega arith, (refl, (refl, over-none _ 0))))
 
 -- the row of the next number is there, and there is room for the number
 near : (c : tie.In-loop Inv-loop μ-loop)
     → let l = c .before in
-    let a = l .before .before .before .args in
+    let a = l .before .before .before .before .args in
     (l .loop .i < 8)
     × ((l .loop .i < length (tableOf (a .k) .rows)) × (l .loop .p + getD (tableOf (a .k) .rows) (l .loop .i) noRow .width + 1 ≤ length (now (a .d))))
 near c =
     let l = c .before in
-    let start = l .before .before .before in
+    let start = l .before .before .before .before in
     let a = start .args in
     let rows = tableOf (a .k) .rows in
     let i = l .loop .i in
@@ -85,11 +85,11 @@ near c =
 -- how long the text is with the next number
 next-long : (c : tie.In-loop Inv-loop μ-loop)
     → let l = c .before in
-    let a = l .before .before .before .args in
+    let a = l .before .before .before .before .args in
     length (digitsText (take (l .loop .i + 1) (tableOf (a .k) .rows)) (a .t1)) ≡ l .loop .p + getD (tableOf (a .k) .rows) (l .loop .i) noRow .width
 next-long c =
     let l = c .before in
-    let start = l .before .before .before in
+    let start = l .before .before .before .before in
     let a = start .args in
     let i = l .loop .i in
     let r = getD (tableOf (a .k) .rows) i noRow in
@@ -104,21 +104,21 @@ next-long c =
 -- how wide the row is
 width-is : (c : tie.After-wide Inv-loop μ-loop)
     → let l = c .before .before .before in
-    c .wide .result ≡ getD (tableOf (l .before .before .before .args .k) .rows) (l .loop .i) noRow .width
-width-is c = c .wide .ensures ∙ ap (λ (r : Row). r .width) (c .before .row-at .ensures ∙ laid-row (c .before .before .before .before .layout-of .ensures) (c .before .before .before .loop .i) (near (c .before .before) .1 .0))
+    c .wide .result ≡ getD (tableOf (l .before .before .before .before .args .k) .rows) (l .loop .i) noRow .width
+width-is c = c .wide .ensures ∙ ap (λ (r : Row). r .width) (laid-row (c .before .before .before .before .before .layout-of .ensures) (c .before .before .before .loop .i) (near (c .before .before) .1 .0))
 
 -- the buffer after one number more
 written : (c : tie.After-put-decimal Inv-loop μ-loop)
     → let width = c .before .before .before in
     let l = width .before .before .before in
-    let a = l .before .before .before .args in
+    let a = l .before .before .before .before .args in
     putMid (l .loop .p) (l .loop .p + width .wide .result - l .loop .p) (l .loop .d) (c .put-decimal .last .0)
     ≡ over (now (a .d)) 0 (digitsText (take (l .loop .i + 1) (tableOf (a .k) .rows)) (a .t1))
 written c =
     let width = c .before .before .before in
     let turn = width .before .before in
     let l = turn .before in
-    let start = l .before .before .before in
+    let start = l .before .before .before .before in
     let a = start .args in
     let i = l .loop .i in
     let p = l .loop .p in
@@ -128,11 +128,11 @@ written c =
     (p + width .wide .result) (l .loop .inv .1 .1 .1 .1) (l .loop .inv .1 .1 .1 .0) refl (omega (arith, n .1 .1, width-is width)) (c .put-decimal .ensures)
     ∙ rw (c .before .middle .ensures, width-is width, ← text-more (tableOf (a .k) .rows) (a .t1) i (n .1 .0) (omega (arith, eight start, n .0)))
 
-add-row-at : tie.Need-add-row-at Inv-loop μ-loop
-add-row-at c = let e = c .before .before .layout-of .ensures in omega (arith, e .inside, e .count, near c .1 .0)
+mul-row : tie.Need-mul-row Inv-loop μ-loop
+mul-row c = omega (arith, near c .0)
 
-row-at-requires : tie.Need-row-at-requires Inv-loop μ-loop
-row-at-requires c κs = search needs
+array-copy-out-row : tie.Need-array-copy-out-row Inv-loop μ-loop
+array-copy-out-row c = omega (arith, near c .0)
 
 wide-requires : tie.Need-wide-requires Inv-loop μ-loop
 wide-requires c κs = search needs
@@ -172,7 +172,7 @@ loop-again c =
     let k = c .before .before in
     let turn = k .before .before .before .before .before in
     let l = turn .before in
-    let start = l .before .before .before in
+    let start = l .before .before .before .before in
     let a = start .args in
     let e = written k in
     let t = digitsText (take (l .loop .i + 1) (tableOf (a .k) .rows)) (a .t1) in
@@ -182,27 +182,27 @@ loop-again c =
 
 -- behind the last number
 ended : (c : tie.After-loop Inv-loop μ-loop)
-    → let a = c .before .before .before .before .args in
+    → let a = c .before .before .before .before .before .args in
     (c .before .loop .p ≡ length (digitsText (tableOf (a .k) .rows) (a .t1)))
     × (c .before .loop .d ≡ over (now (a .d)) 0 (digitsText (tableOf (a .k) .rows) (a .t1)))
 ended c =
     let l = c .before .loop in
-    let a = c .before .before .before .before .args in
+    let a = c .before .before .before .before .before .args in
     let all = take-all (l .i) (tableOf (a .k) .rows) (omega (arith, l .inv .0, c .loop-test .left)) in
     (l .inv .1 .1 .1 .0 ∙ rw all, l .inv .1 .1 .1 .1 ∙ rw all)
 
 slice-write-d : tie.Need-slice-write-d Inv-loop μ-loop
-slice-write-d c = let l = c .before .loop in omega (arith, ended c .0, l .inv .1 .1 .0, room (c .before .before .before .before))
+slice-write-d c = let l = c .before .loop in omega (arith, ended c .0, l .inv .1 .1 .0, room (c .before .before .before .before .before))
 
 add-result : tie.Need-add-result Inv-loop μ-loop
-add-result c = omega (arith, ended c .0, room (c .before .before .before .before))
+add-result c = omega (arith, ended c .0, room (c .before .before .before .before .before))
 
 finished : (c : tie.After-loop Inv-loop μ-loop)
-    → let a = c .before .before .before .before .args in
+    → let a = c .before .before .before .before .before .args in
     set (c .before .loop .d) (c .before .loop .p) 47 ≡ over (now (a .d)) 0 (contentsText (digitsOf (tableOf (a .k))) (map Amount (a .t1)))
 finished c =
     let l = c .before .loop in
-    let start = c .before .before .before .before in
+    let start = c .before .before .before .before .before in
     let a = start .args in
     let e = ended c in
     then-byte (now (a .d)) (l .d) (digitsText (tableOf (a .k) .rows) (a .t1)) 47 0 (l .p) (e .1) (omega (arith, e .0)) (omega (arith, room start, e .0))
@@ -210,13 +210,13 @@ finished c =
 
 same-length : tie.Need-same-length Inv-loop μ-loop
 same-length c =
-    let start = c .before .before .before .before in
+    let start = c .before .before .before .before .before in
     let a = start .args in
     ap length (finished c) ∙ length-over (now (a .d)) 0 (contentsText (digitsOf (tableOf (a .k))) (map Amount (a .t1))) (omega (arith, start .pre))
 
 returns : tie.Need-returns Inv-loop μ-loop
 returns c =
-    let start = c .before .before .before .before in
+    let start = c .before .before .before .before .before in
     let a = start .args in
     let t = digitsText (tableOf (a .k) .rows) (a .t1) in
     let e = ended c in
@@ -230,8 +230,8 @@ put-numbers-spec =
     μ-loop
     layout-of-requires
     loop-holds
-    add-row-at
-    row-at-requires
+    mul-row
+    array-copy-out-row
     wide-requires
     add-end
     sub-put-decimal
