@@ -96,16 +96,6 @@ module _ (s : List ℕ) (fine : checkCommand s ≡ Fine) where
       each-with (λ k. k ≤ 9) (λ k. 48 ≤ getD s (11 + k) 0) (λ k. (11 + k + 1 ≤ length s) × (48 ≤ getD s (11 + k) 0))
       (λ k h d. (omega arith, d)) numbers room low
 
-  -- no text names section 7
-  pub no-seven : isNamed s 7 ≡ false
-  unfolding layoutOf tableOf
-  no-seven =
-      let b = getD s 18 0 in
-      let i : isIndicator 7 b ≡ true = indicators-are s (accepted s fine) .1 .1 .1 .1 .1 .0 in
-      by-eq b 48
-      (λ (e : b ≡ 48). rw e)
-      (λ (n : b ≡ 48 → ⊥). let z : false ≡ true = rw (ne-eqb b 48 n) at i in cc)
-
 -- ---- Over settings that are all zero
 
 module _ (s : List ℕ) where

@@ -26,9 +26,9 @@ ghost use Prim.Native.Nat.{ℕ, _+_, _-_, _≤_};
 ghost use lib.ListN.{length, getD};
 ghost use Rattle.text.specs.Parts.{part};
 ghost use Rattle.text.specs.declared.Seen.the-variants.{Fine};
-ghost use Rattle.section.specs.Layout.{tableOf};
 ghost use Rattle.section.specs.Contents.{Amount};
-ghost use Rattle.section.specs.Inner.{Fit, numbersOf};
+ghost use Rattle.section.specs.Inner.{numbersOf};
+ghost use Rattle.settings.specs.Inner.{Held};
 ghost use Rattle.settings.specs.Settings.{regionsHold, airportsHold, fixedOf, fixedHold, contentsOf, regionsFrom, airportsFrom, settingsFrom};
 ghost use Rattle.command.specs.Text.{isNamed, checkCommand};
 ghost use Rattle.command.specs.Sections.{heldIn};
@@ -60,7 +60,7 @@ fn airports_over(s: &[u8], at: usize, old: Airports) -> Airports
 // The numbers of a section without lists.
 fn numbers_over(s: &[u8], k: usize, at: usize, old: Fixed) -> [u16; 8]
     requires { ⌜ Stands (now s) k at × (4 ≤ k) ⌝ }
-    ensures { λ r. ⌜ (r ≡ numbersOf (heldOver (now (s .entry)) k (fixedHold old k))) × Fit (tableOf k) r ⌝ }
+    ensures { λ r. ⌜ (r ≡ numbersOf (heldOver (now (s .entry)) k (fixedHold old k))) × Held k r ⌝ }
 {
     if is_named(s, k) {
         return numbers_at(s, at, k);

@@ -9,13 +9,13 @@ use lib.ListN.{length, getD, replicate}
 use borrow.Author.Tests.{ne-eqb}
 use Rattle.text.proofs.Cases.{by-test}
 use Rattle.lists.specs.Lists.{allZero}
-use Rattle.section.specs.Layout.{Section, Item, tableOf, layoutOf, digitsOf}
+use Rattle.section.specs.Layout.{Item, tableOf, layoutOf, digitsOf}
 use Rattle.section.specs.Contents.{Content, Amount, amountOf, contentsText, contentsAllowed}
 use Rattle.section.specs.Inner.{numbersOf, Fit, passContents}
 use Rattle.section.proofs.Rows.{look-past, table-past}
 use Rattle.settings.specs.Settings.{ascentHold, amountIn, enrouteFrom, ascentFrom, hoursFrom, fixedOf, fixedSections, fixedHold, contentsOf}
 use Rattle.settings.specs.Valid.{areZero}
-use Rattle.settings.specs.Inner.{Bytes}
+use Rattle.settings.specs.Inner.{Held, Bytes}
 use Rattle.settings.specs.declared.Ascent.{Ascent}
 use Rattle.settings.specs.declared.Fixed.{Fixed}
 use Rattle.settings.specs.declared.Settings.{Settings}
@@ -67,8 +67,12 @@ hours-same cs = rw (number-in cs 0, number-in cs 1)
 
 -- ---- Numbers that members hold
 
-pub same-fit : (l : Section) (v w : List ℕ) → v ≡ w → Fit l w → (v ≡ w) × Fit l v
-same-fit l v w e f = (e, rw e f)
+-- numbers that no row's most is passed by are held
+pub fit-held : (k : ℕ) (v : List ℕ) → Fit (tableOf k) v → Held k v
+fit-held k v f i h = f i h
+
+pub same-held : (k : ℕ) (v w : List ℕ) → v ≡ w → Held k w → (v ≡ w) × Held k v
+same-held k v w e f = (e, rw e f)
 
 pub same-bytes : (v w : List ℕ) → v ≡ w → Bytes w → (v ≡ w) × Bytes v
 same-bytes v w e b = (e, rw e b)
@@ -89,7 +93,7 @@ no-bytes i = rw (none-at 8 i) (omega arith)
 
 -- duration and top alone need more than a byte
 pub ascent-fits : (x : Ascent) → x .mode ≤ 255 → x .interval1 ≤ 255 → x .interval2 ≤ 255 → x .total ≤ 255 → x .list ≤ 255 → x .timer ≤ 255
-    → Fit (tableOf 5) (numbersOf (ascentHold x))
+    → Held 5 (numbersOf (ascentHold x))
 unfolding numbersOf tableOf
 ascent-fits x a b c d e f zero h = a
 ascent-fits x a b c d e f (suc zero) h = b

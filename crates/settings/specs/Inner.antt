@@ -7,7 +7,7 @@ use Rattle.text.specs.Checks.{must}
 use Rattle.field.specs.declared.Step.{Step}
 use Rattle.field.specs.declared.Step.the-variants.{Next, Stop}
 use Rattle.lists.specs.Lists.{countAt}
-use Rattle.section.specs.Layout.{layoutOf}
+use Rattle.section.specs.Layout.{noRow, tableOf, layoutOf}
 use Rattle.section.specs.Contents.{Content, contentsText}
 use Rattle.section.specs.Inner.{goesOn, passContents}
 use Rattle.settings.specs.Settings.{fixedHold}
@@ -33,6 +33,14 @@ listsAt s at =
     }
 
 -- ---- A section's numbers
+
+-- the most that a member may hold: its row's
+abbrev pub heldMost : ℕ → ℕ → ℕ
+heldMost k i = getD (tableOf k .rows) i noRow .most
+
+-- those of section k are what its members hold: a byte where that is the most
+abbrev pub Held : ℕ → List ℕ → Type 0
+Held k v = (i : ℕ) → heldMost k i ≤ 255 → getD v i 0 ≤ 255
 
 -- each is a byte
 abbrev pub Bytes : List ℕ → Type 0

@@ -15,11 +15,10 @@ ghost use mathlib.Core.List.{_∷_, [], map};
 ghost use Prim.Native.Nat.{_+_, _≤_};
 ghost use lib.ListN.{length};
 ghost use Rattle.text.specs.Over.{over};
-ghost use Rattle.section.specs.Layout.{tableOf};
 ghost use Rattle.section.specs.Contents.{Amount};
-ghost use Rattle.section.specs.Inner.{numbersOf, Fit, Reaches};
+ghost use Rattle.section.specs.Inner.{numbersOf, Reaches};
 ghost use Rattle.settings.specs.Settings.{fixedOf, ascentHold, amountIn, enrouteFrom, ascentFrom, hoursFrom, fixedHold};
-ghost use Rattle.settings.specs.Inner.{Bytes, passSection, textIf};
+ghost use Rattle.settings.specs.Inner.{Held, Bytes, passSection, textIf};
 
 pub fn fixed_of(x: Settings) -> Fixed
     ensures { λ r. ⌜ r ≡ fixedOf x ⌝ }
@@ -51,7 +50,7 @@ fn two(a: u8, b: u8) -> [u16; 8]
 }
 
 fn ascent_numbers(x: Ascent) -> [u16; 8]
-    ensures { λ r. ⌜ (r ≡ numbersOf (ascentHold x)) × Fit (tableOf 5) r ⌝ }
+    ensures { λ r. ⌜ (r ≡ numbersOf (ascentHold x)) × Held 5 r ⌝ }
 {
     [
         short(x.mode),
@@ -67,7 +66,7 @@ fn ascent_numbers(x: Ascent) -> [u16; 8]
 
 // The numbers of section k.
 pub fn numbers_of(x: Fixed, k: usize) -> [u16; 8]
-    ensures { λ r. ⌜ (r ≡ numbersOf (fixedHold x k)) × Fit (tableOf k) r ⌝ }
+    ensures { λ r. ⌜ (r ≡ numbersOf (fixedHold x k)) × Held k r ⌝ }
 {
     let enroute = x.enroute;
     let ascent = x.ascent;
@@ -92,7 +91,7 @@ fn byte(n: u16) -> u8
 }
 
 pub fn enroute_from(v: [u16; 8]) -> Enroute
-    requires { ⌜ Fit (tableOf 4) v ⌝ }
+    requires { ⌜ Held 4 v ⌝ }
     ensures { λ r. ⌜ r ≡ enrouteFrom (map Amount v) ⌝ }
 {
     Enroute {
@@ -102,7 +101,7 @@ pub fn enroute_from(v: [u16; 8]) -> Enroute
 }
 
 pub fn ascent_from(v: [u16; 8]) -> Ascent
-    requires { ⌜ Fit (tableOf 5) v ⌝ }
+    requires { ⌜ Held 5 v ⌝ }
     ensures { λ r. ⌜ r ≡ ascentFrom (map Amount v) ⌝ }
 {
     Ascent {
@@ -119,14 +118,14 @@ pub fn ascent_from(v: [u16; 8]) -> Ascent
 
 // Sections 6 and 8.
 pub fn digit_from(v: [u16; 8]) -> u8
-    requires { ⌜ Fit (tableOf 6) v ⌝ }
+    requires { ⌜ Held 6 v ⌝ }
     ensures { λ r. ⌜ r ≡ amountIn (map Amount v) 0 ⌝ }
 {
     byte(v[0])
 }
 
 pub fn hours_from(v: [u16; 8]) -> Hours
-    requires { ⌜ Fit (tableOf 9) v ⌝ }
+    requires { ⌜ Held 9 v ⌝ }
     ensures { λ r. ⌜ r ≡ hoursFrom (map Amount v) ⌝ }
 {
     Hours {

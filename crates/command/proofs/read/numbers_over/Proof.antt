@@ -8,7 +8,7 @@ use denote.Ref.{now}
 use Rattle.section.specs.Layout.{Item}
 use Rattle.section.specs.Contents.{contentsAt}
 use Rattle.section.specs.Inner.{numbersOf}
-use Rattle.settings.proofs.ByNumber.{only-digits}
+use Rattle.settings.proofs.ByNumber.{only-digits, fit-held}
 use Rattle.field.specs.declared.Step.the-variants.{Next}
 use Rattle.command.proofs.Placed.{stands-inside, stands-accepted, stands-held}
 
@@ -29,7 +29,7 @@ returns c =
       c .numbers-at .ensures .0
           ∙ ap (λ (is : List Item). numbersOf (contentsAt is (now (a .s)) (a .at))) (sym (only-digits (a .k) (start .pre .1)))
           ∙ rw named (ap numbersOf (stands-held (start .pre .0))),
-      c .numbers-at .ensures .1,
+      fit-held (a .k) (c .numbers-at .result) (c .numbers-at .ensures .1),
     )
 
 numbers-of-requires : tie.Need-numbers-of-requires

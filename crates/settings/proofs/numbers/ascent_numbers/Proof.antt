@@ -3,9 +3,8 @@ use borrow.Author.Needs.{needs}
 use Rattle.settings.proofs.numbers.ascent_numbers.Statement.{statement}
 use Rattle.settings.proofs.numbers.ascent_numbers.Tie as tie
 use native.Mathlib.Omega.{arith}
-use Rattle.section.specs.Layout.{tableOf}
 use Rattle.section.specs.Inner.{numbersOf}
-use Rattle.settings.proofs.ByNumber.{same-fit, ascent-fits}
+use Rattle.settings.proofs.ByNumber.{same-held, ascent-fits}
 
 short-requires : tie.Need-short-requires
 short-requires c κs = search needs
@@ -29,7 +28,7 @@ returns : tie.Need-returns
 unfolding numbersOf
 returns c =
     let x = c .before .before .before .before .before .before .args .x in
-    same-fit (tableOf 5) _ _ (rw (c .short6 .ensures, c .before .short5 .ensures, c .before .before .short4 .ensures, c .before .before .before .short3 .ensures, c .before .before .before .before .short2 .ensures, c .before .before .before .before .before .short .ensures))
+    same-held 5 _ _ (rw (c .short6 .ensures, c .before .short5 .ensures, c .before .before .short4 .ensures, c .before .before .before .short3 .ensures, c .before .before .before .before .short2 .ensures, c .before .before .before .before .before .short .ensures))
     (ascent-fits x (search needs) (search needs) (search needs) (search needs) (search needs) (search needs))
 
 pub ascent-numbers-spec : {M : Type 1} → statement M
