@@ -17,7 +17,7 @@ use Rattle.field.specs.declared.Step.the-variants.{Next}
 use Rattle.field.proofs.Local.{after-cases}
 use Rattle.section.specs.Layout.{numbers, layoutOf, checkSection, itemsSize}
 use Rattle.section.proofs.Own.{cut-end, cut-inside}
-use Rattle.command.specs.Text.{isNamed, checkFrom, checkCommand}
+use Rattle.command.specs.Text.{isNamed, checkFrom, longest, checkCommand}
 use Rattle.command.specs.Sections.{past, placeFrom, placeOf, bytesOf}
 use Rattle.command.proofs.Accepted.{accepted}
 use Rattle.command.proofs.Checking.{numbers-next}
@@ -166,5 +166,5 @@ module _ (a b : List ℕ) (x : checkCommand a ≡ Fine) (y : checkCommand b ≡ 
       ∙ length-append (joinHead a b) (joinSections numbers a b)
       ∙ ap (λ (n : ℕ). n + length (joinSections numbers a b)) (head-length a b (accepted a x .head .inside) (accepted b y .head .inside))
 
-  pub sides-short : length (joinSections numbers a b) ≤ 813
+  pub sides-short : length (joinSections numbers a b) ≤ longest
   sides-short = omega (arith, sides-length, join-short a b x y)
