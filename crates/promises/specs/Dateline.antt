@@ -62,6 +62,7 @@ relaidSettings lay x =
       airports = x .airports;
       enroute = x .enroute;
       ascent = x .ascent;
+      descent = x .descent;
       routine6 = x .routine6;
       routine8 = x .routine8;
       hours = x .hours;

@@ -65,6 +65,7 @@ sections =
           ∷ []),
     )
     ∷ (6, layout 0 0 (number 1 0 1 ∷ []))
+    ∷ (7, layout 0 0 (mark 0 1 ∷ number 3 10 300 ∷ number 3 150 350 ∷ mark 1 2 ∷ mark 0 1 ∷ []))
     ∷ (8, layout 0 0 (number 1 0 1 ∷ []))
     ∷ (9, layout 0 0 (number 2 0 23 ∷ number 2 0 23 ∷ []))
     ∷ []

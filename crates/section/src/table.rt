@@ -82,6 +82,14 @@ const LIST: Row = Row {
     most: 2,
 };
 
+// Section 7: its interval; its other rows are section 5's.
+const DESCENT_INTERVAL: Row = Row {
+    code: 5,
+    width: 3,
+    least: 10,
+    most: 300,
+};
+
 // Section 9: start and end.
 const HOUR: Row = Row {
     code: 5,
@@ -117,6 +125,12 @@ pub fn layout_of(k: usize) -> Layout
             [MODE, INTERVAL1, DURATION, INTERVAL2, TOTAL, TOP, LIST, MODE],
         ),
         6 | 8 => laid_out(0, 0, 1, [DIGIT, no, no, no, no, no, no, no]),
+        7 => laid_out(
+            0,
+            0,
+            5,
+            [MODE, DESCENT_INTERVAL, TOP, LIST, MODE, no, no, no],
+        ),
         9 => laid_out(0, 0, 2, [HOUR, HOUR, no, no, no, no, no, no]),
         _ => laid_out(0, 0, 0, [no; 8]),
     }

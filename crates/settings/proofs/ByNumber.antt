@@ -13,10 +13,11 @@ use Rattle.section.specs.Layout.{Item, tableOf, layoutOf, digitsOf}
 use Rattle.section.specs.Contents.{Content, Amount, amountOf, contentsText, contentsAllowed}
 use Rattle.section.specs.Inner.{numbersOf, Fit, passContents}
 use Rattle.section.proofs.Rows.{look-past, table-past}
-use Rattle.settings.specs.Settings.{ascentHold, amountIn, enrouteFrom, ascentFrom, hoursFrom, fixedOf, fixedSections, fixedHold, contentsOf}
+use Rattle.settings.specs.Settings.{ascentHold, descentHold, amountIn, enrouteFrom, ascentFrom, descentFrom, hoursFrom, fixedOf, fixedSections, fixedHold, contentsOf}
 use Rattle.settings.specs.Valid.{areZero}
 use Rattle.settings.specs.Inner.{Held, Bytes}
 use Rattle.settings.specs.declared.Ascent.{Ascent}
+use Rattle.settings.specs.declared.Descent.{Descent}
 use Rattle.settings.specs.declared.Fixed.{Fixed}
 use Rattle.settings.specs.declared.Settings.{Settings}
 
@@ -61,6 +62,9 @@ ascent-same cs =
       number-in cs 7,
     )
 
+pub descent-same : (cs : List Content) → descentFrom (map Amount (numbersOf cs)) ≡ descentFrom cs
+descent-same cs = rw (number-in cs 0, number-in cs 1, number-in cs 2, number-in cs 3, number-in cs 4)
+
 pub hours-same : (cs : List Content) → hoursFrom (map Amount (numbersOf cs)) ≡ hoursFrom cs
 unfolding hoursFrom
 hours-same cs = rw (number-in cs 0, number-in cs 1)
@@ -69,7 +73,8 @@ hours-same cs = rw (number-in cs 0, number-in cs 1)
 
 -- numbers that no row's most is passed by are held
 pub fit-held : (k : ℕ) (v : List ℕ) → Fit (tableOf k) v → Held k v
-fit-held k v f i h = f i h
+fit-held k v f i h =
+    by-test (eqb k 7 && eqb i 0) (λ t. let wide : 65535 ≤ 255 = rw t at h in absurd (omega (arith, wide))) (λ t. f i (rw t at h))
 
 pub same-held : (k : ℕ) (v w : List ℕ) → v ≡ w → Held k w → (v ≡ w) × Held k v
 same-held k v w e f = (e, rw e f)
@@ -104,6 +109,16 @@ ascent-fits x a b c d e f (suc (suc (suc (suc (suc zero))))) h = absurd (omega a
 ascent-fits x a b c d e f (suc (suc (suc (suc (suc (suc zero)))))) h = e
 ascent-fits x a b c d e f (suc (suc (suc (suc (suc (suc (suc zero))))))) h = f
 ascent-fits x a b c d e f (suc (suc (suc (suc (suc (suc (suc (suc i)))))))) h = omega arith
+
+-- the list and the timer alone are bytes
+pub descent-fits : (x : Descent) → x .list ≤ 255 → x .timer ≤ 255 → Held 7 (numbersOf (descentHold x))
+unfolding numbersOf tableOf
+descent-fits x a b zero h = absurd (omega arith)
+descent-fits x a b (suc zero) h = absurd (omega arith)
+descent-fits x a b (suc (suc zero)) h = absurd (omega arith)
+descent-fits x a b (suc (suc (suc zero))) h = a
+descent-fits x a b (suc (suc (suc (suc zero)))) h = b
+descent-fits x a b (suc (suc (suc (suc (suc i))))) h = rw (none-at 3 i) (omega arith)
 
 -- ---- By the section's number
 

@@ -1,8 +1,8 @@
 -- The record's sections out of what they hold and back: a section that is not named is zero, and nothing but zero.
 use mathlib.Core.Path.{_≡_, refl, sym, ap₂}
 use mathlib.Core.Bool.{Bool, true, false, cond, _&&_}
-use mathlib.Core.List.{List, []}
-use Prim.Native.Nat.{ℕ}
+use mathlib.Core.List.{List, [], _∷_}
+use Prim.Native.Nat.{ℕ, zero, suc}
 use lib.Dec.{eqb}
 use lib.ListN.{length}
 use borrow.Author.Tests.{eqb-true}
@@ -10,13 +10,16 @@ use Rattle.lists.specs.Lists.{allZero, regionsZero, noAirfields}
 use Rattle.lists.specs.declared.Airfields.{Airfields}
 use Rattle.lists.specs.declared.Boxes.{Boxes}
 use Rattle.lists.proofs.RoundTrip.{airfields-nothing, boxes-nothing}
-use Rattle.section.specs.Contents.{Content}
-use Rattle.settings.specs.Settings.{regionsHold, airportsHold, enrouteHold, ascentHold, digitHold, hoursHold, amountIn, byPhase, regionsFrom, airportsFrom, enrouteFrom, ascentFrom, hoursFrom}
+use Rattle.text.proofs.Cases.{both-left, both-right}
+use Rattle.section.specs.Contents.{Content, Amount, Names, Areas}
+use Rattle.settings.specs.Settings.{regionsHold, airportsHold, enrouteHold, ascentHold, descentHold, digitHold, hoursHold, amountIn, byPhase, regionsFrom, airportsFrom, enrouteFrom, ascentFrom, descentFrom, hoursFrom}
+use Rattle.settings.specs.Valid.{isZero, areZero}
 use Rattle.settings.specs.declared.Regions.{Regions}
 use Rattle.settings.specs.declared.ByPhase.{ByPhase}
 use Rattle.settings.specs.declared.Airports.{Airports}
 use Rattle.settings.specs.declared.Enroute.{Enroute}
 use Rattle.settings.specs.declared.Ascent.{Ascent}
+use Rattle.settings.specs.declared.Descent.{Descent}
 use Rattle.settings.specs.declared.Hours.{Hours}
 
 -- whether a list of airfields, or of boxes, is all zero
@@ -113,6 +116,33 @@ ascent-kept x false cs e z = rw e (ascent-nothing x (z refl))
 pub digit-kept : (d : ℕ) (n : Bool) (cs : List Content) → cs ≡ cond n (digitHold d) [] → (n ≡ false → eqb d 0 ≡ true) → amountIn cs 0 ≡ d
 digit-kept d true cs e z = rw e
 digit-kept d false cs e z = rw e (sym (eqb-true d 0 (z refl)))
+
+-- what is all zero is zero at each number
+zero-at : (cs : List Content) → areZero cs ≡ true → (i : ℕ) → amountIn cs i ≡ 0
+unfolding areZero
+zero-at [] e i = refl
+zero-at (Amount v ∷ cs) e zero = eqb-true v 0 (both-left (eqb v 0) (areZero cs) e)
+zero-at (Names l ∷ cs) e zero = refl
+zero-at (Areas l ∷ cs) e zero = refl
+zero-at (c ∷ cs) e (suc i) = zero-at cs (both-right (isZero c) (areZero cs) e) i
+
+descent-of : ℕ → ℕ → ℕ → ℕ → ℕ → Descent
+descent-of a b c d e = record { mode = a; interval = b; top = c; list = d; timer = e }
+
+-- section 7
+pub descent-kept : (x : Descent) (n : Bool) (cs : List Content) → cs ≡ cond n (descentHold x) [] → (n ≡ false → areZero (descentHold x) ≡ true)
+    → descentFrom cs ≡ x
+unfolding descent-of
+descent-kept x true cs e z = rw e
+descent-kept x false cs e z =
+    let w = zero-at (descentHold x) (z refl) in
+    let a : x .mode ≡ 0 = w 0 in
+    let b : x .interval ≡ 0 = w 1 in
+    let c : x .top ≡ 0 = w 2 in
+    let d : x .list ≡ 0 = w 3 in
+    let f : x .timer ≡ 0 = w 4 in
+    let g : descent-of 0 0 0 0 0 ≡ descent-of (x .mode) (x .interval) (x .top) (x .list) (x .timer) = rw (a, b, c, d, f) in
+    rw e g
 
 hours-of : ℕ → ℕ → Hours
 hours-of a b = record { start = a; end = b }

@@ -2,6 +2,7 @@
 use mathlib.Core.Bool.{Bool, true, false, cond, _&&_}
 use mathlib.Core.List.{List, []}
 use Prim.Native.Nat.{ℕ, zero, suc, _+_, _*_, _≤_}
+use lib.Dec.{eqb}
 use lib.ListN.{getD}
 use Rattle.text.specs.Checks.{must}
 use Rattle.field.specs.declared.Step.{Step}
@@ -34,9 +35,9 @@ listsAt s at =
 
 -- ---- A section's numbers
 
--- the most that a member may hold: its row's
+-- the most that a member may hold: its row's; the mode of section 7 is held in 16 bits
 abbrev pub heldMost : ℕ → ℕ → ℕ
-heldMost k i = getD (tableOf k .rows) i noRow .most
+heldMost k i = cond (eqb k 7 && eqb i 0) 65535 (getD (tableOf k .rows) i noRow .most)
 
 -- those of section k are what its members hold: a byte where that is the most
 abbrev pub Held : ℕ → List ℕ → Type 0

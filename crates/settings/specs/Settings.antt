@@ -11,6 +11,7 @@ use Rattle.settings.specs.declared.ByPhase.{ByPhase}
 use Rattle.settings.specs.declared.Airports.{Airports}
 use Rattle.settings.specs.declared.Enroute.{Enroute}
 use Rattle.settings.specs.declared.Ascent.{Ascent}
+use Rattle.settings.specs.declared.Descent.{Descent}
 use Rattle.settings.specs.declared.Hours.{Hours}
 use Rattle.settings.specs.declared.Settings.{Settings}
 use Rattle.settings.specs.declared.Fixed.{Fixed}
@@ -48,6 +49,10 @@ ascentHold x =
     ∷ Amount (x .timer)
     ∷ []
 
+abbrev pub descentHold : Descent → List Content
+descentHold x =
+    Amount (x .mode) ∷ Amount (x .interval) ∷ Amount (x .top) ∷ Amount (x .list) ∷ Amount (x .timer) ∷ []
+
 abbrev pub digitHold : ℕ → List Content
 digitHold d = Amount d ∷ []
 
@@ -57,13 +62,14 @@ hoursHold x = Amount (x .start) ∷ Amount (x .end) ∷ []
 -- the sections of numbers
 abbrev pub fixedOf : Settings → Fixed
 fixedOf x =
-    record { enroute = x .enroute; ascent = x .ascent; routine6 = x .routine6; routine8 = x .routine8; hours = x .hours }
+    record { enroute = x .enroute; ascent = x .ascent; descent = x .descent; routine6 = x .routine6; routine8 = x .routine8; hours = x .hours }
 
 abbrev pub fixedSections : Fixed → List (ℕ × List Content)
 fixedSections x =
     (4, enrouteHold (x .enroute))
     ∷ (5, ascentHold (x .ascent))
     ∷ (6, digitHold (x .routine6))
+    ∷ (7, descentHold (x .descent))
     ∷ (8, digitHold (x .routine8))
     ∷ (9, hoursHold (x .hours))
     ∷ []
@@ -110,6 +116,10 @@ ascentFrom cs =
       timer = amountIn cs 7;
     }
 
+abbrev pub descentFrom : List Content → Descent
+descentFrom cs =
+    record { mode = amountIn cs 0; interval = amountIn cs 1; top = amountIn cs 2; list = amountIn cs 3; timer = amountIn cs 4 }
+
 unfoldable pub hoursFrom : List Content → Hours
 hoursFrom cs = record { start = amountIn cs 0; end = amountIn cs 1 }
 
@@ -122,6 +132,7 @@ settingsFrom flags hold =
       airports = airportsFrom (hold 3);
       enroute = enrouteFrom (hold 4);
       ascent = ascentFrom (hold 5);
+      descent = descentFrom (hold 7);
       routine6 = amountIn (hold 6) 0;
       routine8 = amountIn (hold 8) 0;
       hours = hoursFrom (hold 9);

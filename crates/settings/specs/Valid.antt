@@ -12,7 +12,7 @@ use Rattle.settings.specs.Settings.{contentsOf, settingsFrom}
 use Rattle.settings.specs.declared.Settings.{Settings}
 
 -- ---- After reset: flags 1 0 0 0 1 1 1; counts 00; routine 0 in section 3, 1 in 6 and 8; 4 is 07, 1; 5 is 1, 06, 090,
--- 20, 051, 200, 2, 1; 9 is 00, 00
+-- 20, 051, 200, 2, 1; 9 is 00, 00; source document 003: 7 is 1, 040, 200, 2, 1
 
 abbrev pub resetHolds : ℕ → List Content
 resetHolds k =
@@ -20,6 +20,7 @@ resetHolds k =
     ((4, Amount 7 ∷ Amount 1 ∷ [])
     ∷ (5, Amount 1 ∷ Amount 6 ∷ Amount 90 ∷ Amount 20 ∷ Amount 51 ∷ Amount 200 ∷ Amount 2 ∷ Amount 1 ∷ [])
     ∷ (6, Amount 1 ∷ [])
+    ∷ (7, Amount 1 ∷ Amount 40 ∷ Amount 200 ∷ Amount 2 ∷ Amount 1 ∷ [])
     ∷ (8, Amount 1 ∷ [])
     ∷ [])
     []

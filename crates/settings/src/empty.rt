@@ -2,6 +2,7 @@
 use crate::Airports;
 use crate::Ascent;
 use crate::ByPhase;
+use crate::Descent;
 use crate::Enroute;
 use crate::Fixed;
 use crate::Hours;
@@ -86,6 +87,13 @@ pub fn no_fixed() -> Fixed
             wind: 0,
         },
         ascent,
+        descent: Descent {
+            mode: 0,
+            interval: 0,
+            top: 0,
+            list: 0,
+            timer: 0,
+        },
         routine6: 0,
         routine8: 0,
         hours: Hours { start: 0, end: 0 },
@@ -99,6 +107,7 @@ pub fn no_settings() -> Settings
     let fixed = no_fixed();
     let enroute = fixed.enroute;
     let ascent = fixed.ascent;
+    let descent = fixed.descent;
     let hours = fixed.hours;
     Settings {
         flags: [0u8; 7],
@@ -106,6 +115,7 @@ pub fn no_settings() -> Settings
         airports: no_airports(),
         enroute,
         ascent,
+        descent,
         routine6: fixed.routine6,
         routine8: fixed.routine8,
         hours,

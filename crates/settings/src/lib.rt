@@ -53,6 +53,16 @@ pub struct Ascent {
     pub timer: u8,
 }
 
+// Section 7. The mode is 0 or 1: 16 bits hold it so that nothing stands between the members.
+#[repr(C)]
+pub struct Descent {
+    pub mode: u16,
+    pub interval: u16,
+    pub top: u16,
+    pub list: u8,
+    pub timer: u8,
+}
+
 // Section 9.
 #[repr(C)]
 pub struct Hours {
@@ -68,6 +78,7 @@ pub struct Settings {
     pub airports: Airports,
     pub enroute: Enroute,
     pub ascent: Ascent,
+    pub descent: Descent,
     pub routine6: u8,
     pub routine8: u8,
     pub hours: Hours,
@@ -77,6 +88,7 @@ pub struct Settings {
 pub struct Fixed {
     pub enroute: Enroute,
     pub ascent: Ascent,
+    pub descent: Descent,
     pub routine6: u8,
     pub routine8: u8,
     pub hours: Hours,

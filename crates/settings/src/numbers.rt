@@ -1,5 +1,6 @@
 // The sections of numbers, 4 to 9, by the rows of their layouts: the record's members as eight numbers, and back.
 use crate::Ascent;
+use crate::Descent;
 use crate::Enroute;
 use crate::Fixed;
 use crate::Hours;
@@ -17,7 +18,7 @@ ghost use lib.ListN.{length};
 ghost use Rattle.text.specs.Over.{over};
 ghost use Rattle.section.specs.Contents.{Amount};
 ghost use Rattle.section.specs.Inner.{numbersOf, Reaches};
-ghost use Rattle.settings.specs.Settings.{fixedOf, ascentHold, amountIn, enrouteFrom, ascentFrom, hoursFrom, fixedHold};
+ghost use Rattle.settings.specs.Settings.{fixedOf, ascentHold, descentHold, amountIn, enrouteFrom, ascentFrom, descentFrom, hoursFrom, fixedHold};
 ghost use Rattle.settings.specs.Inner.{Held, Bytes, passSection, textIf};
 
 pub fn fixed_of(x: Settings) -> Fixed
@@ -25,10 +26,12 @@ pub fn fixed_of(x: Settings) -> Fixed
 {
     let enroute = x.enroute;
     let ascent = x.ascent;
+    let descent = x.descent;
     let hours = x.hours;
     Fixed {
         enroute,
         ascent,
+        descent,
         routine6: x.routine6,
         routine8: x.routine8,
         hours,
@@ -64,17 +67,34 @@ fn ascent_numbers(x: Ascent) -> [u16; 8]
     ]
 }
 
+fn descent_numbers(x: Descent) -> [u16; 8]
+    ensures { λ r. ⌜ (r ≡ numbersOf (descentHold x)) × Held 7 r ⌝ }
+{
+    [
+        x.mode,
+        x.interval,
+        x.top,
+        short(x.list),
+        short(x.timer),
+        0,
+        0,
+        0,
+    ]
+}
+
 // The numbers of section k.
 pub fn numbers_of(x: Fixed, k: usize) -> [u16; 8]
     ensures { λ r. ⌜ (r ≡ numbersOf (fixedHold x k)) × Held k r ⌝ }
 {
     let enroute = x.enroute;
     let ascent = x.ascent;
+    let descent = x.descent;
     let hours = x.hours;
     match k {
         4 => two(enroute.interval, enroute.wind),
         5 => ascent_numbers(ascent),
         6 => one(x.routine6),
+        7 => descent_numbers(descent),
         8 => one(x.routine8),
         9 => two(hours.start, hours.end),
         _ => [0; 8],
@@ -113,6 +133,19 @@ pub fn ascent_from(v: [u16; 8]) -> Ascent
         top: v[5],
         list: byte(v[6]),
         timer: byte(v[7]),
+    }
+}
+
+pub fn descent_from(v: [u16; 8]) -> Descent
+    requires { ⌜ Held 7 v ⌝ }
+    ensures { λ r. ⌜ r ≡ descentFrom (map Amount v) ⌝ }
+{
+    Descent {
+        mode: v[0],
+        interval: v[1],
+        top: v[2],
+        list: byte(v[3]),
+        timer: byte(v[4]),
     }
 }
 

@@ -1,5 +1,6 @@
 // The configuration after reset.
 use crate::Ascent;
+use crate::Descent;
 use crate::Enroute;
 use crate::Hours;
 use crate::Settings;
@@ -37,6 +38,13 @@ pub fn after_reset() -> Settings
             wind: 1,
         },
         ascent: reset_ascent(),
+        descent: Descent {
+            mode: 1,
+            interval: 40,
+            top: 200,
+            list: 2,
+            timer: 1,
+        },
         routine6: 1,
         routine8: 1,
         hours: Hours { start: 0, end: 0 },

@@ -29,6 +29,9 @@ laid-out-requires-6 c κs = search needs
 laid-out-requires-7 : tie.Need-laid-out-requires-7
 laid-out-requires-7 c κs = search needs
 
+laid-out-requires-8 : tie.Need-laid-out-requires-8
+laid-out-requires-8 c κs = search needs
+
 returns : tie.Need-returns
 unfolding tableOf
 returns c = rw (c .before .match .keys1, c .laid-out .ensures) (record { boxes = refl; airfields = refl; count = refl; rows = refl })
@@ -59,18 +62,23 @@ returns-6 c = rw (c .before .match .keys6, c .laid-out6 .ensures) (record { boxe
 
 returns-7 : tie.Need-returns-7
 unfolding tableOf
-returns-7 c =
+returns-7 c = rw (c .before .match .keys7, c .laid-out7 .ensures) (record { boxes = refl; airfields = refl; count = refl; rows = refl })
+
+returns-8 : tie.Need-returns-8
+unfolding tableOf
+returns-8 c =
     let k = c .before .before .args .k in
     let n = c .before .match .rest in
     rw (
-      ne-eqb k 2 (n .0 .0 .0 .0 .0 .1),
-      ne-eqb k 3 (n .0 .0 .0 .0 .1),
-      ne-eqb k 4 (n .0 .0 .0 .1),
-      ne-eqb k 5 (n .0 .0 .1),
-      ne-eqb k 6 (λ e. n .0 .1 (inl e)),
-      ne-eqb k 8 (λ e. n .0 .1 (inr e)),
+      ne-eqb k 2 (n .0 .0 .0 .0 .0 .0 .1),
+      ne-eqb k 3 (n .0 .0 .0 .0 .0 .1),
+      ne-eqb k 4 (n .0 .0 .0 .0 .1),
+      ne-eqb k 5 (n .0 .0 .0 .1),
+      ne-eqb k 6 (λ e. n .0 .0 .1 (inl e)),
+      ne-eqb k 7 (n .0 .1),
+      ne-eqb k 8 (λ e. n .0 .0 .1 (inr e)),
       ne-eqb k 9 (n .1),
-      c .laid-out7 .ensures,
+      c .laid-out8 .ensures,
     )
     (record { boxes = refl; airfields = refl; count = refl; rows = refl })
 
@@ -85,10 +93,12 @@ layout-of-spec =
     laid-out-requires-5
     laid-out-requires-6
     laid-out-requires-7
+    laid-out-requires-8
     returns
     returns-2
     returns-3
     returns-4
     returns-5
     returns-6
-    returns-7)
+    returns-7
+    returns-8)

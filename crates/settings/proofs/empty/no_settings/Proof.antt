@@ -16,7 +16,7 @@ no-airports-requires c κs = search needs
 
 returns : tie.Need-returns
 unfolding noSettings settingsFrom
-returns c = rw (c .no-airports .ensures, c .before .no-regions .ensures, c .before .before .before .before .before .no-fixed .ensures)
+returns c = rw (c .no-airports .ensures, c .before .no-regions .ensures, c .before .before .before .before .before .before .no-fixed .ensures)
 
 pub no-settings-spec : {M : Type 1} → statement M
 no-settings-spec = tie.close (tie.spec no-fixed-requires no-regions-requires no-airports-requires returns)
