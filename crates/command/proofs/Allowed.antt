@@ -210,7 +210,7 @@ ranges-are x = (
     simp (and-assoc, and-true),
     (
       simp (and-assoc, and-true),
-      (simp (and-assoc, and-true), (simp (and-assoc, and-true), (refl, (simp (and-assoc, and-true), (simp (and-assoc, and-true), tt))))),
+      (simp (and-assoc, and-true), (simp (and-assoc, and-true), (simp (and-assoc, and-true), (simp (and-assoc, and-true), (simp (and-assoc, and-true), tt))))),
     ),
   ),
 )

@@ -22,7 +22,7 @@ abbrev pub nines : List ℕ
 nines = 57 ∷ 57 ∷ 57 ∷ 57 ∷ 57 ∷ 57 ∷ 57 ∷ 48 ∷ 48 ∷ 48 ∷ 48 ∷ 48 ∷ 48 ∷ 48 ∷ 48 ∷ 48 ∷ []
 
 abbrev pub owns : List ℕ
-owns = 48 ∷ 48 ∷ 48 ∷ 48 ∷ 48 ∷ 48 ∷ 48 ∷ 48 ∷ 50 ∷ 51 ∷ 52 ∷ 53 ∷ 54 ∷ 48 ∷ 56 ∷ 57 ∷ []
+owns = 48 ∷ 48 ∷ 48 ∷ 48 ∷ 48 ∷ 48 ∷ 48 ∷ 48 ∷ 50 ∷ 51 ∷ 52 ∷ 53 ∷ 54 ∷ 55 ∷ 56 ∷ 57 ∷ []
 
 -- a byte that is among five is one of them
 among : {P : Type 0} (b one two nine own : ℕ) → isAmong b one two nine own ≡ true → (b ≡ 48 → P) → (b ≡ one → P) → (b ≡ two → P)
@@ -53,10 +53,6 @@ own k b some e =
     among b 48 48 48 (48 + k) e (λ y. rw y) (λ y. rw y) (λ y. rw y) (λ y. rw y)
     (λ y. by-eq b 48 (λ z. rw z) (λ n. rw (ne-eqb b 48 n, some, eq-eqb b (48 + k) y)))
 
--- E7 has none
-none : (b : ℕ) → isAmong b 48 48 48 48 ≡ true → isIndicator 7 b ≡ true
-none b e = among b 48 48 48 48 e (λ y. rw y) (λ y. rw y) (λ y. rw y) (λ y. rw y) (λ y. rw y)
-
 -- ---- All places
 
 -- P holds of each number below n
@@ -74,4 +70,4 @@ pub columns : (i : ℕ) → i < 16 → Fits i
 unfolding layoutOf tableOf
 columns =
     below Fits 16
-    ((((((((((((((((tt, flag), flag), flag), flag), flag), flag), flag), downlink), λ b. own 2 b refl), λ b. own 3 b refl), λ b. own 4 b refl), λ b. own 5 b refl), λ b. own 6 b refl), none), λ b. own 8 b refl), λ b. own 9 b refl)
+    ((((((((((((((((tt, flag), flag), flag), flag), flag), flag), flag), downlink), λ b. own 2 b refl), λ b. own 3 b refl), λ b. own 4 b refl), λ b. own 5 b refl), λ b. own 6 b refl), λ b. own 7 b refl), λ b. own 8 b refl), λ b. own 9 b refl)

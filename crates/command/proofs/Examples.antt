@@ -21,7 +21,7 @@ use Rattle.command.specs.Examples.{longestText, examples, AllReadBack}
 pub examples-read : AllReadBack examples
 unfolding examples longestText checkCommand sectionsMost itemsMost checkHead checkAwr04 sameBytes checkEach checkDelimiter checkFrom checkItems layoutOf tableOf itemsSize checkDigits allDigits valueFrom checkList repeat checkAirfield allAllowed allowed checkBox checkPair checkEdge edgeAt lineOf readCommand commandOf noCommand noSettings settingsFrom placeFrom contentsAt airfieldsAt boxesAt regionsAt regionAt regionsFrom airportsFrom enrouteFrom ascentFrom hoursFrom allowedCommand every allowedSection zeroSection allowedBox commandText sectionsText sectionText contentsOf fixedHold contentsText digitsBefore airfieldsText boxesText regionsText regionText edgeText
 examples-read =
-    ((refl, refl, refl), ((refl, refl, refl), ((refl, refl, refl), ((refl, refl, refl), ((refl, refl, refl), tt)))))
+    ((refl, refl, refl), ((refl, refl, refl), ((refl, refl, refl), ((refl, refl, refl), ((refl, refl, refl), ((refl, refl, refl), tt))))))
 
 -- the longest command has as many bytes as any may have
 pub longest-text : length longestText ≡ longest

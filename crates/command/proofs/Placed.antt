@@ -13,7 +13,7 @@ use Rattle.field.specs.declared.Step.the-variants.{Next}
 use Rattle.field.proofs.Local.{after-cases}
 use Rattle.section.specs.Layout.{layoutOf, tableOf, isEmpty, checkSection, itemsSize, Accepted, numbers}
 use Rattle.section.specs.Contents.{Content, contentsAt}
-use Rattle.settings.specs.Settings.{amountIn, regionsFrom, airportsFrom, enrouteFrom, ascentFrom, hoursFrom, settingsFrom, contentsOf, fixedHold}
+use Rattle.settings.specs.Settings.{amountIn, regionsFrom, airportsFrom, enrouteFrom, ascentFrom, descentFrom, hoursFrom, settingsFrom, contentsOf, fixedHold}
 use Rattle.settings.specs.Valid.{noSettings}
 use Rattle.command.specs.Text.{isFlag, isIndicator, isNamed, checkFrom, checkCommand}
 use Rattle.command.specs.Sections.{isOneOf, placeOf, heldIn, placeFrom}
@@ -116,6 +116,7 @@ over-nothing s fs =
       over-zero s enrouteFrom 4 (contentsOf none 4) refl,
       over-zero s ascentFrom 5 (contentsOf none 5) refl,
       over-zero s (λ cs. amountIn cs 0) 6 (contentsOf none 6) refl,
+      over-zero s descentFrom 7 (contentsOf none 7) refl,
       over-zero s (λ cs. amountIn cs 0) 8 (contentsOf none 8) refl,
       over-zero s hoursFrom 9 (contentsOf none 9) refl,
     )

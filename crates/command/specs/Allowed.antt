@@ -17,6 +17,7 @@ use Rattle.section.specs.Layout.{look, numbers}
 use Rattle.settings.specs.declared.Regions.{Regions}
 use Rattle.settings.specs.declared.Airports.{Airports}
 use Rattle.settings.specs.declared.Ascent.{Ascent}
+use Rattle.settings.specs.declared.Descent.{Descent}
 use Rattle.settings.specs.declared.Settings.{Settings}
 use Rattle.command.specs.declared.Command.{Command}
 
@@ -86,6 +87,18 @@ zeroAscent x =
     every nought
     (x .mode ∷ x .interval1 ∷ x .duration ∷ x .interval2 ∷ x .total ∷ x .top ∷ x .list ∷ x .timer ∷ [])
 
+-- source document 003, Table 4.3.10.7-1
+abbrev pub allowedDescent : Descent → Bool
+allowedDescent x =
+    between 0 1 (x .mode)
+    && between 10 300 (x .interval)
+    && between 150 350 (x .top)
+    && between 1 2 (x .list)
+    && between 0 1 (x .timer)
+
+abbrev pub zeroDescent : Descent → Bool
+zeroDescent x = every nought (x .mode ∷ x .interval ∷ x .top ∷ x .list ∷ x .timer ∷ [])
+
 -- section k within its ranges
 unfoldable pub allowedSection : Settings → ℕ → Bool
 allowedSection x k =
@@ -95,6 +108,7 @@ allowedSection x k =
     ∷ (4, between 1 60 (x .enroute .interval) && between 0 1 (x .enroute .wind))
     ∷ (5, allowedAscent (x .ascent))
     ∷ (6, between 0 1 (x .routine6))
+    ∷ (7, allowedDescent (x .descent))
     ∷ (8, between 0 1 (x .routine8))
     ∷ (9, between 0 23 (x .hours .start) && between 0 23 (x .hours .end))
     ∷ [])
@@ -109,6 +123,7 @@ zeroSection x k =
     ∷ (4, every nought (x .enroute .interval ∷ x .enroute .wind ∷ []))
     ∷ (5, zeroAscent (x .ascent))
     ∷ (6, nought (x .routine6))
+    ∷ (7, zeroDescent (x .descent))
     ∷ (8, nought (x .routine8))
     ∷ (9, every nought (x .hours .start ∷ x .hours .end ∷ []))
     ∷ [])
@@ -126,12 +141,12 @@ allowedSettings x = every zeroOrOne (x .flags) && every (allowedSection x) numbe
 abbrev pub allowedFlag : ℕ → Bool
 allowedFlag v = zeroOrOne v || eqb v 9
 
--- the indicator of section k, E2 being the first: 0 or its own number, that of section 7 only 0
+-- the indicator of section k, E2 being the first: 0 or its own number
 abbrev pub indicator : Command → ℕ → ℕ
 indicator c k = getD (c .named) (k - 2) 0
 
 abbrev pub allowedIndicator : Command → ℕ → Bool
-allowedIndicator c k = nought (indicator c k) || (not (eqb k 7) && eqb (indicator c k) k)
+allowedIndicator c k = nought (indicator c k) || eqb (indicator c k) k
 
 -- a section that is named is within its ranges, any other is zero
 abbrev pub inTurn : Command → ℕ → Bool

@@ -23,7 +23,7 @@ twentyAirfields = bytes "20" ++ copies 20 (bytes "AZ09")
 
 unfoldable pub longestText : List ℕ
 longestText =
-    bytes "AWR041111111223456089/"
+    bytes "AWR041111111223456789/"
     ++ (sixteenBoxes
     ++ (sixteenBoxes
     ++ (bytes "/"
@@ -31,7 +31,7 @@ longestText =
     ++ (twentyAirfields
     ++ (twentyAirfields
     ++ (twentyAirfields
-    ++ bytes "1/601/1206006011135021/1/1/2323/")))))))
+    ++ bytes "1/601/1206006011135021/1/130035021/1/2323/")))))))
 
 -- ---- All
 
@@ -40,8 +40,10 @@ examples =
     bytes "AWR049999999000000000/"
     ∷ bytes "AWR041999999000400000/151/"
     ∷ bytes "AWR041199999100400009/300/2301/"
-    ∷ bytes "AWR040000000023456089/0000/000000000/010/0030300305115010/0/0/0000/"
+    ∷ bytes "AWR040000000023456789/0000/000000000/010/0030300305115010/0/001015010/0/0000/"
     ∷ longestText
+    -- section 7 as source document 000 prints it
+    ∷ bytes "AWR049999999000000700/004020011/"
     ∷ []
 
 -- a text is accepted, what it reads to is within document 01's ranges, and is written as the same bytes

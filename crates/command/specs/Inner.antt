@@ -8,7 +8,7 @@ use lib.ListN.{length, drop, getD}
 use Rattle.text.specs.declared.Seen.the-variants.{Fine}
 use Rattle.section.specs.Layout.{checkSection, numbers}
 use Rattle.section.specs.Contents.{Content}
-use Rattle.settings.specs.Settings.{amountIn, enrouteFrom, ascentFrom, hoursFrom, fixedHold}
+use Rattle.settings.specs.Settings.{amountIn, enrouteFrom, ascentFrom, descentFrom, hoursFrom, fixedHold}
 use Rattle.settings.specs.declared.Fixed.{Fixed}
 use Rattle.field.specs.declared.Step.{Step}
 use Rattle.field.specs.declared.Step.the-variants.{Next}
@@ -58,6 +58,7 @@ fixedOver s old =
     record {
       enroute = enrouteFrom (heldOver s 4 (fixedHold old 4));
       ascent = ascentFrom (heldOver s 5 (fixedHold old 5));
+      descent = descentFrom (heldOver s 7 (fixedHold old 7));
       routine6 = amountIn (heldOver s 6 (fixedHold old 6)) 0;
       routine8 = amountIn (heldOver s 8 (fixedHold old 8)) 0;
       hours = hoursFrom (heldOver s 9 (fixedHold old 9));

@@ -80,7 +80,7 @@ checkFrom (k ∷ ks) s at = cond (isNamed s k) (after (checkSection k s at) (che
 
 -- the most bytes: the longest has 22 and every section at its longest
 abbrev pub longest : ℕ
-longest = 835
+longest = 845
 
 unfoldable pub sectionsMost : List ℕ → ℕ
 sectionsMost [] = 0

@@ -134,7 +134,7 @@ fn bytes_fine(s: &[u8]) -> bool
     let one: [u8; 16] = *b"1111111100000000";
     let two: [u8; 16] = *b"0000000200000000";
     let nine: [u8; 16] = *b"9999999000000000";
-    let own: [u8; 16] = *b"0000000023456089";
+    let own: [u8; 16] = *b"0000000023456789";
     let mut fine = true;
     let mut i: usize = 0;
     while i < 16 {

@@ -5,7 +5,7 @@ pub mod read;
 use settings::Settings;
 
 // The longest text: the first 22 bytes and every section at its longest.
-pub const LONGEST: usize = 835;
+pub const LONGEST: usize = 845;
 
 // What a command carries: flags 0, 1 or 9 (no change), the sections that it names, all others zero; the downlink digit;
 // and for each section number from 2 on, that number where the section is named, else 0; `spare` is 0.

@@ -11,6 +11,7 @@ use settings::empty::no_fixed;
 use settings::empty::no_regions;
 use settings::empty::no_settings;
 use settings::numbers::ascent_from;
+use settings::numbers::descent_from;
 use settings::numbers::digit_from;
 use settings::numbers::enroute_from;
 use settings::numbers::fixed_of;
@@ -78,6 +79,7 @@ fn fixed_over(s: &[u8], places: [usize; 11], old: Fixed) -> Fixed
         routine6: digit_from(numbers_over(s, 6, places[6], old)),
         routine8: digit_from(numbers_over(s, 8, places[8], old)),
         hours: hours_from(numbers_over(s, 9, places[9], old)),
+        descent: descent_from(numbers_over(s, 7, places[7], old)),
     }
 }
 
@@ -91,6 +93,7 @@ pub fn settings_over(x: Settings, flags: [u8; 7], s: &[u8], places: [usize; 11])
     let fixed = fixed_over(s, places, fixed_of(x));
     let enroute = fixed.enroute;
     let ascent = fixed.ascent;
+    let descent = fixed.descent;
     let hours = fixed.hours;
     Settings {
         flags,
@@ -98,6 +101,7 @@ pub fn settings_over(x: Settings, flags: [u8; 7], s: &[u8], places: [usize; 11])
         airports: airports_over(s, places[3], x.airports),
         enroute,
         ascent,
+        descent,
         routine6: fixed.routine6,
         routine8: fixed.routine8,
         hours,
@@ -184,6 +188,7 @@ fn short_settings(s: &[u8], places: [usize; 11]) -> Settings
     let fixed = fixed_over(s, places, no_fixed());
     let enroute = fixed.enroute;
     let ascent = fixed.ascent;
+    let descent = fixed.descent;
     let hours = fixed.hours;
     Settings {
         flags,
@@ -191,6 +196,7 @@ fn short_settings(s: &[u8], places: [usize; 11]) -> Settings
         airports: no_airports(),
         enroute,
         ascent,
+        descent,
         routine6: fixed.routine6,
         routine8: fixed.routine8,
         hours,

@@ -8,8 +8,8 @@ use Prim.Native.Nat.{ℕ}
 use lib.Dec.{lit≤}
 use Rattle.section.specs.Layout.{tableOf}
 use Rattle.section.specs.Contents.{Amount}
-use Rattle.settings.specs.Settings.{amountIn, enrouteFrom, ascentFrom, hoursFrom}
-use Rattle.settings.proofs.ByNumber.{number-in, enroute-same, ascent-same, hours-same}
+use Rattle.settings.specs.Settings.{amountIn, enrouteFrom, ascentFrom, descentFrom, hoursFrom}
+use Rattle.settings.proofs.ByNumber.{number-in, enroute-same, ascent-same, descent-same, hours-same}
 use Rattle.command.proofs.Placed.{noted-stands}
 
 array-read-numbers-over : tie.Need-array-read-numbers-over
@@ -58,14 +58,24 @@ numbers-over-requires-5 c κs = (noted-stands (c .before .before .before .before
 hours-from-requires : tie.Need-hours-from-requires
 hours-from-requires c κs = c .numbers-over5 .ensures .1
 
+array-read-numbers-over-6 : tie.Need-array-read-numbers-over-6
+array-read-numbers-over-6 c = search needs
+
+numbers-over-requires-6 : tie.Need-numbers-over-requires-6
+numbers-over-requires-6 c κs = (noted-stands (c .before .before .before .before .before .before .before .before .before .before .before .pre .0) (c .before .before .before .before .before .before .before .before .before .before .before .pre .1) 7 refl, lit≤ tt)
+
+descent-from-requires : tie.Need-descent-from-requires
+descent-from-requires c κs = c .numbers-over6 .ensures .1
+
 returns : tie.Need-returns
 returns c =
     rw (
-      c .hours-from .ensures ∙ ap (λ (v : List ℕ). hoursFrom (map Amount v)) (c .before .numbers-over5 .ensures .0) ∙ hours-same _,
-      c .before .before .digit-from2 .ensures ∙ ap (λ (v : List ℕ). amountIn (map Amount v) 0) (c .before .before .before .numbers-over4 .ensures .0) ∙ number-in _ 0,
-      c .before .before .before .before .digit-from .ensures ∙ ap (λ (v : List ℕ). amountIn (map Amount v) 0) (c .before .before .before .before .before .numbers-over3 .ensures .0) ∙ number-in _ 0,
-      c .before .before .before .before .before .before .ascent-from .ensures ∙ ap (λ (v : List ℕ). ascentFrom (map Amount v)) (c .before .before .before .before .before .before .before .numbers-over2 .ensures .0) ∙ ascent-same _,
-      c .before .before .before .before .before .before .before .before .enroute-from .ensures ∙ ap (λ (v : List ℕ). enrouteFrom (map Amount v)) (c .before .before .before .before .before .before .before .before .before .numbers-over .ensures .0) ∙ enroute-same _,
+      c .descent-from .ensures ∙ ap (λ (v : List ℕ). descentFrom (map Amount v)) (c .before .numbers-over6 .ensures .0) ∙ descent-same _,
+      c .before .before .hours-from .ensures ∙ ap (λ (v : List ℕ). hoursFrom (map Amount v)) (c .before .before .before .numbers-over5 .ensures .0) ∙ hours-same _,
+      c .before .before .before .before .digit-from2 .ensures ∙ ap (λ (v : List ℕ). amountIn (map Amount v) 0) (c .before .before .before .before .before .numbers-over4 .ensures .0) ∙ number-in _ 0,
+      c .before .before .before .before .before .before .digit-from .ensures ∙ ap (λ (v : List ℕ). amountIn (map Amount v) 0) (c .before .before .before .before .before .before .before .numbers-over3 .ensures .0) ∙ number-in _ 0,
+      c .before .before .before .before .before .before .before .before .ascent-from .ensures ∙ ap (λ (v : List ℕ). ascentFrom (map Amount v)) (c .before .before .before .before .before .before .before .before .before .numbers-over2 .ensures .0) ∙ ascent-same _,
+      c .before .before .before .before .before .before .before .before .before .before .enroute-from .ensures ∙ ap (λ (v : List ℕ). enrouteFrom (map Amount v)) (c .before .before .before .before .before .before .before .before .before .before .before .numbers-over .ensures .0) ∙ enroute-same _,
     )
 
 pub fixed-over-spec : {M : Type 1} → statement M
@@ -87,4 +97,7 @@ fixed-over-spec =
     array-read-numbers-over-5
     numbers-over-requires-5
     hours-from-requires
+    array-read-numbers-over-6
+    numbers-over-requires-6
+    descent-from-requires
     returns)

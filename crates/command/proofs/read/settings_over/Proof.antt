@@ -16,18 +16,18 @@ array-read-regions-over : tie.Need-array-read-regions-over
 array-read-regions-over c = search needs
 
 regions-over-requires : tie.Need-regions-over-requires
-regions-over-requires c κs = let start = c .before .before .before .before .before .before in noted-stands (start .pre .0) (start .pre .1) 2 refl
+regions-over-requires c κs = let start = c .before .before .before .before .before .before .before in noted-stands (start .pre .0) (start .pre .1) 2 refl
 
 array-read-airports-over : tie.Need-array-read-airports-over
 array-read-airports-over c = search needs
 
 airports-over-requires : tie.Need-airports-over-requires
-airports-over-requires c κs = let start = c .before .before .before .before .before .before .before in noted-stands (start .pre .0) (start .pre .1) 3 refl
+airports-over-requires c κs = let start = c .before .before .before .before .before .before .before .before in noted-stands (start .pre .0) (start .pre .1) 3 refl
 
 returns : tie.Need-returns
 unfolding settingsFrom contentsOf
 returns c =
-    let fixed = c .before .before .before .before .before in
+    let fixed = c .before .before .before .before .before .before in
     rw (c .airports-over .ensures, c .before .regions-over .ensures, fixed .fixed-over .ensures, fixed .before .fixed-of .ensures)
 
 pub settings-over-spec : {M : Type 1} → statement M

@@ -36,7 +36,7 @@ no-airports-requires c κs = search needs
 returns : tie.Need-returns
 unfolding settingsFrom
 returns c =
-    let fixed = c .before .before .before .before .before in
+    let fixed = c .before .before .before .before .before .before in
     let start = fixed .before .before .before .before in
     let s = now (start .args .s) in
     let numbers : fixed .fixed-over .result ≡ fixedOf (settingsFrom [] (heldIn s)) = fixed .fixed-over .ensures ∙ rw (fixed .before .no-fixed .ensures) (alone s) in
