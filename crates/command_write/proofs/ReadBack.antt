@@ -114,12 +114,12 @@ module _ (fs : List ℕ) (h : ℕ → List Content) where
   pub read-held : Each (λ k. (b : List ℕ) → h k ≡ contentsAt (layoutOf k) b 0 → contentsOf (settingsFrom fs h) k ≡ h k) numbers
   unfolding contentsOf fixedHold settingsFrom regionsFrom airportsFrom enrouteFrom ascentFrom hoursFrom layoutOf tableOf contentsAt
   read-held =
-      (λ b e. rw e, (λ b e. rw e, (λ b e. rw e, (λ b e. rw e, (λ b e. rw e, (λ b e. sym e, (λ b e. rw e, (λ b e. rw e, tt))))))))
+      (λ b e. rw e, (λ b e. rw e, (λ b e. rw e, (λ b e. rw e, (λ b e. rw e, (λ b e. rw e, (λ b e. rw e, (λ b e. rw e, tt))))))))
 
   -- and of one that wasn't named nothing: all zero
   pub unread-zero : Each (λ k. h k ≡ [] → areZero (contentsOf (settingsFrom fs h) k) ≡ true) numbers
   unfolding contentsOf fixedHold settingsFrom regionsFrom airportsFrom enrouteFrom ascentFrom hoursFrom areZero allZero regionsZero
-  unread-zero = (λ e. rw e, (λ e. rw e, (λ e. rw e, (λ e. rw e, (λ e. rw e, (λ e. refl, (λ e. rw e, (λ e. rw e, tt))))))))
+  unread-zero = (λ e. rw e, (λ e. rw e, (λ e. rw e, (λ e. rw e, (λ e. rw e, (λ e. rw e, (λ e. rw e, (λ e. rw e, tt))))))))
 
 -- a section of a record that is fine: allowed where it is named, else zero
 pub record Good (c : Command) (k : ℕ) : Type 0 where

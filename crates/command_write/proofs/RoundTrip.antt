@@ -15,10 +15,10 @@ use Rattle.text.proofs.Cases.{by-test, by-eq, both-left, both-right}
 use Rattle.text.proofs.Checks.{must-held, both-fine}
 use Rattle.section.specs.Layout.{layoutOf, tableOf, isEmpty, numbers}
 use Rattle.section.specs.Contents.{Content, Amount, Names, Areas, contentsText, contentsAllowed}
-use Rattle.settings.specs.Settings.{contentsOf, fixedHold, settingsFrom, regionsFrom, airportsFrom, enrouteFrom, ascentFrom, hoursFrom, amountIn}
+use Rattle.settings.specs.Settings.{contentsOf, fixedHold, settingsFrom, regionsFrom, airportsFrom, enrouteFrom, ascentFrom, descentFrom, hoursFrom, amountIn}
 use Rattle.section.proofs.Own.{own-some}
 use Rattle.section.proofs.RoundTrip.{Shaped, written-own}
-use Rattle.settings.proofs.Kept.{regions-kept, airports-kept, enroute-kept, ascent-kept, digit-kept, hours-kept}
+use Rattle.settings.proofs.Kept.{regions-kept, airports-kept, enroute-kept, ascent-kept, descent-kept, digit-kept, hours-kept}
 use Rattle.command.specs.Text.{longest, isFlag, isDownlink, checkCommand}
 use Rattle.command.specs.Record.{digitsOf, commandOf, flagAllowed, flagsAllowed, namedAllowed, marksAllowed, names, sectionText, sectionsAllowed, commandAllowed, digitBytes, commandText}
 use Rattle.settings.specs.Valid.{isZero, areZero}
@@ -156,7 +156,7 @@ shaped c full =
         (full .selected .0, (full .selected .1, (full .inhibited .0, (full .inhibited .1, (ten, tt))))),
         (
           (sixty, (ten, tt)),
-          ((ten, (lit< tt, (lit< tt, (sixty, (lit< tt, (lit< tt, (lit< tt, (ten, tt)))))))), ((ten, tt), (tt, ((ten, tt), ((hour, (hour, tt)), tt))))),
+          ((ten, (lit< tt, (lit< tt, (sixty, (lit< tt, (lit< tt, (lit< tt, (ten, tt)))))))), ((ten, tt), ((ten, (lit< tt, (lit< tt, (lit< tt, (ten, tt))))), ((ten, tt), ((hour, (hour, tt)), tt))))),
         ),
       ),
     )
@@ -333,6 +333,10 @@ module _ (c : Command) (full : Filled c) (fine : commandAllowed c ≡ Fine) wher
         timer = z8 .0;
       })
 
+  descent-back : descentFrom (heldIn (textOf parts) 7) ≡ c .settings .descent
+  unfolding contentsOf fixedHold
+  descent-back = descent-kept (c .settings .descent) (names c 7) (heldIn (textOf parts) 7) (held-back .1 .1 .1 .1 .1 .0) (unnamed .1 .1 .1 .1 .1 .0)
+
   routine6-back : amountIn (heldIn (textOf parts) 6) 0 ≡ c .settings .routine6
   unfolding contentsOf fixedHold
   routine6-back =
@@ -362,7 +366,7 @@ module _ (c : Command) (full : Filled c) (fine : commandAllowed c ≡ Fine) wher
 
   settings-back : settingsFrom (digitsOf (part 5 7 (textOf parts))) (heldIn (textOf parts)) ≡ c .settings
   unfolding settingsFrom
-  settings-back = rw (all-flags, regions-back, airports-back, enroute-back, ascent-back, routine6-back, routine8-back, hours-back)
+  settings-back = rw (all-flags, regions-back, airports-back, enroute-back, ascent-back, descent-back, routine6-back, routine8-back, hours-back)
 
   digit-back : getD (textOf parts) 12 0 - 48 ≡ c .downlink
   digit-back = omega (arith, downlink-back parts sound-parts)

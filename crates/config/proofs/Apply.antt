@@ -34,7 +34,7 @@ settings-own x = refl
 pub settings-same : (fs : List ℕ) (g h : ℕ → List Content) → Each (λ k. g k ≡ h k) numbers → settingsFrom fs g ≡ settingsFrom fs h
 unfolding settingsFrom
 settings-same fs g h e =
-    rw (e .0, e .1 .0, e .1 .1 .0, e .1 .1 .1 .0, e .1 .1 .1 .1 .0, e .1 .1 .1 .1 .1 .1 .0, e .1 .1 .1 .1 .1 .1 .1 .0)
+    rw (e .0, e .1 .0, e .1 .1 .0, e .1 .1 .1 .0, e .1 .1 .1 .1 .0, e .1 .1 .1 .1 .1 .0, e .1 .1 .1 .1 .1 .1 .0, e .1 .1 .1 .1 .1 .1 .1 .0)
 
 -- contents that a section k can hold: a record's own, or read out of a text
 pub data Fit (k : ℕ) (cs : List Content) : Type 0 where
