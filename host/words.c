@@ -9,12 +9,15 @@
 #include <string.h>
 
 #define COUNT(list) (sizeof(list) / sizeof *(list))
+#define SPELT(number) #number
+#define DIGITS_OF(number) SPELT(number)
 
 const char *esk_words(unsigned code)
 {
     static const char *const words[] = {
         "accepted",
-        "a length that is not allowed: a report has 220 bytes, a command at most 835, a packed field 1 to 5",
+        "a length that is not allowed: a report has " DIGITS_OF(ESK_REPORT_BYTES) " bytes, a command at most "
+        DIGITS_OF(ESK_COMMAND_BYTES) ", a packed field 1 to 5",
         "the room for the text is too short",
         "a fixed byte is wrong: AWR04, AMDAR3, a CR LF or a delimiter /",
         "a byte that is not allowed in its field",

@@ -250,11 +250,21 @@ static void name_command_place(const uint8_t *text, size_t place, char *to, size
         snprintf(to, room, "section %d, %s", s.section, name);
 }
 
+/* The bytes of a section behind any lists, up to its delimiter, which is the last figure that it has. */
+static size_t bytes_behind_lists(int section)
+{
+    const figure *from = section == 2 || section == 3 ? behind_lists : figures;
+    size_t count = section == 2 || section == 3 ? COUNT(behind_lists) : COUNT(figures), bytes = 0;
+    for (size_t i = 0; i < count; i++)
+        if (from[i].section == section)
+            bytes = from[i].offset;
+    return bytes;
+}
+
 /* The delimiters, indicators and counts of the text that a record would have, all that find_spot looks at. Behind a
  * count that no text has, nothing is refused any more. */
 static void sketch_text(const esk_command *c, uint8_t *text)
 {
-    static const size_t bytes[] = {0, 1, 3, 16, 1, 0, 1, 4}; /* behind the lists of sections 2 to 9 */
     const esk_settings *s = &c->settings;
     const uint8_t counts[] = {s->regions.reporting.count,        s->regions.inhibiting.count,
                               s->airports.selected.ascent.count, s->airports.selected.descent.count,
@@ -274,7 +284,7 @@ static void sketch_text(const esk_command *c, uint8_t *text)
                 at[1] = (uint8_t)('0' + counts[i] % 10);
                 at += 2 + (size_t)counts[i] * (k == 2 ? 14 : 4);
             }
-        at += bytes[k - 2];
+        at += bytes_behind_lists(k);
         *at++ = '/';
     }
 }

@@ -10,6 +10,9 @@
 #include <stdlib.h>
 #include <string.h>
 
+#define SPELT(number) #number
+#define DIGITS_OF(number) SPELT(number)
+
 int as_json;
 
 static int document;    /* the document is begun */
@@ -91,9 +94,9 @@ const char *meaning(subject kind, unsigned code)
     if (code == ESK_ROOM && kind == A_JOURNAL)
         return "the journal has no room for the entry";
     if (code == ESK_LENGTH && kind == A_REPORT)
-        return "a report has 220 bytes";
+        return "a report has " DIGITS_OF(ESK_REPORT_BYTES) " bytes";
     if (code == ESK_LENGTH && kind == A_COMMAND)
-        return "a command has at most 835 bytes";
+        return "a command has at most " DIGITS_OF(ESK_COMMAND_BYTES) " bytes";
     if (code == ESK_LENGTH)
         return "a packed field has 1 to 5 bytes";
     if (code == ESK_FIXED && kind == A_REPORT)
