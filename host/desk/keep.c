@@ -12,8 +12,12 @@
 
 enum { WAITS_A_SECOND = 50 };
 
-/* O_NOFOLLOW of x86-64, for which this program is always built: another machine's headers have another number. */
+/* O_NOFOLLOW: built for x86-64 by another machine's headers, the number there is another. */
+#ifdef __x86_64__
 enum { NO_LINK = 0400000 };
+#else
+enum { NO_LINK = O_NOFOLLOW };
+#endif
 
 enum { ANY_MAY_WRITE = 0222 };
 
