@@ -32,8 +32,10 @@
  * 3.2.0: esk_words, esk_reason_words, esk_version and esk_size_of; a shared library, libeskelvor.so.3.
  * 3.3.0: the journal, six calls and code 14.
  * 3.4.0: code 4 in a packed field points at the byte that is wrong, no longer at the field's first.
- * 3.5.0: a box may go over 180 degrees, and 7 is not given for longitudes; 180E and 180W hold the same positions. */
-#define ESK_VERSION "3.5.0"
+ * 3.5.0: a box may go over 180 degrees, and 7 is not given for longitudes; 180E and 180W hold the same positions.
+ * 4.0.0: section 7, descent: esk_descent in esk_settings; a command has up to 845 bytes, and a board as many a slot;
+ * libeskelvor.so.4. */
+#define ESK_VERSION "4.0.0"
 
 #ifdef __cplusplus
 extern "C" {
@@ -49,7 +51,7 @@ extern "C" {
  */
 enum {
     ESK_ACCEPTED = 0,  /* accepted; place 0 */
-    ESK_LENGTH = 1,    /* report not 220 bytes; command over 835 bytes; packed field not 1 to 5 bytes; place 0. Looked
+    ESK_LENGTH = 1,    /* report not 220 bytes; command over 845 bytes; packed field not 1 to 5 bytes; place 0. Looked
                           for before any byte is; a command that is too short is 8 */
     ESK_ROOM = 2,      /* output buffer shorter than the text to be written, or a journal without room for the entry; place
                           0. Looked for last */
@@ -249,7 +251,7 @@ esk_report_got esk_report_read(const uint8_t *text, size_t length);
  */
 esk_answer esk_report_write(esk_report report, uint8_t *out, size_t room);
 
-/* ---- the uplink command, 22 to 835 bytes ----------------------------------------------------------------------- */
+/* ---- the uplink command, 22 to 845 bytes ----------------------------------------------------------------------- */
 
 /*
  *   place    bytes
@@ -257,8 +259,7 @@ esk_answer esk_report_write(esk_report report, uint8_t *out, size_t room);
  *   5        7       flags, a digit each: AMDAR, inhibit hours, regions, airports, ascent, enroute, descent; '0' off,
  *                    '1' on, '9' no change
  *   12       1       downlink: what the aircraft is to send down; '0' nothing, '1' the flags, '2' all it holds
- *   13       8       indicators E2 to E9, a digit each: '0', or the section's own number where the section follows; E7
- *                    is always '0'
+ *   13       8       indicators E2 to E9, a digit each: '0', or the section's own number where the section follows
  *   21       1       '/'
  *   22               the sections that are named, in rising order, each with a '/' at its end
  *
@@ -287,15 +288,24 @@ esk_answer esk_report_write(esk_report report, uint8_t *out, size_t room);
  *     3    top of the ascent, hundreds of feet, 150 to 350
  *     1    list of pressure levels, '1' or '2'
  *     1    timer for level stretches: '0' off, '1' on
- *   section 6, ascent, and section 8, descent: 2 bytes each
+ *   section 6, routine reports in ascent: 2 bytes
+ *     1    routine reports where there is no scheme, 0 or 1; looked at while the airports flag is 0
+ *   section 7, the descent scheme: 10 bytes
+ *     1    mode: '0' by pressure level, '1' by time
+ *     3    interval, seconds, 010 to 300; in both modes
+ *     3    top of the descent, hundreds of feet, 150 to 350
+ *     1    list of pressure levels, '1' or '2'
+ *     1    timer for level stretches: '0' off, '1' on
+ *   section 8, routine reports in descent: 2 bytes
  *     1    routine reports where there is no scheme, 0 or 1; looked at while the airports flag is 0
  *   section 9, the hours of silence: 5 bytes
  *     2    start hour, 00 to 23
  *     2    end hour, 00 to 23, no longer silent; equal hours are none, and an end before the start is on the next day
  *
- * The lengths count the '/'. With every section and all lists full that is 22 + 453 + 330 + 4 + 17 + 2 + 2 + 5 = 835.
+ * The lengths count the '/'. With every section and all lists full that is 22 + 453 + 330 + 4 + 17 + 2 + 10 + 2 + 5
+ * = 845.
  */
-#define ESK_COMMAND_BYTES 835 /* of the longest command */
+#define ESK_COMMAND_BYTES 845 /* of the longest command */
 
 /* All values are numbers, not the bytes that spell them; letters and airfields are ASCII. */
 
@@ -357,13 +367,22 @@ typedef struct esk_ascent {
     uint8_t timer;     /* 0 or 1 */
 } esk_ascent;
 
+/* Section 7. 8 bytes, no padding. */
+typedef struct esk_descent {
+    uint16_t mode;     /* 0 or 1 */
+    uint16_t interval; /* 10 to 300 */
+    uint16_t top;      /* 150 to 350 */
+    uint8_t list;      /* 1 or 2 */
+    uint8_t timer;     /* 0 or 1 */
+} esk_descent;
+
 /* Section 9. 2 bytes. */
 typedef struct esk_hours {
     uint8_t start, end; /* 0 to 23 each */
 } esk_hours;
 
 /* Seven flags and every section: the configuration that an aircraft holds, and what a command carries of it.
- * 606 bytes, aligned to 2, no padding. */
+ * 614 bytes, aligned to 2, no padding. */
 typedef struct esk_settings {
     uint8_t flags[7]; /* AMDAR, inhibit hours, regions, airports, ascent, enroute, descent: 0 or 1; in a command also
                          9, no change */
@@ -371,19 +390,20 @@ typedef struct esk_settings {
     esk_airports airports;
     esk_enroute enroute;
     esk_ascent ascent;
+    esk_descent descent;
     uint8_t routine6, routine8; /* sections 6 and 8, for ascent and descent: 0 or 1 */
     esk_hours hours;
 } esk_settings;
 
-/* A command. 616 bytes, no padding. */
+/* A command. 624 bytes, no padding. */
 typedef struct esk_command {
     esk_settings settings; /* a section that is not named is 0 in every byte */
     uint8_t downlink;      /* 0, 1 or 2 */
-    uint8_t named[8];      /* for sections 2 to 9: the section's number where it is named, else 0; 7 is never named */
+    uint8_t named[8];      /* for sections 2 to 9: the section's number where it is named, else 0 */
     uint8_t spare;         /* 0 */
 } esk_command;
 
-/* The answer of esk_command_read. 632 bytes. Where the answer is a refusal the command is 0 in every member. */
+/* The answer of esk_command_read. 640 bytes. Where the answer is a refusal the command is 0 in every member. */
 typedef struct esk_command_got {
     esk_answer answer;
     esk_command command;
@@ -392,7 +412,7 @@ typedef struct esk_command_got {
 /*
  * Checks a command's text, field by field from left to right, and builds nothing. The text is lent for reading. length
  * is 0.
- *   1  over 835 bytes; place 0
+ *   1  over 845 bytes; place 0
  * and then, in each field, at its first byte:
  *   8  the text ends inside the field, or before it
  *   3  AWR04 or a delimiter is wrong
@@ -411,7 +431,7 @@ esk_command_got esk_command_read(const uint8_t *text, size_t length);
 
 /*
  * Writes a command at the start of `out`, which is lent for writing, `room` bytes; on success length is the text's, at
- * most 835. The command is lent for reading, and is never NULL. It is checked first, as its text would be, with the
+ * most 845. The command is lent for reading, and is never NULL. It is checked first, as its text would be, with the
  * place where the field would stand:
  *   4  a flag, the downlink digit, an indicator, a mode, list, timer, letter or airfield byte that is not allowed
  *   6  zero degrees with the letter 'S' or 'W'
@@ -529,7 +549,7 @@ esk_explained esk_explain(const esk_settings *settings, uint8_t phase, int32_t l
 /*
  * Joins two commands' texts into one at the start of `out`: each flag and section from the second where it sets one,
  * else from the first, and the larger downlink digit. The two texts are lent for reading, and may be the same; `out` is
- * lent for writing, `room` bytes. On success length is the joined text's, at most 835.
+ * lent for writing, `room` bytes. On success length is the joined text's, at most 845.
  *   the refusals of esk_command_check for the first text, with text 1 and the place in it,
  *   those for the second, with text 2 and the place in it, and then
  *   2  room below the joined text's length, with text 0; place 0
@@ -541,21 +561,21 @@ esk_answer esk_join(const uint8_t *first, size_t first_length, const uint8_t *se
 
 /*
  * The board holds the commands that wait for aircraft out of coverage, one text for each: what is added is joined onto
- * what waits, so that nothing is ever dropped. Its memory is the caller's: n slots, at most 64, and an area with 835
+ * what waits, so that nothing is ever dropped. Its memory is the caller's: n slots, at most 64, and an area with 845
  * bytes for each. A board begins with all bytes 0, which is n free slots; from then on esk_board_add and esk_board_take
- * alone change it. Slot i's text stands in the area from byte 835 * i on. To see what waits for an aircraft, and leave
+ * alone change it. Slot i's text stands in the area from byte 845 * i on. To see what waits for an aircraft, and leave
  * it there, read the slot whose length is not 0 and whose designator is the aircraft's.
  */
 #define ESK_BOARD_SLOTS 64 /* the most */
 
-/* A slot. 8 bytes, no padding. Its text is the first `length` bytes of its 835 in the area. */
+/* A slot. 8 bytes, no padding. Its text is the first `length` bytes of its 845 in the area. */
 typedef struct esk_slot {
     uint8_t designator[6]; /* 'A' to 'Z' or '0' to '9'; of a free slot, any bytes */
     uint16_t length;       /* of the text that waits; 0: the slot is free */
 } esk_slot;
 
 /*
- * Checks a board: n slots, and an area of 835 bytes for each, both lent for reading. length is 0. Place 0:
+ * Checks a board: n slots, and an area of 845 bytes for each, both lent for reading. length is 0. Place 0:
  *   10  more than 64 slots, an area of another length, a used slot whose designator has a byte that is not allowed or
  *       is another used slot's, or whose text is not an accepted command
  */
@@ -593,7 +613,7 @@ esk_answer esk_board_take(esk_slot *slots, size_t n, const uint8_t *area, size_t
  * Its entries stand one behind the other, the oldest first, and each is
  *
  *   6          designator of the aircraft, 'A' to 'Z' or '0' to '9'
- *   22 to 835  the command's text, which esk_command_check accepts
+ *   22 to 845  the command's text, which esk_command_check accepts
  *   2          the text's length, the high byte first
  *   1          'J'; it and the two bytes before it are the trailer
  *

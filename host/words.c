@@ -64,9 +64,10 @@ size_t esk_size_of(const char *record)
         RECORD(esk_answer),   RECORD(esk_figure),     RECORD(esk_packed),   RECORD(esk_observation),
         RECORD(esk_report),   RECORD(esk_report_got), RECORD(esk_edge),     RECORD(esk_region),
         RECORD(esk_boxes),    RECORD(esk_airfields),  RECORD(esk_regions),  RECORD(esk_by_phase),
-        RECORD(esk_airports), RECORD(esk_enroute),    RECORD(esk_ascent),   RECORD(esk_hours),
-        RECORD(esk_settings), RECORD(esk_command),    RECORD(esk_command_got), RECORD(esk_applied),
-        RECORD(esk_decided),  RECORD(esk_explained),  RECORD(esk_slot),     RECORD(esk_entry),
+        RECORD(esk_airports), RECORD(esk_enroute),    RECORD(esk_ascent),   RECORD(esk_descent),
+        RECORD(esk_hours),    RECORD(esk_settings),   RECORD(esk_command),  RECORD(esk_command_got),
+        RECORD(esk_applied),  RECORD(esk_decided),    RECORD(esk_explained), RECORD(esk_slot),
+        RECORD(esk_entry),
     };
 #undef RECORD
     for (size_t i = 0; record != NULL && i < COUNT(records); i++)
