@@ -60,8 +60,8 @@ static size_t spell(const waiting *w, char *to)
 static const char *const commands[] = {
     NO_CHANGE, FIRST, SECOND, BOTH, longest, H2 "0000/", H2 "0110N10S010W010E00/", H2 "000190N90S180W180E/",
     H3 "000000000/", H3 "01ABCD02EFGHIJKL00001/", H3 "0001WXYZ00000/", H4 "071/", H4 "600/", H5 FIVE,
-    H5 "0036006011135010/", H6 "0/", H6 "1/", H8 "0/", H8 "1/", H9 "2301/", H9 "0000/", "AWR040000000200000000/",
-    "AWR041111111000000000/", "AWR049990999100000080/1/", "AWR041000111023456089/0000/000000000/071/" FIVE "1/1/0000/",
+    H5 "0036006011135010/", H6 "0/", H6 "1/", H7 SEVEN, H7 "030035010/", H8 "0/", H8 "1/", H9 "2301/", H9 "0000/", "AWR040000000200000000/",
+    "AWR041111111000000000/", "AWR049990999100000080/1/", "AWR041000111023456789/0000/000000000/071/" FIVE "1/" SEVEN "1/0000/",
 };
 
 typedef struct refused_command {
@@ -72,7 +72,7 @@ typedef struct refused_command {
 
 static const refused_command refused[] = {
     {"", 8, 0},        {"AWR04", 8, 5},     {NO_CHANGE "/", 8, 22},
-    {H2 "17", 5, 22}, {H4 "07x/", 4, 24}, {"AWR043999999000000000/", 4, 5},
+    {H2 "17", 5, 22}, {H4 "07x/", 4, 24}, {"AWR043999999000000000/", 4, 5}, {H7 "100920021/", 5, 23},
 };
 
 static uint64_t state;

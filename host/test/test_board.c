@@ -36,8 +36,8 @@ static void shortening(void)
     static char joined[TEXT + 1];
     clear(1);
     expect(0, "XY0001", longest);
-    add_holds("XY0001", 6, longest, TEXT, 0, 0, TEXT, "835 bytes");
-    strcpy(joined, "AWR041111111223456089/0000/");
+    add_holds("XY0001", 6, longest, TEXT, 0, 0, TEXT, "845 bytes");
+    strcpy(joined, "AWR041111111223456789/0000/");
     strcat(joined, longest + 475);
     expect(0, "XY0001", joined);
     add_holds("XY0001", 6, H2 "0000/", 27, 0, 0, strlen(joined), "a join that shortens: the bytes past it stay");
@@ -65,7 +65,7 @@ static void designators(void)
     add_holds("XY0001", 6, "", 0, 8, 0, 0, "the empty command");
     static char over[TEXT + 1];
     memcpy(over, longest, TEXT);
-    add_holds("XY0001", 6, over, sizeof over, 1, 0, 0, "over 835 bytes");
+    add_holds("XY0001", 6, over, sizeof over, 1, 0, 0, "over 845 bytes");
     add_holds("XY0001", 6, H2 "0110N11N", 30, 7, 27, 0, "a place in the command");
 }
 
@@ -103,12 +103,13 @@ static const board_case boards[] = {
     {1, "XY0003", NO_CHANGE, 21, "length 21"},
     {1, "XY0003", FIRST, 25, "length below the text's"},
     {1, "XY0003", FIRST, 27, "length above the text's"},
-    {1, "XY0003", longest, 836, "length 836"},
+    {1, "XY0003", longest, 846, "length 846"},
     {1, "XY0003", longest, 0xffff, "the greatest length"},
-    {2, "XY0003", longest, 836, "length 836 in the last slot: not read past the area"},
+    {2, "XY0003", longest, 846, "length 846 in the last slot: not read past the area"},
     {1, "XY0003", "AWR050000000000000000/", 22, "a text with another head"},
     {1, "XY0003", H2 "0100S00S000E000E00/", 41, "a text with 00S"},
-    {0, "XY0001", "AWR049999999000000700/", 22, "a text with section 7, in the first slot"},
+    {0, "XY0001", H7, 22, "a text that names section 7 and ends, in the first slot"},
+    {1, "XY0003", H7 "100920021/", 32, "a text with interval 009"},
 };
 
 static void boards_not_valid(void)
@@ -133,11 +134,15 @@ static void boards_not_valid(void)
     not_valid("an area one byte long");
     b.area_length = 0;
     not_valid("no area");
+    b.area_length = 3 * 835;
+    not_valid("the area of a board from before section 7");
     clear(0);
     b.area_length = 1;
     not_valid("an area without slots");
     clear(64);
     check_holds(0, "64 slots");
+    b.area_length = 64 * 835;
+    not_valid("64 slots from before section 7, all free");
     clear(65);
     not_valid("65 free slots");
 }

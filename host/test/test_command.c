@@ -15,7 +15,7 @@ static const text_case texts[] = {
     {"AWR049199999100400009/300/2301/", 0, 0, "printed: second of the join"},
     {"AWR041199999100400009/300/2301/", 0, 0, "printed: the join"},
     {"", 8, 0, "printed: the empty command"},
-    {longest, 0, 0, "835 bytes"},
+    {longest, 0, 0, "845 bytes"},
     /* the head */
     {"XX", 8, 0, "8 before 3 within a field"},
     {"AWR05", 3, 0, "AWR04 is one field"},
@@ -25,7 +25,9 @@ static const text_case texts[] = {
     {"AWR0499999993", 4, 12, "downlink"},
     {"AWR049999999030000000/", 4, 13, "E2 = 3"},
     {"AWR049999999002000000/", 4, 14, "E3 = 2"},
-    {"AWR049999999000000700/", 4, 18, "E7 = 7"},
+    {"AWR049999999000000600/", 4, 18, "E7 = 6"},
+    {"AWR049999999000000100/", 4, 18, "E7 = 1"},
+    {"AWR049999999000000/00/", 4, 18, "E7 = /"},
     {"AWR049999999000000000", 8, 21, "no delimiter"},
     {"AWR0499999990000000000", 3, 21, "a wrong delimiter"},
     {NO_CHANGE "/", 8, 22, "a byte after the last delimiter"},
@@ -88,6 +90,36 @@ static const text_case texts[] = {
     {H5 "1060902005114921/", 5, 33, "top 149"},
     {H5 "1060902005120001/", 4, 36, "list is a byte"},
     {H5 "1060902005120022/", 4, 37, "timer is a byte"},
+    /* section 7 */
+    {H7 SEVEN, 0, 0, "as after reset"},
+    {H7 "004020011/", 0, 0, "as source document 000 prints it"},
+    {H7 "001015010/", 0, 0, "the least of each"},
+    {H7 "130035021/", 0, 0, "the greatest of each"},
+    {H7, 8, 22, "no section"},
+    {H7 "104020021", 8, 31, "no delimiter"},
+    {H7 "10402002", 8, 30, "ends before the timer"},
+    {H7 "10", 8, 23, "ends inside the interval"},
+    {H7 "1040200210", 3, 31, "a wrong delimiter"},
+    {H7 "1040200211/", 3, 31, "a byte more"},
+    {H7 SEVEN "/", 8, 32, "a byte after the last delimiter"},
+    {H7 "204020021/", 4, 22, "mode is a byte"},
+    {H7 "/04020021/", 4, 22, "mode, a non-digit"},
+    {H7 "100920021/", 5, 23, "interval 009"},
+    {H7 "100020021/", 5, 23, "interval 000"},
+    {H7 "130120021/", 5, 23, "interval 301"},
+    {H7 "199920021/", 5, 23, "interval 999"},
+    {H7 "104x20021/", 4, 23, "the third digit: place of the first"},
+    {H7 "1/0020021/", 4, 23, "4 before 5"},
+    {H7 "104014921/", 5, 26, "top 149"},
+    {H7 "104035121/", 5, 26, "top 351"},
+    {H7 "10402 021/", 4, 26, "top, a space"},
+    {H7 "104020001/", 4, 29, "list is a byte"},
+    {H7 "104020031/", 4, 29, "list 3"},
+    {H7 "104020022/", 4, 30, "timer is a byte"},
+    {"AWR049999999000006780/1/" SEVEN "0/", 0, 0, "between sections 6 and 8"},
+    {"AWR049999999000006780/" SEVEN "1/0/", 3, 23, "section 7 before 6"},
+    {"AWR049999999000006780/1/0/" SEVEN, 4, 25, "section 8 before 7"},
+    {"AWR049999999000006080/1/" SEVEN "0/", 3, 25, "a section 7 that is not named"},
     /* sections 6, 8 and 9 */
     {H6 "2/", 5, 22, "routine is a number"},
     {H6 "1/", 0, 0, "routine"},
@@ -144,7 +176,7 @@ static void read_all(void)
     memset(long_text, '/', sizeof long_text);
     memcpy(long_text, longest, ESK_COMMAND_BYTES);
     for (size_t length = ESK_COMMAND_BYTES + 1; length <= MOST; length++)
-        text_holds(long_text, length, 1, 0, "over 835 bytes", 0);
+        text_holds(long_text, length, 1, 0, "over 845 bytes", 0);
     for (size_t length = 0; length < ESK_COMMAND_BYTES; length++)
         HOLD(esk_command_check(bytes(longest), length).code == 8);
 }
@@ -163,10 +195,11 @@ static void flag(esk_command *c) { c->settings.flags[0] = 2; }
 static void flag_ascii(esk_command *c) { c->settings.flags[6] = '1'; }
 static void downlink(esk_command *c) { c->downlink = 3; }
 static void indicator(esk_command *c) { c->named[0] = 3; }
-static void seven(esk_command *c) { c->named[5] = 7; }
+static void seven(esk_command *c) { c->named[5] = 8; }
 static void no_two(esk_command *c) { c->named[0] = 0; }
 static void no_three(esk_command *c) { c->named[1] = 0; }
 static void no_four(esk_command *c) { c->named[2] = 0; }
+static void no_seven(esk_command *c) { c->named[5] = 0; }
 static void no_nine(esk_command *c) { c->named[7] = 0; }
 static void count_high(esk_command *c) { c->settings.regions.reporting.count = 17; }
 static void count_low(esk_command *c) { c->settings.regions.inhibiting.count = 15; }
@@ -190,6 +223,16 @@ static void top(esk_command *c) { c->settings.ascent.top = 149; }
 static void list(esk_command *c) { c->settings.ascent.list = 0; }
 static void timer(esk_command *c) { c->settings.ascent.timer = 2; }
 static void routine6(esk_command *c) { c->settings.routine6 = 2; }
+static void descent_mode(esk_command *c) { c->settings.descent.mode = 2; }
+static void descent_mode_high(esk_command *c) { c->settings.descent.mode = 256; }
+static void descent_9(esk_command *c) { c->settings.descent.interval = 9; }
+static void descent_301(esk_command *c) { c->settings.descent.interval = 301; }
+static void descent_high(esk_command *c) { c->settings.descent.interval = 1040; }
+static void descent_149(esk_command *c) { c->settings.descent.top = 149; }
+static void descent_351(esk_command *c) { c->settings.descent.top = 351; }
+static void descent_top_high(esk_command *c) { c->settings.descent.top = 0x8000 + 200; }
+static void descent_list(esk_command *c) { c->settings.descent.list = 0; }
+static void descent_timer(esk_command *c) { c->settings.descent.timer = 2; }
 static void routine8(esk_command *c) { c->settings.routine8 = 255; }
 static void hours(esk_command *c) { c->settings.hours.end = 24; }
 static void leftmost(esk_command *c) { hours(c), east(c), airfield(c); }
@@ -206,11 +249,12 @@ static const record_case records[] = {
     {flag_ascii, 4, 11, "numbers, not bytes"},
     {downlink, 4, 12, "downlink"},
     {indicator, 4, 13, "E2 = 3"},
-    {seven, 4, 18, "E7 = 7"},
+    {seven, 4, 18, "E7 = 8"},
     {no_two, 7, 22, "section 2 not named and not zero"},
     {no_three, 7, 475, "section 3 not named: where it would begin"},
     {no_four, 7, 805, "section 4 not named"},
-    {no_nine, 7, 830, "section 9 not named: at the end of the text"},
+    {no_seven, 7, 828, "section 7 not named"},
+    {no_nine, 7, 840, "section 9 not named: at the end of the text"},
     {count_high, 5, 22, "17 boxes"},
     {count_low, 7, 248, "unused entries not zero, at the count"},
     {count_first, 7, 22, "unused entries before entries"},
@@ -232,8 +276,18 @@ static const record_case records[] = {
     {list, 4, 823, "list"},
     {timer, 4, 824, "timer"},
     {routine6, 5, 826, "section 6"},
-    {routine8, 5, 828, "section 8"},
-    {hours, 5, 832, "end hour"},
+    {descent_mode, 4, 828, "mode of section 7"},
+    {descent_mode_high, 4, 828, "mode of section 7, both bytes"},
+    {descent_9, 5, 829, "interval 9"},
+    {descent_301, 5, 829, "interval 301"},
+    {descent_high, 5, 829, "interval 1040, four digits"},
+    {descent_149, 5, 832, "top 149"},
+    {descent_351, 5, 832, "top 351"},
+    {descent_top_high, 5, 832, "top, both bytes"},
+    {descent_list, 4, 835, "list of section 7"},
+    {descent_timer, 4, 836, "timer of section 7"},
+    {routine8, 5, 838, "section 8"},
+    {hours, 5, 842, "end hour"},
     {leftmost, 5, 34, "the leftmost field"},
     {spare, 7, 21, "spare"},
     {spare_and_flag, 4, 5, "spare behind the flags"},
@@ -246,7 +300,7 @@ static const record_case records[] = {
 
 static void write_all(void)
 {
-    static const size_t rooms[] = {0, 1, 834, 835, 836, MOST};
+    static const size_t rooms[] = {0, 1, 844, 845, 846, MOST};
     const esk_command good = esk_command_read(bytes(longest), ESK_COMMAND_BYTES).command;
     for (size_t i = 0; i < sizeof records / sizeof *records; i++) {
         esk_command c = good;
@@ -260,8 +314,8 @@ static void write_all(void)
     memcpy(over + 30, "180E179E", 8);
     esk_command c = good;
     above(&c);
-    write_holds(c, 835, 0, 0, over, sizeof over, "west above east");
-    write_holds(c, 834, 2, 0, "", 0, "west above east: 2 and not 7");
+    write_holds(c, ESK_COMMAND_BYTES, 0, 0, over, sizeof over, "west above east");
+    write_holds(c, ESK_COMMAND_BYTES - 1, 2, 0, "", 0, "west above east: 2 and not 7");
     esk_command four = esk_command_read(bytes(H4 "071/"), 26).command;
     for (unsigned value = 1; value < 256; value++) {
         four.spare = (uint8_t)value;
@@ -287,7 +341,7 @@ static void members(void)
     esk_command c = esk_command_read(bytes(longest), ESK_COMMAND_BYTES).command;
     const esk_settings *s = &c.settings;
     HOLD(memcmp(s->flags, "\1\1\1\1\1\1\1", 7) == 0 && c.downlink == 2);
-    HOLD(memcmp(c.named, "\2\3\4\5\6\0\10\11", 8) == 0 && c.spare == 0);
+    HOLD(memcmp(c.named, "\2\3\4\5\6\7\10\11", 8) == 0 && c.spare == 0);
     HOLD(s->regions.reporting.count == 16 && s->regions.inhibiting.count == 16);
     for (int i = 0; i < 16; i++) {
         esk_region r = s->regions.inhibiting.regions[i];
@@ -299,6 +353,8 @@ static void members(void)
     HOLD(s->enroute.interval == 60 && s->enroute.wind == 1);
     HOLD(s->ascent.mode == 1 && s->ascent.interval1 == 6 && s->ascent.duration == 90 && s->ascent.interval2 == 20);
     HOLD(s->ascent.total == 51 && s->ascent.top == 200 && s->ascent.list == 2 && s->ascent.timer == 1);
+    HOLD(s->descent.mode == 1 && s->descent.interval == 40 && s->descent.top == 200);
+    HOLD(s->descent.list == 2 && s->descent.timer == 1);
     HOLD(s->routine6 == 1 && s->routine8 == 0 && s->hours.start == 23 && s->hours.end == 1);
 
     c = esk_command_read(bytes(H3 "01AAAA01BBBB01CCCC01DDDD1/"), 22 + 26).command;
@@ -311,6 +367,11 @@ static void members(void)
     HOLD(s->ascent.mode == 0 && s->ascent.interval1 == 3 && s->ascent.duration == 600 && s->ascent.interval2 == 60);
     HOLD(s->ascent.total == 111 && s->ascent.top == 350 && s->ascent.list == 1 && s->ascent.timer == 0);
 
+    c = esk_command_read(bytes(H7 "030035010/"), 32).command;
+    HOLD(memcmp(c.named, "\0\0\0\0\0\7\0\0", 8) == 0);
+    HOLD(s->descent.mode == 0 && s->descent.interval == 300 && s->descent.top == 350);
+    HOLD(s->descent.list == 1 && s->descent.timer == 0);
+
     c = esk_command_read(bytes(NO_CHANGE), 22).command;
     HOLD(memcmp(s->flags, "\11\11\11\11\11\11\11", 7) == 0 && c.downlink == 0);
     memset(c.settings.flags, 0, 7);
@@ -320,17 +381,17 @@ static void members(void)
 /* The layout that the header promises. */
 static void layout(void)
 {
-    HOLD(ESK_COMMAND_BYTES == 835 && sizeof longest == 836);
+    HOLD(ESK_COMMAND_BYTES == 845 && sizeof longest == 846);
     HOLD(ESK_END == 8 && ESK_NO_SLOT == 9 && ESK_BOARD == 10 && ESK_NOTHING == 11 && ESK_SETTINGS == 12);
     HOLD(sizeof(esk_edge) == 2 && offsetof(esk_edge, degrees) == 0 && offsetof(esk_edge, letter) == 1);
     HOLD(sizeof(esk_region) == 8 && offsetof(esk_region, north) == 0 && offsetof(esk_region, south) == 2);
     HOLD(offsetof(esk_region, west) == 4 && offsetof(esk_region, east) == 6);
     HOLD(sizeof(esk_boxes) == 129 && offsetof(esk_boxes, count) == 0 && offsetof(esk_boxes, regions) == 1);
     HOLD(sizeof(esk_airfields) == 81 && offsetof(esk_airfields, count) == 0 && offsetof(esk_airfields, names) == 1);
-    HOLD(sizeof(esk_command) == 616 && offsetof(esk_command, settings) == 0);
-    HOLD(offsetof(esk_command, downlink) == 606 && offsetof(esk_command, named) == 607);
-    HOLD(offsetof(esk_command, spare) == 615);
-    HOLD(sizeof(esk_command_got) == 632 && offsetof(esk_command_got, answer) == 0);
+    HOLD(sizeof(esk_command) == 624 && offsetof(esk_command, settings) == 0);
+    HOLD(offsetof(esk_command, downlink) == 614 && offsetof(esk_command, named) == 615);
+    HOLD(offsetof(esk_command, spare) == 623);
+    HOLD(sizeof(esk_command_got) == 640 && offsetof(esk_command_got, answer) == 0);
     HOLD(offsetof(esk_command_got, command) == 16);
 }
 

@@ -26,6 +26,8 @@ static void reset(void)
     HOLD(s.enroute.interval == 7 && s.enroute.wind == 1);
     HOLD(s.ascent.mode == 1 && s.ascent.interval1 == 6 && s.ascent.duration == 90 && s.ascent.interval2 == 20);
     HOLD(s.ascent.total == 51 && s.ascent.top == 200 && s.ascent.list == 2 && s.ascent.timer == 1);
+    HOLD(s.descent.mode == 1 && s.descent.interval == 40 && s.descent.top == 200);
+    HOLD(s.descent.list == 2 && s.descent.timer == 1);
     HOLD(s.hours.start == 0 && s.hours.end == 0);
     valid_holds(&s, 0, "the configuration after reset");
 }
@@ -80,6 +82,19 @@ static void top_high(esk_settings *s) { s->ascent.top = 256 + 200; }
 static void list(esk_settings *s) { s->ascent.list = 3; }
 static void timer(esk_settings *s) { s->ascent.timer = 2; }
 static void routine6(esk_settings *s) { s->routine6 = 2; }
+static void descent_mode(esk_settings *s) { s->descent.mode = 2; }
+static void descent_mode_high(esk_settings *s) { s->descent.mode = 0x101; }
+static void descent_9(esk_settings *s) { s->descent.interval = 9; }
+static void descent_10(esk_settings *s) { s->descent.interval = 10; }
+static void descent_300(esk_settings *s) { s->descent.interval = 300; }
+static void descent_301(esk_settings *s) { s->descent.interval = 301; }
+static void descent_149(esk_settings *s) { s->descent.top = 149; }
+static void descent_150(esk_settings *s) { s->descent.top = 150; }
+static void descent_350(esk_settings *s) { s->descent.top = 350; }
+static void descent_351(esk_settings *s) { s->descent.top = 351; }
+static void descent_list(esk_settings *s) { s->descent.list = 0; }
+static void descent_timer(esk_settings *s) { s->descent.timer = 9; }
+static void no_descent(esk_settings *s) { memset(&s->descent, 0, sizeof s->descent); }
 static void routine8(esk_settings *s) { s->routine8 = 2; }
 static void start(esk_settings *s) { s->hours.start = 24; }
 static void end(esk_settings *s) { s->hours.end = 255; }
@@ -113,6 +128,19 @@ static const valid_case valids[] = {
     {list, 0, "list"},
     {timer, 0, "timer"},
     {routine6, 0, "section 6"},
+    {descent_mode, 0, "mode of section 7"},
+    {descent_mode_high, 0, "mode of section 7, both bytes"},
+    {descent_9, 0, "interval 9"},
+    {descent_10, 1, "interval 10"},
+    {descent_300, 1, "interval 300"},
+    {descent_301, 0, "interval 301"},
+    {descent_149, 0, "top 149"},
+    {descent_150, 1, "top 150"},
+    {descent_350, 1, "top 350"},
+    {descent_351, 0, "top 351"},
+    {descent_list, 0, "list of section 7"},
+    {descent_timer, 0, "timer of section 7"},
+    {no_descent, 0, "section 7 all zero"},
     {routine8, 0, "section 8"},
     {start, 0, "start hour"},
     {end, 0, "end hour"},
@@ -175,6 +203,8 @@ static const refused_case refused[] = {
     {H2 "0100S00N000E000E00/", 6, 24, "00S"},
     {H2 "0100N01N000E000E00/", 7, 27, "latitudes"},
     {H5 "1060902005120023/", 4, 37, "timer"},
+    {H7 "100920021/", 5, 23, "interval 009"},
+    {"AWR040000000000000700/", 8, 22, "section 7 named and not there"},
     {H9 "2401/", 5, 22, "start hour"},
 };
 
@@ -187,7 +217,7 @@ static void applying(void)
                     refused[i].why);
     static char over[ESK_COMMAND_BYTES + 1];
     memcpy(over, longest, ESK_COMMAND_BYTES);
-    apply_holds(&reset_, over, sizeof over, 1, 0, 0, &reset_, "over 835 bytes");
+    apply_holds(&reset_, over, sizeof over, 1, 0, 0, &reset_, "over 845 bytes");
     apply_holds(&reset_, longest, ESK_COMMAND_BYTES, 0, 0, 2, &full, "every section, downlink 2");
 
     esk_settings s = full;
@@ -219,6 +249,9 @@ static void applying(void)
     s.routine6 = 0;
     apply_holds(&full, H6 "0/", 24, 0, 0, 0, &s, "section 6");
     s = full;
+    s.descent.mode = 0, s.descent.interval = 300, s.descent.top = 350, s.descent.list = 1, s.descent.timer = 0;
+    apply_holds(&full, H7 "030035010/", 32, 0, 0, 0, &s, "section 7");
+    s = full;
     s.routine8 = 1;
     apply_holds(&full, H8 "1/", 24, 0, 0, 0, &s, "section 8");
     s = full;
@@ -243,12 +276,15 @@ static void layout(void)
     HOLD(offsetof(esk_ascent, duration) == 2 && offsetof(esk_ascent, interval2) == 4);
     HOLD(offsetof(esk_ascent, total) == 5 && offsetof(esk_ascent, top) == 6);
     HOLD(offsetof(esk_ascent, list) == 8 && offsetof(esk_ascent, timer) == 9);
+    HOLD(sizeof(esk_descent) == 8 && offsetof(esk_descent, mode) == 0 && offsetof(esk_descent, interval) == 2);
+    HOLD(offsetof(esk_descent, top) == 4 && offsetof(esk_descent, list) == 6 && offsetof(esk_descent, timer) == 7);
     HOLD(sizeof(esk_hours) == 2 && offsetof(esk_hours, start) == 0 && offsetof(esk_hours, end) == 1);
-    HOLD(sizeof(esk_settings) == 606 && offsetof(struct aligned, settings) == 2);
+    HOLD(sizeof(esk_settings) == 614 && offsetof(struct aligned, settings) == 2);
     HOLD(offsetof(esk_settings, flags) == 0 && offsetof(esk_settings, regions) == 7);
     HOLD(offsetof(esk_settings, airports) == 265 && offsetof(esk_settings, enroute) == 590);
-    HOLD(offsetof(esk_settings, ascent) == 592 && offsetof(esk_settings, routine6) == 602);
-    HOLD(offsetof(esk_settings, routine8) == 603 && offsetof(esk_settings, hours) == 604);
+    HOLD(offsetof(esk_settings, ascent) == 592 && offsetof(esk_settings, descent) == 602);
+    HOLD(offsetof(esk_settings, routine6) == 610 && offsetof(esk_settings, routine8) == 611);
+    HOLD(offsetof(esk_settings, hours) == 612);
     HOLD(sizeof(esk_applied) == 16 && offsetof(esk_applied, place) == 0 && offsetof(esk_applied, code) == 8);
     HOLD(offsetof(esk_applied, downlink) == 9 && offsetof(esk_applied, spare) == 10);
 }

@@ -12,7 +12,7 @@ using namespace std::string_view_literals;
 
 static_assert(std::is_trivially_copyable<esk_report>::value && std::is_standard_layout<esk_report>::value,
               "a record is plain memory");
-static_assert(sizeof(esk_settings) == 606 && sizeof(esk_command) == 616 && sizeof(esk_slot) == 8, "as in C");
+static_assert(sizeof(esk_settings) == 614 && sizeof(esk_command) == 624 && sizeof(esk_slot) == 8, "as in C");
 static_assert(sizeof(esk_entry) == 32 && std::is_trivially_copyable<esk_entry>::value, "as in C");
 
 static const uint8_t *at(std::string_view text) { return reinterpret_cast<const uint8_t *>(text.data()); }

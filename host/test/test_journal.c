@@ -198,11 +198,11 @@ static void lengths(void)
 static void full(void)
 {
     clear(65536);
-    for (int i = 0; i < 77; i++)
-        add_is("XY0001", 6, longest, strlen(longest), 0, 0, "835 bytes");
-    for (int i = 0; i < 5; i++)
+    for (int i = 0; i < 75; i++)
+        add_is("XY0001", 6, longest, strlen(longest), 0, 0, "845 bytes");
+    for (int i = 0; i < 7; i++)
         add_is("XY0002", 6, EVERY_60, 26, 0, 0, "26 bytes");
-    for (int i = 0; i < 11; i++)
+    for (int i = 0; i < 39; i++)
         add_is("XY0003", 6, NO_CHANGE, 22, 0, 0, "22 bytes");
     add_is("XY0003", 6, EVERY_60, 26, 2, 0, "over 65,535, in a longer buffer");
     add_is("XY0003", 6, NO_CHANGE, 22, 0, 0, "the last that fits");
@@ -232,10 +232,10 @@ static void order_of_adding(void)
         add_is(wrong[i], strlen(wrong[i]), NO_CHANGE, 22, 4, 0, "4 before 2");
         replay_is(j.end, wrong[i], strlen(wrong[i]), 4, 0, NULL, "designator");
     }
-    static char over[836];
-    memcpy(over, longest, 835);
+    static char over[ESK_COMMAND_BYTES + 1];
+    memcpy(over, longest, ESK_COMMAND_BYTES);
     add_is("XY0001", 6, "", 0, 8, 0, "the empty command");
-    add_is("XY0001", 6, over, sizeof over, 1, 0, "over 835 bytes");
+    add_is("XY0001", 6, over, sizeof over, 1, 0, "over 845 bytes");
     add_is("XY0001", 6, H2 "0110N11N", 30, 7, 27, "a place in the command");
     add_is("XY0001", 6, NO_CHANGE, 22, 2, 0, "one byte too few");
     j.room = j.end;
@@ -257,7 +257,7 @@ static size_t random_below(size_t n)
 static const char *const fleet[] = {"XY0001", "XY0002", "AU0137", "000000", "ZZZZZZ"};
 static const char *const texts[] = {
     NO_CHANGE, EVERY_60, H4 "010/", H9 "2301/", H6 "1/", H8 "0/", H5 "1030902005120021/", "AWR040000000200000000/",
-    "AWR041111111000000000/", H2 "0110S45S110E155E00/", H3 "01YMML0000000/", longest,
+    "AWR041111111000000000/", H2 "0110S45S110E155E00/", H3 "01YMML0000000/", H7 "030035010/", longest,
 };
 
 /* Random journals by adding, of several aircraft; each replayed for each, and for one that is not in it. */
@@ -265,7 +265,7 @@ static void random_journals(void)
 {
     for (int round = 0; round < 60; round++) {
         size_t count = random_below(30);
-        clear(30 * 844);
+        clear(30 * (ESK_COMMAND_BYTES + 9));
         for (size_t i = 0; i < count; i++) {
             const char *text = texts[random_below(sizeof texts / sizeof *texts)];
             add_is(fleet[random_below(5)], 6, text, strlen(text), 0, 0, "random");

@@ -87,6 +87,7 @@ static void sizes(void)
     SIZE(esk_airports);
     SIZE(esk_enroute);
     SIZE(esk_ascent);
+    SIZE(esk_descent);
     SIZE(esk_hours);
     SIZE(esk_settings);
     SIZE(esk_command);
@@ -97,7 +98,7 @@ static void sizes(void)
     SIZE(esk_slot);
     SIZE(esk_entry);
     /* as the header's comments say them */
-    HOLD(esk_size_of("esk_report") == 624 && esk_size_of("esk_settings") == 606 && esk_size_of("esk_slot") == 8);
+    HOLD(esk_size_of("esk_report") == 624 && esk_size_of("esk_settings") == 614 && esk_size_of("esk_slot") == 8);
     HOLD(esk_size_of("esk_entry") == 32);
     HOLD(esk_size_of(NULL) == 0 && esk_size_of("") == 0 && esk_size_of("report") == 0);
     HOLD(esk_size_of("esk_answe") == 0 && esk_size_of("esk_answers") == 0 && esk_size_of("ESK_ANSWER") == 0);

@@ -11,9 +11,11 @@
 #define H4 "AWR049999999000400000/"
 #define H5 "AWR049999999000050000/"
 #define H6 "AWR049999999000006000/"
+#define H7 "AWR049999999000000700/"
 #define H8 "AWR049999999000000080/"
 #define H9 "AWR049999999000000009/"
 #define FIVE "1060902005120021/" /* section 5 as after reset */
+#define SEVEN "104020021/"        /* section 7 as after reset */
 
 /* The longest command: every list full. */
 #define BOX "90N90S180W180E"
@@ -21,8 +23,8 @@
 #define EIGHT "ABCDEFGH"
 #define EIGHTY EIGHT EIGHT EIGHT EIGHT EIGHT EIGHT EIGHT EIGHT EIGHT EIGHT
 #define NAMES "20" EIGHTY
-static const char longest[] = "AWR041111111223456089/" BOXES BOXES "/" NAMES NAMES NAMES NAMES "1/601/" FIVE
-                              "1/0/2301/";
+static const char longest[] = "AWR041111111223456789/" BOXES BOXES "/" NAMES NAMES NAMES NAMES "1/601/" FIVE
+                              "1/" SEVEN "0/2301/";
 
 static inline const uint8_t *bytes(const char *text) { return (const uint8_t *)text; }
 
