@@ -81,9 +81,8 @@ void say_configuration(const esk_settings *s)
 {
     for (int i = 0; i < FLAGS; i++)
         printf("flag %s: %d, %s\n", flag_names[i], s->flags[i], flag_in_words(i, s->flags[i]));
-    for (int k = 2; k <= 9; k++)
-        if (k != 7) {
-            printf("section %d: %s\n", k, section_title(k));
-            say_section(s, k, "  ");
-        }
+    for (int k = 2; k <= 9; k++) {
+        printf("section %d: %s\n", k, section_title(k));
+        say_section(s, k, "  ");
+    }
 }

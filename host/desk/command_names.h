@@ -37,7 +37,7 @@ typedef struct list_name {
 extern const figure_name figure_names[];
 extern const list_name list_names[];
 
-enum { FIGURE_NAMES = 23, LIST_NAMES = 6, BOX_LISTS = 2 };
+enum { FIGURE_NAMES = 28, LIST_NAMES = 6, BOX_LISTS = 2 };
 
 /* A figure's value in a record. One that the record's member cannot hold is put there as the most that it can, which is
  * outside every range. */

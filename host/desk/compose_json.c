@@ -149,7 +149,7 @@ static int read_section(json_in *in, draft *d, int k)
 
 static int read_sections(json_in *in, draft *d)
 {
-    static const char *const keys[] = {"2", "3", "4", "5", "6", "8", "9", NULL};
+    static const char *const keys[] = {"2", "3", "4", "5", "6", "7", "8", "9", NULL};
     unsigned long long seen = 0;
     int i;
     if (!json_in_object(in))

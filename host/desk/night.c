@@ -86,7 +86,7 @@ typedef struct part {
     int length;
 } part;
 
-static const int sections[] = {2, 3, 4, 5, 6, 8, 9};
+static const int sections[] = {2, 3, 4, 5, 6, 7, 8, 9};
 
 enum { SECTIONS = sizeof sections / sizeof *sections, SECTIONS_AT = 22, FLAGS_AT = 5 };
 

@@ -16,7 +16,7 @@ const char *flag_in_words(int flag, uint8_t value)
         {"off: every airfield alike", "on: the lists of section 3 hold"},
         {"off: no scheme in ascent; section 6, or 3, says whether routine", "on: the scheme of section 5"},
         {"off: silent in level flight", "on: routine reports in level flight, by section 4"},
-        {"off: no scheme in descent; section 8, or 3, says whether routine", "on: the descent scheme"},
+        {"off: no scheme in descent; section 8, or 3, says whether routine", "on: the scheme of section 7"},
     };
     return value > 1 ? "no change" : words[flag][value];
 }
@@ -36,7 +36,7 @@ const char *section_title(int k)
         "level flight",
         "the ascent scheme",
         "routine reports in ascent, where flags ascent and airports are 0",
-        "",
+        "the descent scheme",
         "routine reports in descent, where flags descent and airports are 0",
         "the hours of silence",
     };
@@ -71,14 +71,32 @@ static void say_airports(const esk_airports *a, const char *indent)
     printf("%sroutine reports instead of a scheme: %s\n", indent, a->routine ? "yes" : "no");
 }
 
+static void say_mode(unsigned mode, const char *indent)
+{
+    printf("%smode %u: samples by %s\n", indent, mode, mode ? "time" : "pressure level");
+}
+
+/* What both schemes end with. */
+static void say_levels(const char *phase, unsigned top, unsigned list, unsigned timer, const char *indent)
+{
+    printf("%stop of the %s: %u feet\n", indent, phase, 100 * top);
+    printf("%slist of pressure levels: %u\n", indent, list);
+    printf("%stimer for level stretches: %s\n", indent, timer ? "on" : "off");
+}
+
 static void say_ascent(const esk_ascent *a, const char *indent)
 {
-    printf("%smode %d: samples by %s\n", indent, a->mode, a->mode ? "time" : "pressure level");
+    say_mode(a->mode, indent);
     printf("%sseries 1: every %d seconds, for %d seconds\n", indent, a->interval1, a->duration);
     printf("%sseries 2: every %d seconds, until %d seconds in all\n", indent, a->interval2, 10 * a->total);
-    printf("%stop of the ascent: %d feet\n", indent, 100 * a->top);
-    printf("%slist of pressure levels: %d\n", indent, a->list);
-    printf("%stimer for level stretches: %s\n", indent, a->timer ? "on" : "off");
+    say_levels("ascent", a->top, a->list, a->timer, indent);
+}
+
+static void say_descent(const esk_descent *d, const char *indent)
+{
+    say_mode(d->mode, indent);
+    printf("%sseries: every %d seconds\n", indent, d->interval);
+    say_levels("descent", d->top, d->list, d->timer, indent);
 }
 
 static void say_hours(const esk_hours *h, const char *indent)
@@ -104,6 +122,7 @@ void say_section(const esk_settings *s, int k, const char *indent)
         break;
     case 5: say_ascent(&s->ascent, indent); break;
     case 6: printf("%s%s\n", indent, s->routine6 ? "yes" : "no"); break;
+    case 7: say_descent(&s->descent, indent); break;
     case 8: printf("%s%s\n", indent, s->routine8 ? "yes" : "no"); break;
     case 9: say_hours(&s->hours, indent); break;
     }
@@ -139,6 +158,7 @@ int same_section(const esk_settings *one, const esk_settings *other, int k)
     case 4: return memcmp(&one->enroute, &other->enroute, sizeof one->enroute) == 0;
     case 5: return memcmp(&one->ascent, &other->ascent, sizeof one->ascent) == 0;
     case 6: return one->routine6 == other->routine6;
+    case 7: return memcmp(&one->descent, &other->descent, sizeof one->descent) == 0;
     case 8: return one->routine8 == other->routine8;
     case 9: return memcmp(&one->hours, &other->hours, sizeof one->hours) == 0;
     default: return 1;
