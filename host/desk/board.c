@@ -7,7 +7,23 @@ int board_create(const char *file, long slots, long wait)
     static board empty;
     static uint8_t packed[BOARD_MOST];
     empty.n = (size_t)slots;
-    return keep_new(file, packed, board_pack(&empty, packed), wait);
+    return keep_new(file, packed, board_pack(&empty, packed), NULL, wait);
+}
+
+int board_convert(const char *from, const char *to, board *b, long wait)
+{
+    static uint8_t packed[BOARD_MOST];
+    kept k;
+    int status = board_read_older(from, b); /* what is no sound board gets no lock file beside it */
+    if (status != FINE)
+        return status;
+    status = keep_hold(&k, from, wait);
+    if (status == FINE)
+        status = board_read_older(from, b);
+    if (status == FINE)
+        status = keep_new(to, packed, board_pack(b, packed), from, wait);
+    keep_release(&k);
+    return status;
 }
 
 int board_hold(kept *k, board *b, const char *file, long wait)

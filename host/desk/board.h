@@ -8,6 +8,10 @@
 
 int board_create(const char *file, long slots, long wait);
 
+/* Makes a new board of one in a file of version 1: every slot in its place, with all that waits. The older file is held
+ * meanwhile, and left as it is. `b` is then the new board. */
+int board_convert(const char *from, const char *to, board *b, long wait);
+
 /* Holds the file and reads the board; whatever it gives, keep_release is then due. */
 int board_hold(kept *k, board *b, const char *file, long wait);
 

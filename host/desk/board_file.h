@@ -3,14 +3,17 @@
  *
  *   bytes             what
  *   8                 ESKBOARD
- *   4                 format version, 1
+ *   4                 format version, 2
  *   4                 slots, n: 0 to 64
  *   8 for each slot   designator (6), length of the text that waits (2); length 0: the slot is free
- *   835 for each slot the text area
+ *   845 for each slot the text area
  *   4                 CRC-32 (IEEE 802.3) of all bytes before it
  *
  * Numbers are little-endian. A file that is cut, damaged, or holds a board that is not valid is refused, and never
  * mended.
+ *
+ * Version 1 is from before section 7: 835 bytes for each slot, and no text names that section. It is read to be carried
+ * over alone.
  */
 #ifndef DESK_BOARD_FILE_H
 #define DESK_BOARD_FILE_H
@@ -18,7 +21,7 @@
 #include "keep.h"
 
 enum {
-    BOARD_VERSION = 1,
+    BOARD_VERSION = 2,
     BOARD_HEAD = 16,
     BOARD_TAIL = 4,
     BOARD_A_SLOT = 8 + ESK_COMMAND_BYTES,
@@ -38,8 +41,14 @@ size_t board_pack(const board *b, uint8_t *to);
  * format version. `why` says it in words. */
 int board_unpack(board *b, const uint8_t *bytes, size_t length, char *why, size_t room);
 
+/* The same for the bytes of a file of version 1; FINE: all that they hold is in the board, each slot in its place. */
+int board_unpack_older(board *b, const uint8_t *bytes, size_t length, char *why, size_t room);
+
 /* Reads a board's file, and tells what is wrong with it. */
 int board_read(const char *file, board *b);
+
+/* The same for a file of version 1. */
+int board_read_older(const char *file, board *b);
 
 /* Writes the board's bytes beside the held file, as keep_write does. */
 int board_write(kept *k, const board *b);

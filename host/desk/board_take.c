@@ -68,7 +68,7 @@ static int hand_out(const taking *t, const taken *got)
     memcpy(line, got->text, got->length);
     line[got->length] = '\n';
     if (t->to != NULL)
-        return keep_new(t->to, line, got->length + 1, t->wait);
+        return keep_new(t->to, line, got->length + 1, NULL, t->wait);
     if (as_json)
         tell_as_json(t, got);
     else

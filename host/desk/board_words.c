@@ -88,6 +88,34 @@ static int grow(const call *c, int count, char **words)
     return status == FINE ? tell_grown(c, slots, had, board_used(&b)) : status;
 }
 
+static int tell_converted(const char *from, const char *to, const board *b)
+{
+    char name[NAME_ROOM], old[NAME_ROOM];
+    if (!as_json) {
+        printf("%s: a board of %lu slots, %lu of them used, as in %s, which is left as it is\n",
+               name_safely(to, name, sizeof name), (unsigned long)b->n, (unsigned long)board_used(b),
+               name_safely(from, old, sizeof old));
+        return FINE;
+    }
+    json_object(NULL);
+    json_bool("accepted", 1);
+    json_number("code", ESK_ACCEPTED);
+    json_word("file", to);
+    json_number("slots", (long long)b->n);
+    json_number("used", (long long)board_used(b));
+    json_close();
+    return FINE;
+}
+
+static int convert(const call *c, int count, char **words)
+{
+    static board b;
+    if (count != 1)
+        return trouble("convert", "give the file of the new board");
+    int status = board_convert(c->file, words[0], &b, c->wait);
+    return status == FINE ? tell_converted(c->file, words[0], &b) : status;
+}
+
 static int tell_added(const char *designator, unsigned long commands, size_t length)
 {
     if (!as_json) {
@@ -163,6 +191,8 @@ static int act(call *c, int count, char **words)
         return create(c, count, words);
     if (strcmp(verb, "grow") == 0)
         return grow(c, count, words);
+    if (strcmp(verb, "convert") == 0)
+        return convert(c, count, words);
     if (strcmp(verb, "add") == 0)
         return put(c, board_add, count, words);
     if (strcmp(verb, "return") == 0)
@@ -200,7 +230,7 @@ const subcommand board_subcommand = {
     "FILE create N | add DESIGNATOR COMMAND..\n"
     "           | take [--to FILE] [--journal FILE] DESIGNATOR\n"
     "           | return DESIGNATOR COMMAND..\n"
-    "           | list [DESIGNATOR] | check | grow N",
+    "           | list [DESIGNATOR] | check | grow N | convert NEW",
     "Keeps the board of waiting commands in a file",
     "  create N     makes a board of N slots, at most 64; a file that is there stays\n"
     "  add          adds commands for an aircraft, all of them or none; words and\n"
@@ -218,6 +248,9 @@ const subcommand board_subcommand = {
     "  check        says whether the file and its board are sound\n"
     "  grow N       gives the board N slots, no fewer than it has and at most 64;\n"
     "               all that waits stays\n"
+    "  convert NEW  of a board from before section 7, which is refused elsewhere, makes\n"
+    "               a new one with all that waits; a file that is there stays, and so\n"
+    "               does the old board\n"
     "  --wait S     waits S seconds for another writer of the board (10)\n"
     "  --text       every word behind the designator is a command\n"
     "  --exact      all the bytes of a file are one command, line ends too\n"

@@ -56,11 +56,11 @@ static int take_lock(int lock, long wait)
     return 1;
 }
 
-/* What there is to know of the kept file. Gives 1 where it is there; 0 where not, or where the system cannot tell; else
- * -1, with errno. */
-static int look_at(const kept *k, struct statx *s)
+/* What there is to know of a file. Gives 1 where it is there; 0 where not, or where the system cannot tell; else -1, with
+ * errno. */
+static int look_at(const char *path, struct statx *s)
 {
-    if (statx(AT_FDCWD, k->path, 0, STATX_BASIC_STATS, s) == 0)
+    if (statx(AT_FDCWD, path, 0, STATX_BASIC_STATS, s) == 0)
         return 1;
     return errno == ENOENT || errno == ENOSYS ? 0 : -1;
 }
@@ -85,7 +85,7 @@ static int is_own_file(int lock)
 static void share_lock(const kept *k)
 {
     struct statx s;
-    if (look_at(k, &s) != 1 || (s.stx_mode & ANY_MAY_WRITE) == 0 || !is_own_file(k->locked))
+    if (look_at(k->path, &s) != 1 || (s.stx_mode & ANY_MAY_WRITE) == 0 || !is_own_file(k->locked))
         return;
     int shared = give_rights(k->locked, &s);
     (void)shared;
@@ -94,6 +94,7 @@ static void share_lock(const kept *k)
 int keep_hold(kept *k, const char *file, long wait)
 {
     k->name = file;
+    k->like = NULL;
     k->locked = -1;
     if (find_path(k, file) != FINE)
         return TROUBLE;
@@ -137,7 +138,7 @@ int keep_may_replace(const kept *k)
     struct statx s;
     if (remove_left(k) != FINE)
         return TROUBLE;
-    int there = look_at(k, &s);
+    int there = look_at(k->path, &s);
     if (there < 0)
         return failed(k->name, "look at");
     if (there && s.stx_nlink > 1)
@@ -152,7 +153,9 @@ int keep_write(kept *k, const uint8_t *bytes, size_t length)
     struct statx old;
     if (remove_left(k) != FINE)
         return TROUBLE;
-    int there = look_at(k, &old);
+    int there = look_at(k->path, &old);
+    if (there == 0 && k->like != NULL)
+        there = look_at(k->like, &old);
     if (there < 0)
         return failed(k->name, "look at");
     int fresh = open(k->fresh, O_WRONLY | O_CREAT | O_EXCL | O_CLOEXEC, there ? 0600 : 0666);
@@ -210,12 +213,13 @@ int keep_create(kept *k)
     return fine ? flush_folder(k) : TROUBLE;
 }
 
-int keep_new(const char *file, const uint8_t *bytes, size_t length, long wait)
+int keep_new(const char *file, const uint8_t *bytes, size_t length, const char *like, long wait)
 {
     kept k;
     if (access(file, F_OK) == 0) /* it may be one that this program holds already: its lock is not touched */
         return is_there(file);
     int status = keep_hold(&k, file, wait);
+    k.like = like;
     if (status == FINE)
         status = keep_write(&k, bytes, length);
     if (status == FINE)

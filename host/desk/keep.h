@@ -20,7 +20,8 @@ enum { PATH_ROOM = 4096 };
 typedef struct kept {
     const char *name; /* as the user wrote it */
     char path[PATH_ROOM], fresh[PATH_ROOM], lock[PATH_ROOM], folder[PATH_ROOM];
-    int locked; /* the lock file, open; -1 where it is not */
+    const char *like; /* the file whose rights a new one is given, where none is there; NULL: none */
+    int locked;       /* the lock file, open; -1 where it is not */
 } kept;
 
 /* All of these give FINE or TROUBLE, which they have told. */
@@ -41,8 +42,9 @@ int keep_replace(kept *k);
 /* Puts the new file in place where there is none yet. */
 int keep_create(kept *k);
 
-/* All of that for a file that is not there yet: held, written, put in place, released. */
-int keep_new(const char *file, const uint8_t *bytes, size_t length, long wait);
+/* All of that for a file that is not there yet: held, written, put in place, released. Where `like` is not NULL the new
+ * file has the rights of that one. */
+int keep_new(const char *file, const uint8_t *bytes, size_t length, const char *like, long wait);
 
 /* Removes the new file, if it was not put in place. */
 void keep_drop(kept *k);
