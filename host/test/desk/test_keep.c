@@ -215,8 +215,10 @@ static void wrong_board(void)
     for (int i = 0; i < 4; i++)
         packed[length + (size_t)i] = (uint8_t)(checksum(packed, length) >> 8 * i);
     HOLD(board_status(length + BOARD_TAIL) == REFUSED, "the proved check has the last word");
-    packed[8] = 2;
-    HOLD(board_status(length + BOARD_TAIL) == TROUBLE, "another format version");
+    packed[8] = BOARD_VERSION + 1;
+    HOLD(board_status(length + BOARD_TAIL) == TROUBLE, "a later format version");
+    packed[8] = BOARD_VERSION - 1;
+    HOLD(board_status(length + BOARD_TAIL) == TROUBLE, "an older one");
 }
 
 static void flipped_config(void)
