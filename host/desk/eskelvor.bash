@@ -17,9 +17,11 @@ _eskelvor_options() {
         echo '--reporting-box --report --inhibiting-box --inhibit --selected-for-ascent --selected-for-descent'
         echo '--inhibited-for-ascent --inhibited-for-descent --routine-instead --report-every --maximum-wind'
         echo '--samples-by --series-1-every --series-1-for --series-2-every --series-2-until --top --level-list --timer'
+        echo '--descent-samples-by --descent-every --descent-top --descent-level-list --descent-timer'
         echo '--routine-in-ascent --routine-in-descent --hours'
         ;;
     apply) echo "--config -c --out -o --wait $text" ;;
+    config) echo '--wait' ;;
     decide) echo "$asked $text" ;;
     why) echo "$asked $text --board --aircraft" ;;
     board) echo "--wait --to --journal $text" ;;
@@ -35,9 +37,9 @@ _eskelvor_values() {
     --amdar | --inhibit-hours | --regions | --airports | --ascent | --enroute | --descent) echo 'on off no-change' ;;
     --downlink) echo 'nothing flags configuration' ;;
     --routine-instead | --maximum-wind | --routine-in-ascent | --routine-in-descent) echo 'yes no' ;;
-    --samples-by) echo 'time pressure-level' ;;
-    --level-list) echo '1 2' ;;
-    --timer) echo 'on off' ;;
+    --samples-by | --descent-samples-by) echo 'time pressure-level' ;;
+    --level-list | --descent-level-list) echo '1 2' ;;
+    --timer | --descent-timer) echo 'on off' ;;
     --reporting-box | --report | --inhibiting-box | --inhibit | --selected-for-ascent | --selected-for-descent | \
         --inhibited-for-ascent | --inhibited-for-descent | --hours) echo 'none' ;;
     --phase) echo 'ascent level descent' ;;
@@ -51,7 +53,7 @@ _eskelvor_values() {
     esac
 }
 
-_eskelvor_subcommands='report check explain compose join apply decide why packed board journal night help'
+_eskelvor_subcommands='report check explain compose join apply config decide why packed board journal night help'
 
 _eskelvor() {
     local current=${COMP_WORDS[COMP_CWORD]} before=${COMP_WORDS[COMP_CWORD - 1]} subcommand='' at words lead=''
@@ -67,7 +69,8 @@ _eskelvor() {
     else
         words=$(_eskelvor_values "$before")
         case $subcommand:$((COMP_CWORD - at)):$words in
-        board:2:) words='create add take return list check grow' ;;
+        board:2:) words='create add take return list check grow convert' ;;
+        config:2:) words='convert' ;;
         journal:2:) words='list replay add drop check' ;;
         packed:1:) words='read write' ;;
         help:1:) words=$_eskelvor_subcommands ;;

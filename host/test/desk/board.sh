@@ -247,13 +247,13 @@ flip() { # FILE OFFSET: the byte there becomes another
 }
 flip damaged 8
 answers 2 'another version' board damaged list
-err_has 'format version 165; this program reads version 1'
+err_has 'format version 165; this program reads version 2'
 answers 2 'another version, for a machine' board damaged list --json
 json_has results.0.about=damaged status=2
 cp damaged before
 answers 2 'is not written either' board damaged add XY0001 $first
 cmp -s damaged before || fail 'the file is another'
-for place in 0 3 12 13 16 22 80 1000 6759; do
+for place in 0 3 12 13 16 22 80 1000 6839; do
     flip damaged $place
     cp damaged before
     for verb in 'list' 'check' "add XY0001 $first" 'take XY0001'; do
@@ -268,10 +268,10 @@ answers 1 'damaged, for a machine' board damaged check --json
 json_has results.0.code=10 results.0.place=0 results.0.about=damaged status=1
 head -c 500 many >damaged
 answers 1 'cut short' board damaged check
-err_is 'eskelvor: damaged: refused: code 10 at byte 0: the board is not valid: the file is cut short: 500 bytes of 6764'
+err_is 'eskelvor: damaged: refused: code 10 at byte 0: the board is not valid: the file is cut short: 500 bytes of 6844'
 { cat many; echo; } >damaged
 answers 1 'a byte more' board damaged check
-err_has 'the file goes on behind its 6764 bytes'
+err_has 'the file goes on behind its 6844 bytes'
 
 # A board's name cannot move the cursor, and its letters stay
 odd=$(printf 'b\033[2Jé')

@@ -22,7 +22,7 @@ err_is 'eskelvor: command 1: refused: code 8 at byte 22, behind the last delimit
     '                        ^'
 answers 1 'each code at its field' check --json AWR042999999000000000/ AWR049999999000000000. \
     AWR049999999000400000/611/ AWR049999999020000000/0100S10S010W010E00/ AWR049999999020000000/0110N11N010W010E00/ \
-    AWR049999999000000700/
+    AWR049999999000000600/
 json_has results.0.code=4 results.0.place=5 'results.0.field=flag AMDAR' \
     results.1.code=3 results.1.place=21 results.1.field=delimiter \
     results.2.code=5 results.2.place=22 'results.2.field=section 4, interval' \
@@ -35,19 +35,19 @@ answers 1 'one refused among accepted ones' check $none AWR04 $none
 out_is 'command 1: accepted, 22 bytes' 'command 3: accepted, 22 bytes'
 err_has 'command 2: refused: code 8 at byte 5'
 
-long=AWR041111111223456089/
+long=AWR041111111223456789/
 box=90N90S180W180E
 boxes=16$box$box$box$box$box$box$box$box$box$box$box$box$box$box$box$box
 eight=ABCDEFGH
 names=20$eight$eight$eight$eight$eight$eight$eight$eight$eight$eight
-long=$long$boxes$boxes/$names$names$names${names}1/601/1060902005120021/1/0/2301/
-answers 0 'the longest command has 835 bytes' check "$long"
-out_is 'command 1: accepted, 835 bytes'
+long=$long$boxes$boxes/$names$names$names${names}1/601/1060902005120021/1/104020021/0/2301/
+answers 0 'the longest command has 845 bytes' check "$long"
+out_is 'command 1: accepted, 845 bytes'
 answers 1 'one byte more is code 1' check --json "${long}x"
-json_has results.0.code=1 results.0.place=0 results.0.length=836
+json_has results.0.code=1 results.0.place=0 results.0.length=846
 answers 1 'far into a long command the part round the mark is shown' check "${long%/*/}/2401/"
-err_is 'eskelvor: command 1: refused: code 5 at byte 830, section 9, start hour: 24 is not 00 to 23' \
-    '  ..DEFGHABCDEFGHABCDEFGHABCDEFGH1/601/1060902005120021/1/0/2401/' \
+err_is 'eskelvor: command 1: refused: code 5 at byte 840, section 9, start hour: 24 is not 00 to 23' \
+    '  ..FGHABCDEFGHABCDEFGH1/601/1060902005120021/1/104020021/0/2401/' \
     '                                                            ^'
 
 # Each figure of the layout, its range, and what stood there
@@ -58,7 +58,7 @@ done <<'END'
 9999993000000000/|4 at byte 11|flag descent: 3 is not 0, 1 or 9
 9999999300000000/|4 at byte 12|downlink: 3 is not 0, 1 or 2
 9999999000000003/|4 at byte 20|indicator E9: 3 is not 0 or 9
-9999999000000700/|4 at byte 18|indicator E7: 7 is not 0
+9999999000000800/|4 at byte 18|indicator E7: 8 is not 0 or 7
 9999999020000000/17|5 at byte 22|section 2, reporting boxes: 17 is not 00 to 16
 9999999020000000/0191N10S010W010E00/|5 at byte 24|section 2, reporting boxes, box 1, north edge: 91N is not 00 to 90 and N or S
 9999999020000000/000110S45S110E155X/|4 at byte 36|section 2, inhibiting boxes, box 1, east edge: 155X is not 000 to 180 and E or W
@@ -78,6 +78,15 @@ done <<'END'
 9999999000050000/1060902005135121/|5 at byte 33|section 5, top: 351 is not 150 to 350
 9999999000050000/1060902005120031/|4 at byte 36|section 5, list: 3 is not 1 or 2
 9999999000050000/1060902005120023/|4 at byte 37|section 5, timer: 3 is not 0 or 1
+9999999000000700/204020021/|4 at byte 22|section 7, mode: 2 is not 0 or 1
+9999999000000700/100920021/|5 at byte 23|section 7, interval: 009 is not 010 to 300
+9999999000000700/130120021/|5 at byte 23|section 7, interval: 301 is not 010 to 300
+9999999000000700/10 020021/|4 at byte 23|section 7, interval: 0 0 is not 010 to 300
+9999999000000700/104014921/|5 at byte 26|section 7, top: 149 is not 150 to 350
+9999999000000700/104020031/|4 at byte 29|section 7, list: 3 is not 1 or 2
+9999999000000700/104020023/|4 at byte 30|section 7, timer: 3 is not 0 or 1
+9999999000000700/104020021x|3 at byte 31|section 7, delimiter: a fixed byte is wrong
+9999999000006780/1/100920021/0/|5 at byte 25|section 7, interval: 009 is not 010 to 300
 9999999000406080/601/1/2/|5 at byte 28|section 8, routine: 2 is not 0 or 1
 9999999000400009/601/2324/|5 at byte 28|section 9, end hour: 24 is not 00 to 23
 END
@@ -144,15 +153,21 @@ out_has 'mode 0: samples by pressure level' 'series 1: every 3 seconds, for 200 
     'series 2: every 60 seconds, until 1110 seconds in all' 'top of the ascent: 20000 feet' \
     'list of pressure levels: 1' 'timer for level stretches: off' \
     'section 6: routine reports in ascent' 'section 8: routine reports in descent'
+answers 0 'the descent scheme, as source document 000 prints one' explain AWR049999999000000700/004020011/
+out_has 'section 7: the descent scheme' '  mode 0: samples by pressure level' '  series: every 40 seconds' \
+    '  top of the descent: 20000 feet' '  list of pressure levels: 1' '  timer for level stretches: on'
+answers 0 'the flag that asks for it' explain AWR049999991000000000/
+out_has '  descent        1  on: the scheme of section 7'
 answers 0 'a command that says nothing' explain $none
 out_has 'no section is named'
-all=AWR041911999223456089/0110S45S110E155E00/01YMML0001YPAD001/071/1060902005120021/1/0/2301/
+all=AWR041911999223456789/0110S45S110E155E00/01YMML0001YPAD001/071/1060902005120021/1/130015010/0/2301/
 answers 0 'the same for a machine' explain --json $all
 json_has results.0.flags.amdar=1 results.0.flags.inhibit_hours=9 results.0.downlink=2 \
     results.0.sections.2.reporting.0.north=10S results.0.sections.2.reporting.0.east=155E \
     results.0.sections.3.ascent_selected.0=YMML results.0.sections.3.ascent_inhibited.0=YPAD \
     results.0.sections.3.routine=1 results.0.sections.4.interval_minutes=7 results.0.sections.5.top_feet=20000 \
-    results.0.sections.6.routine=1 \
+    results.0.sections.6.routine=1 results.0.sections.7.mode=1 results.0.sections.7.interval_seconds=300 \
+    results.0.sections.7.top_feet=15000 results.0.sections.7.list=1 results.0.sections.7.timer=0 \
     results.0.sections.8.routine=0 results.0.sections.9.start_hour=23 results.0.sections.9.end_hour=1 status=0
 answers 1 'a refusal is the same as that of check' explain --json AWR04
 json_has results.0.code=8 results.0.place=5 status=1
@@ -161,6 +176,8 @@ answers 0 "document 01's join" join $first $second
 out_is $both
 answers 0 'in the other order it is another' join $second $first
 out_is AWR041199999100400009/151/2301/
+answers 0 'section 7 goes between 6 and 8' join AWR049999999000006080/1/0/ AWR049999999000000700/104020021/
+out_is AWR049999999000006780/1/104020021/0/
 answers 0 'no change on either side alters nothing' join $none $both $none
 out_is $both
 answers 0 'one command is itself' join $first

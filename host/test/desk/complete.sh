@@ -4,7 +4,7 @@
 
 answers 0 'all subcommands' help --list
 names=$(cat "$scratch/out")
-[ "$(echo "$names" | wc -l)" -ge 13 ] || fail 'there are more'
+[ "$(echo "$names" | wc -l)" -ge 14 ] || fail 'there are more'
 for name in $names; do
     answers 0 "help on $name" help "$name"
     cp "$scratch/out" "$scratch/help"
@@ -67,6 +67,8 @@ offers board tonight gr
 out_is grow
 offers journal taken re
 out_is replay
+offers config old ''
+out_is convert
 offers packed ''
 out_is read write
 offers help bo
@@ -95,7 +97,7 @@ for phase in ascent level descent; do
     offers decide --phase $phase
     out_is $phase
 done
-for verb in create add take return list check grow; do
+for verb in create add take return list check grow convert; do
     offers board tonight $verb
     out_is $verb
     answers 0 'the help' help board

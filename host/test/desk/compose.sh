@@ -38,6 +38,8 @@ done <<'END'
 9999999000050000/0032006011115010/|--samples-by pressure-level --series-1-every 3 --series-1-for 200 --series-2-every 60 --series-2-until 1110 --top 15000 --level-list 1 --timer off
 9999999000050000/1200300305135021/|--samples-by time --series-1-every 20 --series-1-for 30 --series-2-every 3 --series-2-until 510 --top 35000 --level-list 2 --timer on
 9999999000006000/1/|--routine-in-ascent yes
+9999999000000700/001015010/|--descent-samples-by pressure-level --descent-every 10 --descent-top 15000 --descent-level-list 1 --descent-timer off
+9999999000000700/130035021/|--descent-samples-by time --descent-every 300 --descent-top 35000 --descent-level-list 2 --descent-timer on
 9999999000000080/0/|--routine-in-descent no
 9999999000000009/2301/|--hours 23-01
 9999999000000009/2301/|--hours 23:00-01:00
@@ -68,6 +70,9 @@ answers 0 'numbers with their units' compose --report-every '30 minutes' --maxim
     --series-1-every '6 seconds' --series-1-for '90 seconds' --series-2-every '20 seconds' \
     --series-2-until '510 seconds' --top '20000 feet' --level-list 2 --timer on
 out_is 'AWR049999999000450000/300/1060902005120021/'
+answers 0 'of the descent too' compose --descent-samples-by 'pressure level' --descent-every '40 seconds' \
+    --descent-top '20000 feet' --descent-level-list 1 --descent-timer on
+out_is 'AWR049999999000000700/004020011/'
 answers 2 'another unit' compose --report-every '30 seconds' --maximum-wind no
 err_is 'eskelvor: --report-every: 30 seconds is not 1 to 60 minutes'
 answers 0 'the downlink as explain prints it' compose --downlink 'the whole configuration is sent down' --amdar 'no change'
@@ -136,6 +141,7 @@ done <<'END'
 --report-every -5|--report-every: -5 is not 1 to 60 minutes
 --series-2-until 515|--series-2-until: 515 is not 510 to 1110 seconds, in tens
 --top 20050|--top: 20050 is not 15000 to 35000 feet, in hundreds
+--descent-top 20050|--descent-top: 20050 is not 15000 to 35000 feet, in hundreds
 --hours 23|--hours: 23 is not two hours, as 23-01, or none
 --hours 23-|--hours: 23- is not two hours, as 23-01, or none
 --hours 23-01x|--hours: 23-01x is not two hours, as 23-01, or none
@@ -167,9 +173,10 @@ answers 2 'no such configuration' compose -c nowhere --report-every 15
 err_is 'eskelvor: nowhere: cannot open: No such file or directory'
 
 # explain --options, and what it prints run by the shell
-answers 0 'the call that makes a command' explain --options AWR041911999223456089/0110S45S110E155E00/01YMML0001YPAD001/071/1060902005120021/1/0/2301/
+answers 0 'the call that makes a command' explain --options AWR041911999223456789/0110S45S110E155E00/01YMML0001YPAD001/071/1060902005120021/1/104020021/0/2301/
 out_has 'eskelvor compose --amdar on --regions on --airports on --downlink configuration --routine-instead yes' \
     ' --report-every 7 --maximum-wind yes --samples-by time --series-1-every 6 ' ' --hours 23-01 ' \
+    ' --descent-samples-by time --descent-every 40 --descent-top 20000 --descent-level-list 2 --descent-timer on ' \
     ' --reporting-box 10S-45S,110E-155E --inhibiting-box none --selected-for-ascent YMML ' ' --inhibited-for-ascent YPAD '
 answers 2 'it is no document' explain --options --json AWR049999999000000000/
 json_has results.0.about=--options status=2
@@ -246,7 +253,9 @@ bad 2 'spaces alone' ': empty: there is no object in it' '
   '
 bad 2 'an unknown key' ': line 1, column 11: no such key here: amdr; there are amdar, inhibit_hours, regions, airports, ascent, enroute, descent' \
     '{"flags":{"amdr":1}}'
-bad 2 'section 7' ': line 1, column 14: no such key here: 7; there are 2, 3, 4, 5, 6, 8, 9' '{"sections":{"7":{}}}'
+bad 2 'section 1' ': line 1, column 14: no such key here: 1; there are 2, 3, 4, 5, 6, 7, 8, 9' '{"sections":{"1":{}}}'
+bad 2 'section 7, not whole' ': line 1, column 18: section 7, which is replaced whole, lacks top_feet' \
+    '{"sections":{"7":{"mode":1,"interval_seconds":40,"list":2,"timer":1}}}'
 bad 2 'a key twice' ': line 1, column 13: the key flags is there a second time' '{"flags":{},"flags":{}}'
 bad 2 'a section key twice' ': line 2, column 12: the key 9 is there a second time' \
     '{"sections":{"9":{"start_hour":1,"end_hour":2},
@@ -290,7 +299,7 @@ bad 1 'a mode of 2' ', line 1, column 1, sections.6.routine: refused: code 5 at 
     '{"sections":{"6":{"routine":2}}}'
 
 # Every figure of a command that has all sections, out of its range: the key and the field are the figure's own
-all=AWR041011119223456089/0210S45S110E155E90N90S180W180E0100N01S000E001E/01YMML0002YPADYSSY01ABCD1/301/1060902005120021/1/0/2301/
+all=AWR041011119223456789/0210S45S110E155E90N90S180W180E0100N01S000E001E/01YMML0002YPADYSSY01ABCD1/301/1060902005120021/1/104020021/0/2301/
 eskelvor explain --json $all >whole
 answers 0 'as it is' compose --json whole
 out_is $all
@@ -322,11 +331,16 @@ series_2_interval_seconds:20||sections.5.series_2_interval_seconds|section 5, se
 list:2||sections.5.list|section 5, list
 timer:1||sections.5.timer|section 5, timer
 routine:1|2|sections.6.routine|section 6, routine
+mode:1|2|sections.7.mode|section 7, mode
+interval_seconds:40||sections.7.interval_seconds|section 7, interval
+list:2|2|sections.7.list|section 7, list
+timer:1|2|sections.7.timer|section 7, timer
 routine:0||sections.8.routine|section 8, routine
 start_hour:23||sections.9.start_hour|section 9, start hour
 end_hour:1||sections.9.end_hour|section 9, end hour
 total_seconds:510||sections.5.total_seconds|section 5, total duration
 top_feet:20000||sections.5.top_feet|section 5, top
+top_feet:20000|2|sections.7.top_feet|section 7, top
 END
 
 # Reports that are wrong, from the example's own object

@@ -108,7 +108,7 @@ rm -f "$odd" "$latin" "$utf" "$c1"
 
 head -c 5000000 /dev/zero >zeros
 answers 1 'one line of 5 MB' check zeros
-err_has 'code 1 at byte 0: a command has at most 835 bytes, this one 5000000'
+err_has 'code 1 at byte 0: a command has at most 845 bytes, this one 5000000'
 answers 1 'five MB that are no reports: told 21 times, not 23,000' report zeros
 err_has 'report 21 from byte 4400 on: refused: code 1' 'this one 4995600' 'eskelvor: 0 reports shown, 21 refused'
 { cat zeros "$examples/one.report"; } >then

@@ -103,6 +103,13 @@ static void section(esk_settings *s, int k)
         s->ascent.timer = (uint8_t)between(0, 1);
         break;
     case 6: s->routine6 = (uint8_t)between(0, 1); break;
+    case 7:
+        s->descent.mode = (uint16_t)between(0, 1);
+        s->descent.interval = (uint16_t)between(10, 300);
+        s->descent.top = (uint16_t)between(150, 350);
+        s->descent.list = (uint8_t)between(1, 2);
+        s->descent.timer = (uint8_t)between(0, 1);
+        break;
     case 8: s->routine8 = (uint8_t)between(0, 1); break;
     case 9:
         s->hours.start = (uint8_t)between(0, 23);
@@ -120,7 +127,7 @@ static void command(void)
         c.settings.flags[i] = (uint8_t)(one_of("019") - '0');
     c.downlink = (uint8_t)between(0, 2);
     for (int k = 2; k <= 9; k++)
-        if (k != 7 && next() % 2) {
+        if (next() % 2) {
             c.named[k - 2] = (uint8_t)k;
             section(&c.settings, k);
         }

@@ -29,7 +29,7 @@ answers 0 'of which nothing is shown' journal empty list
 out_is
 answers 0 'and which replays to reset' journal empty replay --json XY0001
 json_has results.0.designator=XY0001 \
-    results.0.configuration=AWR041000111023456089/0000/000000000/071/1060902005120021/1/1/0000/ status=0
+    results.0.configuration=AWR041000111023456789/0000/000000000/071/1060902005120021/1/104020021/1/0000/ status=0
 answers 0 'a file that is there' journal empty add XY0001 $level --json
 json_has results.0.offset=0 results.0.count=1 results.0.length=35 results.0.new=false status=0
 
@@ -81,7 +81,7 @@ cmp -s shown want || fail 'not what apply shows'
 answers 0 'after an entry' journal j replay XY0001 --at 62 --json
 json_has results.0.entries.0.offset=0 results.0.entries.1.offset=62 'results.0.entries.1.changes.0.flag=inhibit hours' \
     results.0.entries.1.changes.0.is=1 results.0.entries.1.changes.1.section=4 \
-    results.0.configuration=AWR041100111023456089/0000/000000000/300/1060902005120021/1/1/2301/ status=0
+    results.0.configuration=AWR041100111023456789/0000/000000000/300/1060902005120021/1/104020021/1/2301/ status=0
 ! grep -q 'entries.2' flat || fail 'a later one too'
 answers 0 'after an entry of another aircraft' journal j replay XY0001 --at=31
 out_has "entry at byte 0: $nothing" 'XY0001 after reset and 1 of its commands:' 'flag inhibit hours: 0, off: reports at every hour'

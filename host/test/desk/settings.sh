@@ -8,9 +8,10 @@ melbourne=AWR049991999003000000/01YMML0000000/
 
 answers 0 'the configuration after reset, in words' apply
 out_has 'flag AMDAR: 1, on' 'flag inhibit hours: 0, off: reports at every hour' 'section 4: level flight' \
-    '  a report every 7 minutes' '  series 1: every 6 seconds, for 90 seconds' '  none: both are 00'
+    '  a report every 7 minutes' '  series 1: every 6 seconds, for 90 seconds' '  none: both are 00' \
+    'section 7: the descent scheme' '  series: every 40 seconds' '  top of the descent: 20000 feet'
 answers 0 'the same for a machine, as the command that sets all of it' apply --json
-json_has results.0.configuration=AWR041000111023456089/0000/000000000/071/1060902005120021/1/1/0000/ status=0
+json_has results.0.configuration=AWR041000111023456789/0000/000000000/071/1060902005120021/1/104020021/1/0000/ status=0
 
 answers 0 'what a command changes' apply $second
 out_is 'command 1: accepted; downlink 1, the flags are sent down' \
@@ -18,6 +19,15 @@ out_is 'command 1: accepted; downlink 1, the flags are sent down' \
     'section 4: level flight' '  was' '    a report every 7 minutes' '    reports of the maximum wind: yes' \
     '  is' '    a report every 30 minutes' '    reports of the maximum wind: no' \
     'section 9: the hours of silence' '  was' '    none: both are 00' '  is' '    from 23:00 up to 01:00, over midnight'
+answers 0 'what a command of section 7 changes' apply AWR049999999000000700/030035010/
+out_is 'command 1: accepted; downlink 0, nothing is sent down' 'section 7: the descent scheme' '  was' \
+    '    mode 1: samples by time' '    series: every 40 seconds' '    top of the descent: 20000 feet' \
+    '    list of pressure levels: 2' '    timer for level stretches: on' '  is' \
+    '    mode 0: samples by pressure level' '    series: every 300 seconds' '    top of the descent: 35000 feet' \
+    '    list of pressure levels: 1' '    timer for level stretches: off'
+answers 0 'the same for a machine' apply --json AWR049999999000000700/030035010/
+json_has results.1.changes.0.section=7 results.1.changes.0.was.interval_seconds=40 \
+    results.1.changes.0.is.interval_seconds=300 results.1.changes.0.is.top_feet=35000 status=0
 answers 0 'a command that changes nothing' apply AWR041000111000400000/071/
 out_is 'command 1: accepted; downlink 0, nothing is sent down' 'nothing changed'
 answers 0 'the same for a machine' apply --json $second
@@ -27,7 +37,7 @@ json_has results.0.downlink=1 'results.1.changes.0.flag=inhibit hours' results.1
     results.1.changes.2.section=9 results.1.changes.2.is.start_hour=23 status=0
 
 answers 0 'kept in a file' apply -o held $second
-all=AWR041100111023456089/0000/000000000/300/1060902005120021/1/1/2301/
+all=AWR041100111023456789/0000/000000000/300/1060902005120021/1/104020021/1/2301/
 [ "$(sed -n 2p held)" = $all ] || fail 'another configuration'
 answers 0 'and changed there' apply --config=held --out=held $australia $melbourne
 out_has 'command 2: accepted' 'flag regions: was 0, is 1' 'flag airports: was 0, is 1'
@@ -73,9 +83,9 @@ answers 1 'the same for a machine' apply --json -c damaged
 json_has results.0.code=12 results.0.place=0 results.0.about=damaged status=1
 answers 1 'and is not mended' apply -c damaged -o damaged $second
 sed 's/2301/2302/' held | cmp -s - damaged || fail 'the file is another'
-sed 's/CONFIGURATION 1/CONFIGURATION 2/' held >later
+sed 's/CONFIGURATION 2/CONFIGURATION 3/' held >later
 answers 2 'a file of another version' apply -c later
-err_is "eskelvor: later: a configuration's file of another format version; this program reads version 1"
+err_is "eskelvor: later: a configuration's file of another format version; this program reads version 2"
 answers 1 'a file of another kind' apply -c "$examples/one.report"
 err_has 'not a configuration'
 

@@ -33,9 +33,11 @@ static const char command[] =
     "\"north\":\"10S\",\"south\":\"45S\",\"west\":\"110E\",\"east\":\"155E\"}],\"inhibiting\":[]},"
     "\"3\":{\"ascent_selected\":[\"YMML\"],\"descent_selected\":[],\"ascent_inhibited\":[],"
     "\"descent_inhibited\":[\"YPAD\",\"AB12\"],\"routine\":1},\"4\":{\"interval_minutes\":7,"
-    "\"maximum_wind\":1},\"9\":{\"start_hour\":23,\"end_hour\":1}}}\n";
+    "\"maximum_wind\":1},\"7\":{\"mode\":1,\"interval_seconds\":40,\"top_feet\":20000,\"list\":2,"
+    "\"timer\":1},\"9\":{\"start_hour\":23,\"end_hour\":1}}}\n";
 
-static const char written_command[] = "AWR041999999223400009/0110S45S110E155E00/01YMML000002YPADAB121/071/2301/\n";
+static const char written_command[] =
+    "AWR041999999223400709/0110S45S110E155E00/01YMML000002YPADAB121/071/104020021/2301/\n";
 
 static const char report[] =
     "{\"subcommand\":\"report\",\"results\":[\n{\"departure\":\"ABCD\",\"arrival\":\"EFGH\","
