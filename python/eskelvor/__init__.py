@@ -1,4 +1,4 @@
-"""Eskelvor for Python: the proved calls of a weather desk, over ``libeskelvor.so.3``.
+"""Eskelvor for Python: the proved calls of a weather desk, over ``libeskelvor.so.4``.
 
     >>> import eskelvor
     >>> eskelvor.join("AWR041999999000400000/151/", "AWR049199999100400009/300/2301/")
@@ -22,6 +22,7 @@ from ._commands import (
     AscentScheme,
     Box,
     Command,
+    DescentScheme,
     Field,
     Flags,
     Hours,
@@ -68,6 +69,7 @@ __all__ = [
     "Configuration",
     "ConfigurationNotValid",
     "Decision",
+    "DescentScheme",
     "Entry",
     "Explanation",
     "Field",

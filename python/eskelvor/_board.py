@@ -4,9 +4,10 @@ import ctypes
 from typing import Iterator, NamedTuple, Optional, Union
 
 from ._library import COMMAND_BYTES, Slot, Text, as_bytes, lib, room
-from ._refusals import refuse
+from ._refusals import BoardNotValid, refuse
 
 _SLOT_BYTES = ctypes.sizeof(Slot)
+_OLDER_BYTES = 835  # of text for each slot, before section 7
 
 
 class Waiting(NamedTuple):
@@ -18,7 +19,7 @@ class Waiting(NamedTuple):
 
 
 class Board:
-    """A board over a ``bytearray`` (or a ``memoryview`` of one): first the slots, then 835 bytes of text for each.
+    """A board over a ``bytearray`` (or a ``memoryview`` of one): first the slots, then 845 bytes of text for each.
 
     ``bytearray(Board.size(n))`` is an empty board of n slots, at most 64. The board keeps nothing but the memory, so the
     bytes may be stored and lent again; as long as the board lives their number cannot change. Every call checks the whole
@@ -29,6 +30,26 @@ class Board:
     def size(slots: int) -> int:
         """The bytes of a board of so many slots."""
         return slots * (_SLOT_BYTES + COMMAND_BYTES)
+
+    @staticmethod
+    def carry_over(older: Union[bytes, bytearray, memoryview]) -> bytearray:
+        """The memory of a board of a version before 4, which had 835 bytes of text for each slot, as that of a board now.
+
+        Every slot keeps its number and all its bytes. What was no valid board is refused as ``BoardNotValid``, and so is a
+        text that such a board could not hold.
+        """
+        old = bytes(older)
+        slots = len(old) // (_SLOT_BYTES + _OLDER_BYTES)
+        memory = bytearray(Board.size(slots))
+        memory[: slots * _SLOT_BYTES] = old[: slots * _SLOT_BYTES]
+        for i in range(slots):
+            begin, to = slots * _SLOT_BYTES + i * _OLDER_BYTES, slots * _SLOT_BYTES + i * COMMAND_BYTES
+            memory[to : to + _OLDER_BYTES] = old[begin : begin + _OLDER_BYTES]
+        sound = len(old) == slots * (_SLOT_BYTES + _OLDER_BYTES)
+        texts = [waiting.text for waiting in Board(memory)] if sound else []
+        if not sound or any(len(text) > _OLDER_BYTES or text[18:19] == b"7" for text in texts):
+            refuse(BoardNotValid.code)
+        return memory
 
     def __init__(self, memory: Union[bytearray, memoryview]) -> None:
         view = memoryview(memory)

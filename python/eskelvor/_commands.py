@@ -1,4 +1,4 @@
-"""Uplink commands, 22 to 835 bytes: checked, read into a record, written, told field by field, joined."""
+"""Uplink commands, 22 to 845 bytes: checked, read into a record, written, told field by field, joined."""
 
 from dataclasses import dataclass
 from typing import Iterator, List, NamedTuple, Optional, Sequence, Tuple
@@ -11,6 +11,7 @@ from ._library import (
     RawAscent,
     RawBoxes,
     RawCommand,
+    RawDescent,
     RawHours,
     RawSettings,
     Text,
@@ -101,6 +102,22 @@ class AscentScheme:
 
 
 @dataclass(frozen=True)
+class DescentScheme:
+    """Section 7. The figures are the command's own; the property has the top in feet."""
+
+    mode: int  #: 0 by pressure level, 1 by time
+    interval: int  #: seconds, 10 to 300, in both modes
+    top: int  #: hundreds of feet, 150 to 350
+    list: int  #: of pressure levels, 1 or 2
+    timer: int  #: for level stretches, 0 or 1
+
+    @property
+    def top_feet(self) -> int:
+        """Where the descent begins."""
+        return self.top * 100
+
+
+@dataclass(frozen=True)
 class Hours:
     """Section 9: silent from the start hour up to the end hour, 0 to 23 each, over midnight; equal hours are none."""
 
@@ -119,6 +136,7 @@ class Command:
     level_flight: Optional[LevelFlight] = None  #: section 4
     ascent_scheme: Optional[AscentScheme] = None  #: section 5
     ascent_routine: Optional[bool] = None  #: section 6
+    descent_scheme: Optional[DescentScheme] = None  #: section 7
     descent_routine: Optional[bool] = None  #: section 8
     hours: Optional[Hours] = None  #: section 9
 
@@ -188,6 +206,11 @@ def ascent_scheme_of(raw: RawAscent) -> AscentScheme:
     )
 
 
+def descent_scheme_of(raw: RawDescent) -> DescentScheme:
+    """Section 7 of a record."""
+    return DescentScheme(raw.mode, raw.interval, raw.top, raw.list, raw.timer)
+
+
 def hours_of(raw: RawHours) -> Hours:
     """Section 9 of a record."""
     return Hours(raw.start, raw.end)
@@ -224,6 +247,7 @@ def fill_numbers(
     level_flight: Optional[LevelFlight],
     scheme: Optional[AscentScheme],
     ascent_routine: Optional[bool],
+    descent_scheme: Optional[DescentScheme],
     descent_routine: Optional[bool],
     hours: Optional[Hours],
 ) -> None:
@@ -243,6 +267,14 @@ def fill_numbers(
         )
     if ascent_routine is not None:
         raw.routine6 = u8(ascent_routine)
+    if descent_scheme is not None:
+        raw.descent = RawDescent(
+            u16(descent_scheme.mode),
+            u16(descent_scheme.interval),
+            u16(descent_scheme.top),
+            u8(descent_scheme.list),
+            u8(descent_scheme.timer),
+        )
     if descent_routine is not None:
         raw.routine8 = u8(descent_routine)
     if hours is not None:
@@ -273,6 +305,7 @@ def read_command(text: Text) -> Command:
         level_flight=level_flight_of(raw.enroute) if named[2] else None,
         ascent_scheme=ascent_scheme_of(raw.ascent) if named[3] else None,
         ascent_routine=bool(raw.routine6) if named[4] else None,
+        descent_scheme=descent_scheme_of(raw.descent) if named[5] else None,
         descent_routine=bool(raw.routine8) if named[6] else None,
         hours=hours_of(raw.hours) if named[7] else None,
     )
@@ -289,7 +322,7 @@ def write_command(command: Command) -> bytes:
         command.level_flight,
         command.ascent_scheme,
         command.ascent_routine,
-        None,
+        command.descent_scheme,
         command.descent_routine,
         command.hours,
     )
@@ -303,6 +336,7 @@ def write_command(command: Command) -> bytes:
         command.level_flight,
         command.ascent_scheme,
         command.ascent_routine,
+        command.descent_scheme,
         command.descent_routine,
         command.hours,
     )
@@ -353,21 +387,27 @@ _LISTS = {
 }
 _EDGES = ((3, "north edge"), (3, "south edge"), (4, "west edge"), (4, "east edge"))
 
-# Width, name, and how the number is said: a format, or words for each.
+_MODE = {"0": "by pressure level", "1": "by time"}
+
+# Width, name, and how the number is said: a format, or words for each. First what the two schemes end with.
+_LEVELS = (
+    (3, "top", "{}00 feet"),
+    (1, "list", "list {} of pressure levels"),
+    (1, "timer", {"0": "off", "1": "on"}),
+)
 _NUMBERS = {
     3: ((1, "routine", _YES),),
     4: ((2, "interval", "{} minutes"), (1, "maximum wind", _YES)),
     5: (
-        (1, "mode", {"0": "by pressure level", "1": "by time"}),
+        (1, "mode", _MODE),
         (2, "series 1 interval", "{} seconds"),
         (3, "series 1 duration", "{} seconds"),
         (2, "series 2 interval", "{} seconds"),
         (3, "total duration", "{}0 seconds"),
-        (3, "top", "{}00 feet"),
-        (1, "list", "list {} of pressure levels"),
-        (1, "timer", {"0": "off", "1": "on"}),
+        *_LEVELS,
     ),
     6: ((1, "routine", _YES),),
+    7: ((1, "mode", _MODE), (3, "interval", "{} seconds"), *_LEVELS),
     8: ((1, "routine", _YES),),
     9: ((2, "start hour", "from {:02d}:00"), (2, "end hour", "up to {:02d}:00")),
 }

@@ -6,7 +6,7 @@ from typing import NamedTuple, Optional, Tuple
 
 from . import _commands as commands
 from ._library import RawSettings, Text, as_bytes, i32, lib, u8
-from ._commands import Airports, AscentScheme, Flags, Hours, LevelFlight, Regions
+from ._commands import Airports, AscentScheme, DescentScheme, Flags, Hours, LevelFlight, Regions
 from ._refusals import refuse
 
 
@@ -65,6 +65,7 @@ class Settings:
     level_flight: LevelFlight
     ascent_scheme: AscentScheme
     ascent_routine: bool
+    descent_scheme: DescentScheme
     descent_routine: bool
     hours: Hours
 
@@ -93,6 +94,7 @@ class Configuration:
                 settings.level_flight,
                 settings.ascent_scheme,
                 settings.ascent_routine,
+                settings.descent_scheme,
                 settings.descent_routine,
                 settings.hours,
             )
@@ -111,6 +113,7 @@ class Configuration:
             commands.level_flight_of(raw.enroute),
             commands.ascent_scheme_of(raw.ascent),
             bool(raw.routine6),
+            commands.descent_scheme_of(raw.descent),
             bool(raw.routine8),
             commands.hours_of(raw.hours),
         )

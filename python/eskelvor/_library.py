@@ -1,6 +1,6 @@
 """The shared library: where it is found, its records as ctypes lays them out, its calls.
 
-Nothing here decides anything about a text: it finds ``libeskelvor.so.3``, refuses one that is of another version or lays its
+Nothing here decides anything about a text: it finds ``libeskelvor.so.4``, refuses one that is of another version or lays its
 records out in another way, and declares the calls of ``eskelvor.h``.
 """
 
@@ -11,12 +11,12 @@ from pathlib import Path
 from typing import Dict, List, Optional, Tuple, Type, Union
 
 #: The version of eskelvor.h that this module is written for: the first number must be the library's, the second not above.
-HEADER_VERSION = (3, 5)
+HEADER_VERSION = (4, 0)
 SONAME = "libeskelvor.so.%d" % HEADER_VERSION[0]
 ENVIRONMENT = "ESKELVOR_LIBRARY"
 
 REPORT_BYTES = 220
-COMMAND_BYTES = 835
+COMMAND_BYTES = 845
 BOARD_SLOTS = 64
 JOURNAL_BYTES = 65535
 JOURNAL_PRINTED = 76105
@@ -125,6 +125,10 @@ class RawAscent(ctypes.Structure):
     ]
 
 
+class RawDescent(ctypes.Structure):
+    _fields_ = [("mode", _u16), ("interval", _u16), ("top", _u16), ("list", _u8), ("timer", _u8)]
+
+
 class RawHours(ctypes.Structure):
     _fields_ = [("start", _u8), ("end", _u8)]
 
@@ -136,6 +140,7 @@ class RawSettings(ctypes.Structure):
         ("airports", RawAirports),
         ("enroute", Enroute),
         ("ascent", RawAscent),
+        ("descent", RawDescent),
         ("routine6", _u8),
         ("routine8", _u8),
         ("hours", RawHours),
@@ -202,6 +207,7 @@ RECORDS: Dict[str, Type[ctypes.Structure]] = {
     "esk_airports": RawAirports,
     "esk_enroute": Enroute,
     "esk_ascent": RawAscent,
+    "esk_descent": RawDescent,
     "esk_hours": RawHours,
     "esk_settings": RawSettings,
     "esk_command": RawCommand,

@@ -37,7 +37,7 @@ class Refusal(ValueError):
 
 
 class WrongLength(Refusal):
-    """1: a report that has not 220 bytes, a command of more than 835, a packed field of none or more than 5."""
+    """1: a report that has not 220 bytes, a command of more than 845, a packed field of none or more than 5."""
 
     code = 1
 

@@ -7,7 +7,7 @@ from typing import Dict, List, Optional, Tuple
 
 import eskelvor
 from eskelvor import Board, _library
-from known import BOTH, FIRST, FIVE, LONGEST, SECOND, Case, head
+from known import BOTH, FIRST, FIVE, LONGEST, SECOND, SEVEN, Case, head
 
 GUARD = 64
 SLOT = 8
@@ -129,7 +129,8 @@ class Boards(Case):
         board.add("XY0002", FIRST)
         doubled[8:14] = b"XY0001"
         cases: List[bytearray] = [
-            bytearray(size - 1), bytearray(size + 1), bytearray(size + 842), bytearray(1), bytearray(842),
+            bytearray(size - 1), bytearray(size + 1), bytearray(size + 852), bytearray(1), bytearray(852),
+            *(bytearray(843 * slots) for slots in range(1, 65)),
             bytearray(Board.size(65)), doubled,
             bytearray(b"XY0001\x01\x00" + bytes(size - 8)), bytearray(b"XY0001\xff\xff" + bytes(size - 8)),
             bytearray(b"xy0001\x16\x00" + bytes(8) + eskelvor.NO_CHANGE + bytes(size - 16 - 22)),
@@ -142,6 +143,41 @@ class Boards(Case):
             for call in calls:
                 self.refused(10, 0, call, kind=eskelvor.BoardNotValid)
             self.assertEqual(bytes(memory), was)
+
+    def older(self, waiting: Dict[int, Tuple[str, bytes]], slots: int) -> bytearray:
+        """A board as a version before 4 had it; what is not given is a pattern."""
+        memory = bytearray((7 * i + 1) % 256 for i in range(843 * slots))
+        for i in range(slots):
+            designator, text = waiting.get(i, ("??????", b""))
+            memory[8 * i : 8 * i + 8] = designator.encode() + len(text).to_bytes(2, "little")
+            memory[8 * slots + 835 * i : 8 * slots + 835 * i + len(text)] = text
+        return memory
+
+    def test_boards_from_before_section_7(self) -> None:
+        longest = LONGEST[:18] + b"0" + LONGEST[19:].replace(b"1/" + SEVEN + b"0/", b"1/0/")
+        self.assertEqual(len(longest), 835)
+        flags = [b"AWR04" + bytes(48 + (i >> bit & 1) for bit in range(7)) + longest[12:] for i in range(64)]
+        full = {i: ("XY%04d" % (99 - i), flags[i]) for i in range(64)}
+        some = {0: ("XY0001", BOTH), 2: ("AU0137", longest)}
+        for waiting, slots in ((full, 64), (some, 4), ({}, 3), ({}, 0)):
+            old = self.older(waiting, slots)
+            was = bytes(old)
+            for lent in (old, bytes(old), memoryview(old)):
+                memory = Board.carry_over(lent)
+                self.assertEqual(list(Board(memory)), [(i, name, text) for i, (name, text) in sorted(waiting.items())])
+                self.assertEqual(Board(memory).slots, slots)
+                for i in range(slots):
+                    self.assertEqual(memory[8 * i : 8 * i + 8], old[8 * i : 8 * i + 8])
+                    area, at = 8 * slots + 845 * i, 8 * slots + 835 * i
+                    self.assertEqual(memory[area : area + 845], old[at : at + 835] + bytes(10))
+            self.assertEqual(bytes(old), was)
+        wrong = [
+            self.older({0: ("XY0001", BOTH), 1: ("XY0001", BOTH)}, 2), self.older({0: ("xy0001", BOTH)}, 2),
+            self.older({0: ("XY0001", BOTH[:-1])}, 2), self.older({0: ("XY0001", head(7) + SEVEN)}, 2),
+            self.older({}, 65), self.older(some, 4)[:-1], self.older(some, 4) + b"x", bytearray(Board.size(2)),
+        ]
+        for old in wrong:
+            self.refused(10, 0, lambda: Board.carry_over(old), kind=eskelvor.BoardNotValid)
 
     def test_sizes_that_are_boards(self) -> None:
         for slots in (0, 1, 64):
@@ -157,11 +193,12 @@ class Boards(Case):
 ACCEPTED = [
     eskelvor.NO_CHANGE, FIRST, SECOND, BOTH, LONGEST, head(2) + b"0000/", head(2) + b"0110N10S010W010E00/",
     head(3) + b"000000000/", head(3) + b"01ABCD02EFGHIJKL00001/", head(4) + b"071/", head(4) + b"600/", head(5) + FIVE,
-    head(6) + b"0/", head(6) + b"1/", head(8) + b"1/", head(9) + b"2301/", b"AWR040000000200000000/",
-    b"AWR041111111000000000/", b"AWR049990999100000080/1/",
+    head(6) + b"0/", head(6) + b"1/", head(7) + SEVEN, head(7) + b"030035010/", head(8) + b"1/", head(9) + b"2301/",
+    b"AWR040000000200000000/", b"AWR041111111000000000/", b"AWR049990999100000080/1/",
 ]
 REFUSED: List[Tuple[bytes, int, int]] = [
     (b"", 8, 0), (b"AWR04", 8, 5), (eskelvor.NO_CHANGE + b"/", 8, 22), (head(2) + b"17", 5, 22), (head(4) + b"07x/", 4, 24),
+    (head(7) + b"100920021/", 5, 23),
 ]
 
 

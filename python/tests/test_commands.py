@@ -4,10 +4,10 @@ from dataclasses import replace
 
 import eskelvor
 from eskelvor import (
-    Airports, AscentScheme, Box, Command, Configuration, Decision, Flags, Hours, LevelFlight, Phase, Reason, Regions,
-    check_command, command_fields, join, minutes, read_command, write_command,
+    Airports, AscentScheme, Box, Command, Configuration, Decision, DescentScheme, Flags, Hours, LevelFlight, Phase,
+    Reason, Regions, check_command, command_fields, join, minutes, read_command, write_command,
 )
-from known import BOTH, EXAMPLES, FIRST, FIVE, LONGEST, SECOND, Case, head
+from known import BOTH, EXAMPLES, FIRST, FIVE, LONGEST, SECOND, SEVEN, Case, head
 
 
 class Commands(Case):
@@ -26,12 +26,17 @@ class Commands(Case):
         scheme = read_command(head(5) + FIVE).ascent_scheme
         self.assertEqual(scheme, AscentScheme(1, 6, 90, 20, 51, 200, 2, 1))
         self.assertEqual((scheme.total_seconds, scheme.top_feet), (510, 20000))
+        descent = read_command(head(7) + b"004020011/").descent_scheme
+        self.assertEqual(descent, DescentScheme(0, 40, 200, 1, 1))
+        self.assertEqual(descent.top_feet, 20000)
+        self.assertIsNone(command.descent_scheme)
 
     def test_round_trips(self) -> None:
         texts = [
             eskelvor.NO_CHANGE, FIRST, SECOND, BOTH, LONGEST, head(2) + b"0000/", head(6) + b"0/", head(8) + b"1/",
             head(6, 8) + b"1/0/", head(2) + b"000190N90S180W180E/", head(2) + b"0210N10S170E170W10N10S180E180W00/",
             b"AWR040000000200000000/", head(9) + b"0000/",
+            head(7) + SEVEN, head(7) + b"030035010/", head(6, 7, 8) + b"1/" + SEVEN + b"0/",
         ]
         texts += (EXAMPLES / "evening.commands").read_bytes().split()
         for text in texts:
@@ -44,7 +49,9 @@ class Commands(Case):
             (b"", 8, 0), (b"AWR04", 8, 5), (b"AWR05", 3, 0), (eskelvor.NO_CHANGE + b"/", 8, 22), (head(2) + b"17", 5, 22),
             (head(4) + b"07x/", 4, 24), (b"AWR043999999000000000/", 4, 5), (head(4) + b"611/", 5, 22),
             (head(2) + b"0100S00S000E000E00/", 6, 24), (head(2) + b"0110N11N000E000E00/", 7, 27),
-            (b"AWR049999999000000700/", 4, 18), (LONGEST + b"/", 1, 0),
+            (b"AWR049999999000000600/", 4, 18), (LONGEST + b"/", 1, 0), (head(7), 8, 22),
+            (head(7) + b"204020021/", 4, 22), (head(7) + b"100920021/", 5, 23), (head(7) + b"130120021/", 5, 23),
+            (head(7) + b"104014921/", 5, 26), (head(7) + b"104020001/", 4, 29), (head(7) + b"104020022/", 4, 30),
         ]
         for text, code, place in cases:
             for call in (check_command, read_command, command_fields):
@@ -62,6 +69,12 @@ class Commands(Case):
             (Command(airports=Airports(("ABC",))), 4, 24), (Command(airports=Airports(21 * ("ABCD",))), 5, 22),
             (Command(ascent_scheme=AscentScheme(1, 6, 70000, 20, 51, 200, 2, 1)), 5, 25),
             (Command(ascent_scheme=AscentScheme(1, 6, 90, 20, 51, -5, 2, 1)), 5, 33),
+            (Command(descent_scheme=DescentScheme(2, 40, 200, 2, 1)), 4, 22),
+            (Command(descent_scheme=DescentScheme(1, 9, 200, 2, 1)), 5, 23),
+            (Command(descent_scheme=DescentScheme(1, 70000, 200, 2, 1)), 5, 23),
+            (Command(descent_scheme=DescentScheme(1, 40, 351, 2, 1)), 5, 26),
+            (Command(descent_scheme=DescentScheme(1, 40, 200, 3, 1)), 4, 29),
+            (Command(descent_scheme=DescentScheme(1, 40, 200, 2, -1)), 4, 30),
         ]
         for command, code, place in cases:
             self.refused(code, place, lambda: write_command(command))
@@ -91,6 +104,8 @@ class Commands(Case):
             "by time", "6 seconds", "90 seconds", "20 seconds", "510 seconds", "20000 feet", "list 2 of pressure levels",
             "on", "ends it",
         ])
+        scheme = [field.meaning for field in command_fields(head(7) + SEVEN) if field.name.startswith("section 7")]
+        self.assertEqual(scheme, ["by time", "40 seconds", "20000 feet", "list 2 of pressure levels", "on", "ends it"])
 
 
 class Joins(Case):
@@ -114,6 +129,7 @@ class Configurations(Case):
         self.assertEqual((settings.regions, settings.airports), (Regions(), Airports()))
         self.assertEqual((settings.level_flight, settings.hours), (LevelFlight(7, True), Hours(0, 0)))
         self.assertEqual(settings.ascent_scheme, AscentScheme(1, 6, 90, 20, 51, 200, 2, 1))
+        self.assertEqual(settings.descent_scheme, DescentScheme(1, 40, 200, 2, 1))
         self.assertEqual((settings.ascent_routine, settings.descent_routine), (True, True))
         self.assertEqual(Configuration(settings), Configuration())
 
@@ -123,11 +139,15 @@ class Configurations(Case):
         self.assertEqual(held.apply(BOTH), 1)
         self.assertEqual(held.settings.hours, Hours(23, 1))
         self.assertEqual(held.settings.level_flight, LevelFlight(30, False))
+        held.apply(head(7) + b"030035010/")
+        self.assertEqual(held.settings.descent_scheme, DescentScheme(0, 300, 350, 1, 0))
+        self.assertEqual(held.settings.hours, Hours(23, 1))
         self.assertEqual(before, Configuration())
         self.assertNotEqual(held, before)
         one_by_one = Configuration()
         one_by_one.apply(FIRST)
         one_by_one.apply(SECOND)
+        one_by_one.apply(head(7) + b"030035010/")
         self.assertEqual(one_by_one, held)
         self.assertEqual(Configuration(held.settings), held)
 
@@ -144,6 +164,8 @@ class Configurations(Case):
         for wrong in (
             replace(settings, flags=Flags()),
             replace(settings, hours=Hours(24, 0)),
+            replace(settings, descent_scheme=DescentScheme(1, 301, 200, 2, 1)),
+            replace(settings, descent_scheme=DescentScheme(0, 0, 0, 0, 0)),
             replace(settings, regions=Regions((Box(-1, 1, 0, 0),))),
             replace(settings, airports=Airports(("abcd",))),
         ):

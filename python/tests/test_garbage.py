@@ -13,7 +13,8 @@ from known import BOTH, FIRST, FULL, LONGEST, PRINTED, SECOND, Case
 def garbage(chance: random.Random, good: List[bytes]) -> bytes:
     """Random bytes, or a good text with a few of them changed, cut, or longer."""
     if chance.random() < 0.3:
-        return bytes(chance.randrange(256) for _ in range(chance.choice((0, 1, 2, 5, 6, 22, 219, 220, 221, 835, 836, 2000))))
+        length = chance.choice((0, 1, 2, 5, 6, 22, 219, 220, 221, 845, 846, 2000))
+        return bytes(chance.randrange(256) for _ in range(length))
     text = bytearray(chance.choice(good))
     for _ in range(chance.randrange(3)):
         text[chance.randrange(len(text))] = chance.choice(b"0123456789ABZK/ .:\r\n\0\xff")

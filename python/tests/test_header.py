@@ -4,7 +4,7 @@ import re
 from typing import List, NamedTuple, Optional, Tuple
 
 import eskelvor
-from known import FIVE, FULL, LONGEST, ROOT, Case, head
+from known import FIVE, FULL, LONGEST, ROOT, SEVEN, Case, head
 
 HEADER = (ROOT / "host" / "eskelvor.h").read_text(encoding="ascii")
 
@@ -146,11 +146,11 @@ class Report(Case):
             self.refused(4, 24, lambda: eskelvor.check_report(FULL[:24] + bytes([byte]) + FULL[25:]))
 
 
-SOUND = {2: b"0000", 3: b"000000000", 4: b"071", 5: FIVE[:-1], 6: b"1", 8: b"1", 9: b"0000"}
+SOUND = {2: b"0000", 3: b"000000000", 4: b"071", 5: FIVE[:-1], 6: b"1", 7: SEVEN[:-1], 8: b"1", 9: b"0000"}
 
 
 class Command(Case):
-    LINES = comment("the uplink command, 22 to 835 bytes", "#define ESK_COMMAND_BYTES")
+    LINES = comment("the uplink command, 22 to 845 bytes", "#define ESK_COMMAND_BYTES")
 
     def sections(self) -> dict:
         """The rows of each section: bytes and what is said."""
@@ -194,7 +194,7 @@ class Command(Case):
                         held += 1
                 at += width
         self.assertEqual(sorted(self.sections()), sorted(SOUND))
-        self.assertEqual(held, 49)
+        self.assertEqual(held, 67)
 
     def number(self, k: int, at: int, digits: bytes, sound: bool) -> None:
         text = head(k) + SOUND[k][:at] + digits + SOUND[k][at + len(digits) :] + b"/"
@@ -221,11 +221,11 @@ class Command(Case):
 
     def test_the_lengths(self) -> None:
         text = "\n".join(self.LINES)
-        for k in (4, 5, 9):
+        for k in range(4, 10):
             length = re.search(r"section %d, .*: (\d+) bytes" % k, text)
             assert length is not None
             self.assertEqual(int(length.group(1)), len(SOUND[k]) + 1)
-        total = re.search(r"that is ([\d +]+) = (\d+)", text)
+        total = re.search(r"that is ([\d +]+)\s+= (\d+)", text)
         assert total is not None
         self.assertEqual(sum(int(one) for one in total.group(1).split("+")), int(total.group(2)))
         self.assertEqual(int(total.group(2)), eskelvor.COMMAND_BYTES)

@@ -9,7 +9,7 @@ from unittest import mock
 
 import eskelvor
 from eskelvor import Configuration, Entry, Journal, _journal, _library, _refusals
-from known import BOTH, FIRST, FIVE, LONGEST, SECOND, Case, head
+from known import BOTH, FIRST, FIVE, LONGEST, SECOND, SEVEN, Case, head
 
 GUARD = 64
 MOST = eskelvor.JOURNAL_BYTES
@@ -20,8 +20,8 @@ EVERY_HOUR = head(4) + b"601/"
 FLEET = ("XY0001", "XY0002", "AU0137", "000000", "ZZZZZZ")
 ACCEPTED = [
     eskelvor.NO_CHANGE, FIRST, SECOND, BOTH, LONGEST, EVERY_HOUR, head(2) + b"0110N10S010W010E00/",
-    head(3) + b"01ABCD02EFGHIJKL00001/", head(5) + FIVE, head(6) + b"0/", head(8) + b"1/", head(9) + b"2301/",
-    b"AWR040000000200000000/", b"AWR041111111000000000/",
+    head(3) + b"01ABCD02EFGHIJKL00001/", head(5) + FIVE, head(6) + b"0/", head(7) + SEVEN, head(8) + b"1/",
+    head(9) + b"2301/", b"AWR040000000200000000/", b"AWR041111111000000000/",
 ]
 REFUSED: List[Tuple[bytes, int, int]] = [
     (b"", 8, 0), (b"AWR04", 8, 5), (b"AWR05", 3, 0), (eskelvor.NO_CHANGE + b"/", 8, 22), (head(2) + b"17", 5, 22),
@@ -362,7 +362,7 @@ class Limits(Broken):
 
     def test_65535_bytes(self) -> None:
         lent = Lent(MOST + 1, self)
-        for text, times in ((LONGEST, 77), (EVERY_HOUR, 5), (eskelvor.NO_CHANGE, 11)):
+        for text, times in ((LONGEST, 75), (EVERY_HOUR, 7), (eskelvor.NO_CHANGE, 39)):
             for _ in range(times):
                 lent.add("XY0001", text)
         self.refused(2, 0, lambda: lent.journal.add("XY0002", EVERY_HOUR), kind=eskelvor.NoRoom)
@@ -438,7 +438,7 @@ class Night(Case):
         chance = random.Random(9)
         night = [(chance.choice(FLEET), chance.choice(ACCEPTED)) for _ in range(40)]
         for n in range(len(night) + 1):
-            lent = Lent(40 * 844, self)
+            lent = Lent(40 * (eskelvor.COMMAND_BYTES + 9), self)
             rest = Journal()
             for i, (designator, text) in enumerate(night):
                 lent.add(designator, text)
