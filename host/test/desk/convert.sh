@@ -1,10 +1,11 @@
 #!/bin/sh
-# Files from before section 7, as a program of version 3.3.0 kept them (older/): refused with a way over, carried over
-# whole, and used from then on.
+# Files from before section 7, as a program of version 3.3.0 kept them (examples/older.*): refused with a way over, carried
+# over whole, and used from then on.
 . "$(dirname "$0")/cases.sh"
-older=$root/host/test/desk/older
 cd "$scratch"
-cp "$older"/* .
+cp "$examples/older.board" board
+cp "$examples/older.configuration" config
+cp "$examples/older.journal" journal
 way="from before section 7: its commands are carried over into a new one by eskelvor board OLD convert NEW"
 
 for words in list check 'add AU0137 AWR049999999000000000/' 'take AU0137' 'return AU0137 AWR049999999000000000/' \
@@ -20,7 +21,7 @@ json_has results.0.about=board "results.0.error=a board's file of format version
 
 answers 0 'carried over' board board convert tonight
 out_is 'tonight: a board of 4 slots, 2 of them used, as in board, which is left as it is'
-cmp -s board "$older/board" || fail 'the old board is another'
+cmp -s board "$examples/older.board" || fail 'the old board is another'
 answers 0 'what waits is all there, each in its slot' board tonight list --json
 long=$(eskelvor journal journal list | sed -n 's/^0 XY0001 //p')
 [ ${#long} = 835 ] || fail 'not the longest command of that time'
@@ -39,7 +40,7 @@ err_is 'eskelvor: tonight: there is a file of this name already; it is left as i
 cmp -s tonight kept || fail 'it was replaced'
 answers 2 'the old board itself, too' board board convert board
 err_is 'eskelvor: board: there is a file of this name already; it is left as it is'
-cmp -s board "$older/board" || fail 'it was replaced'
+cmp -s board "$examples/older.board" || fail 'it was replaced'
 answers 2 'what is new already' board tonight convert other
 err_is "eskelvor: tonight: a board's file of format version 2, which is read as it is; there is nothing to convert"
 answers 2 'no new name' board board convert
@@ -75,7 +76,7 @@ out_is 'held: the configuration of config, which is left as it is' \
     'section 7, which that had not, is as after reset: the descent scheme' '  mode 1: samples by time' \
     '  series: every 40 seconds' '  top of the descent: 20000 feet' '  list of pressure levels: 2' \
     '  timer for level stretches: on'
-cmp -s config "$older/config" || fail 'the old one is another'
+cmp -s config "$examples/older.configuration" || fail 'the old one is another'
 answers 0 'all else is as it was' apply -c held --json
 before=$(sed -n 2p config)
 [ "$before" = AWR041100101023456089/0000/000000000/300/1060902005120021/1/0/2301/ ] || fail 'another one was kept'
