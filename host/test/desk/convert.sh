@@ -46,10 +46,10 @@ err_is "eskelvor: tonight: a board's file of format version 2, which is read as 
 answers 2 'no new name' board board convert
 err_is 'eskelvor: convert: give the file of the new board'
 answers 2 'two of them' board board convert one two
-[ ! -e other ] && [ ! -e one ] || fail 'something was made'
-head -c 3000 board >cut
-answers 1 'a board that is cut' board cut convert other
-err_is 'eskelvor: cut: refused: code 10 at byte 0: the board is not valid: the file is cut short: 3000 bytes of 3392'
+{ [ ! -e other ] && [ ! -e one ]; } || fail 'something was made'
+head -c 3000 board >short
+answers 1 'a board that is cut' board short convert other
+err_is 'eskelvor: short: refused: code 10 at byte 0: the board is not valid: the file is cut short: 3000 bytes of 3392'
 { head -c 60 board && printf X && tail -c +62 board; } >damaged
 answers 1 'a damaged one' board damaged convert other
 err_is 'eskelvor: damaged: refused: code 10 at byte 0: the board is not valid: the file is damaged: its checksum is not that of its bytes'
@@ -93,7 +93,7 @@ sed 's/2301/2302/' config >damaged
 answers 1 'a damaged one' config damaged convert other2
 err_has 'eskelvor: damaged: refused: code 12 at byte 0: the configuration is not valid: the file is cut or damaged: '
 answers 2 'one that is not there' config nowhere convert other2
-[ ! -e other2 ] && [ ! -e .nowhere.eskelvor-lock ] || fail 'something was made'
+{ [ ! -e other2 ] && [ ! -e .nowhere.eskelvor-lock ]; } || fail 'something was made'
 answers 0 'for a machine' config config convert other2 --json
 json_has results.0.accepted=true results.0.file=other2 \
     results.0.configuration=AWR041100101023456789/0000/000000000/300/1060902005120021/1/104020021/0/2301/ status=0
