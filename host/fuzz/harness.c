@@ -104,7 +104,7 @@ static void show(const char *name, const uint8_t *bytes, size_t length)
     fprintf(stderr, "\n");
 }
 
-/* Shows a run of bytes from somewhat before the first difference on: an area of a board has 53,000. */
+/* Shows a run of bytes from somewhat before the first difference on: an area of a board has 54,000. */
 static void differ(const char *part, const uint8_t *ours, const uint8_t *second, size_t length)
 {
     size_t at = 0;
