@@ -11,7 +11,10 @@ pub fn command(random: &mut Random, of: &mut Command) {
     match random.below(9) {
         0 => of.settings.flags[random.below(7)] = random.of(&[2, 8, 10, b'0', b'1', b'9', 255, 9]),
         1 => of.downlink = random.of(&[3, 9, b'0', 255]),
-        2 => of.named[number] = random.of(&[0, 1, 7, 9, number as u8 + 1, number as u8 + 2, number as u8 + 3, b'2']),
+        2 => {
+            of.named[number] =
+                random.of(&[0, 1, 7, 9, b'7', number as u8 + 1, number as u8 + 2, number as u8 + 3, b'2'])
+        }
         3 => of.named[number] = 0,
         4 => of.spare = random.of(&[1, 2, 9, b'/', 128, 255]),
         _ => settings(random, &mut of.settings),
@@ -22,7 +25,7 @@ pub fn command(random: &mut Random, of: &mut Command) {
 pub fn settings(random: &mut Random, of: &mut Settings) {
     let at_end =
         |random: &mut Random, low: u8, high: u8| random.of(&[low.wrapping_sub(1), low, high, high + 1, 0, 255]);
-    match random.below(16) {
+    match random.below(17) {
         0..=3 => {
             let list = random.below(2);
             boxes(random, if list == 0 { &mut of.regions.reporting } else { &mut of.regions.inhibiting });
@@ -39,7 +42,8 @@ pub fn settings(random: &mut Random, of: &mut Settings) {
         10 => of.enroute.wind = at_end(random, 0, 1),
         11 | 12 => ascent(random, of),
         13 => *random.of_mut([&mut of.routine6, &mut of.routine8]) = random.of(&[0, 1, 2, b'1', 255]),
-        14 => *random.of_mut([&mut of.hours.start, &mut of.hours.end]) = random.of(&[0, 23, 24, 25, 255]),
+        14 => descent(random, of),
+        15 => *random.of_mut([&mut of.hours.start, &mut of.hours.end]) = random.of(&[0, 23, 24, 25, 255]),
         _ => of.flags[random.below(7)] = random.of(&[0, 1, 2, 9, 255]),
     }
 }
@@ -62,6 +66,17 @@ fn ascent(random: &mut Random, of: &mut Settings) {
         5 => ascent.top = random.of(&[0, 149, 150, 350, 351, 256, 0xffff]),
         6 => ascent.list = random.of(&[0, 1, 2, 3, b'1', 255]),
         _ => ascent.timer = random.of(&[0, 1, 2, 255]),
+    }
+}
+
+fn descent(random: &mut Random, of: &mut Settings) {
+    let descent = &mut of.descent;
+    match random.below(5) {
+        0 => descent.mode = random.of(&[0, 1, 2, 256, 257, 0x3030, 0xffff]),
+        1 => descent.interval = random.of(&[0, 9, 10, 300, 301, 256, 266, 999, 1000, 0xffff]),
+        2 => descent.top = random.of(&[0, 149, 150, 350, 351, 256, 0xffff]),
+        3 => descent.list = random.of(&[0, 1, 2, 3, b'1', 255]),
+        _ => descent.timer = random.of(&[0, 1, 2, 255]),
     }
 }
 

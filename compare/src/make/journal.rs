@@ -45,13 +45,14 @@ pub fn short(random: &mut Random) -> Vec<u8> {
     uplink::text(&uplink::short_command(random))
 }
 
-/// Three commands joined, up to 835 bytes.
+/// Three commands joined.
 fn joined(random: &mut Random) -> Vec<u8> {
     let mut text = uplink::text(&uplink::command(random));
     for _ in 0..2 {
         let mut out = vec![0; MOST];
         let next = uplink::text(&uplink::command(random));
-        let length = join::join(&text, &next, &mut out).expect("accepted texts join within 835 bytes");
+        let length =
+            join::join(&text, &next, &mut out).expect("accepted texts join within the longest command's bytes");
         out.truncate(length);
         text = out;
     }

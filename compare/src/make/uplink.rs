@@ -105,6 +105,7 @@ fn sections(random: &mut Random, lists: Lists) -> Sections {
         enroute: numbers(random, &ENROUTE),
         ascent: numbers(random, &ASCENT),
         routine6: numbers(random, &ROUTINE),
+        descent: numbers(random, &DESCENT),
         routine8: numbers(random, &ROUTINE),
         hours: numbers(random, &HOURS),
     }
@@ -112,8 +113,7 @@ fn sections(random: &mut Random, lists: Lists) -> Sections {
 
 /// A command that names the sections whose bits are set, from that of section 2 on.
 pub fn command_of(random: &mut Random, bits: u32, lists: Lists) -> Command {
-    let named: [u8; 8] =
-        std::array::from_fn(|index| if bits >> index & 1 == 1 && index != 5 { index as u8 + 2 } else { 0 });
+    let named: [u8; 8] = std::array::from_fn(|index| if bits >> index & 1 == 1 { index as u8 + 2 } else { 0 });
     let all = sections(random, lists);
     let mut sections = Sections::default();
     for number in named {
@@ -123,6 +123,7 @@ pub fn command_of(random: &mut Random, bits: u32, lists: Lists) -> Command {
             4 => sections.enroute = all.enroute,
             5 => sections.ascent = all.ascent,
             6 => sections.routine6 = all.routine6,
+            7 => sections.descent = all.descent,
             8 => sections.routine8 = all.routine8,
             9 => sections.hours = all.hours,
             _ => (),
@@ -184,9 +185,9 @@ pub fn configuration(random: &mut Random) -> Configuration {
 }
 
 /// Numbers at and past the ends of the ranges, as they would be spelt.
-const SPELT: [&[u8]; 26] = [
+const SPELT: [&[u8]; 30] = [
     b"00", b"01", b"16", b"17", b"20", b"21", b"60", b"61", b"03", b"02", b"23", b"24", b"90", b"91", b"99", b"029",
-    b"030", b"600", b"601", b"050", b"051", b"111", b"112", b"149", b"351", b"181",
+    b"030", b"600", b"601", b"050", b"051", b"111", b"112", b"149", b"351", b"181", b"009", b"010", b"300", b"301",
 ];
 
 /// One damage to a text; most leave its length as it is.

@@ -87,6 +87,7 @@ pub fn configuration(from: &Configuration) -> ours::Settings {
 fn settings(flags: Flags, sections: &Sections) -> ours::Settings {
     let byte = |number: u16| u8::try_from(number).expect("a byte in the header");
     let [mode, interval1, duration, interval2, total, top, list, timer] = sections.ascent;
+    let [descent_mode, interval, descent_top, descent_list, descent_timer] = sections.descent;
     let [reporting, inhibiting] = sections.boxes.map(boxes);
     let lists = sections.airfields.map(|list| ours::Airfields { count: list.count, names: list.entries });
     ours::Settings {
@@ -107,6 +108,13 @@ fn settings(flags: Flags, sections: &Sections) -> ours::Settings {
             top,
             list: byte(list),
             timer: byte(timer),
+        },
+        descent: ours::Descent {
+            mode: descent_mode,
+            interval,
+            top: descent_top,
+            list: byte(descent_list),
+            timer: byte(descent_timer),
         },
         routine6: byte(sections.routine6[0]),
         routine8: byte(sections.routine8[0]),
@@ -132,6 +140,7 @@ pub fn meant_settings(from: &ours::Settings) -> Configuration {
     let number = u16::from;
     let ours::Ascent { mode, interval1, duration, interval2, total, top, list, timer } = from.ascent;
     let [mode, interval1, interval2, total] = [mode, interval1, interval2, total].map(number);
+    let descent = from.descent;
     let sections = Sections {
         boxes: [from.regions.reporting, from.regions.inhibiting].map(meant_boxes),
         airfields: lists.map(|list| Airfields { count: list.count, entries: list.names }),
@@ -139,6 +148,7 @@ pub fn meant_settings(from: &ours::Settings) -> Configuration {
         enroute: [from.enroute.interval, from.enroute.wind].map(number),
         ascent: [mode, interval1, duration, interval2, total, top, number(list), number(timer)],
         routine6: [number(from.routine6)],
+        descent: [descent.mode, descent.interval, descent.top, number(descent.list), number(descent.timer)],
         routine8: [number(from.routine8)],
         hours: [from.hours.start, from.hours.end].map(number),
     };

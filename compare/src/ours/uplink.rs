@@ -78,6 +78,16 @@ pub struct Ascent {
 
 #[repr(C)]
 #[derive(Clone, Copy, Debug, Default, PartialEq, Eq)]
+pub struct Descent {
+    pub mode: u16,
+    pub interval: u16,
+    pub top: u16,
+    pub list: u8,
+    pub timer: u8,
+}
+
+#[repr(C)]
+#[derive(Clone, Copy, Debug, Default, PartialEq, Eq)]
 pub struct Hours {
     pub start: u8,
     pub end: u8,
@@ -91,6 +101,7 @@ pub struct Settings {
     pub airports: Airports,
     pub enroute: Enroute,
     pub ascent: Ascent,
+    pub descent: Descent,
     pub routine6: u8,
     pub routine8: u8,
     pub hours: Hours,
@@ -165,13 +176,16 @@ const _: () = {
     assert!(size_of::<Regions>() == 258 && size_of::<Airports>() == 325 && size_of::<Ascent>() == 10);
     assert!(offset_of!(Ascent, duration) == 2 && offset_of!(Ascent, interval2) == 4);
     assert!(offset_of!(Ascent, top) == 6 && offset_of!(Ascent, list) == 8);
-    assert!(size_of::<Settings>() == 606 && align_of::<Settings>() == 2);
+    assert!(size_of::<Descent>() == 8 && offset_of!(Descent, interval) == 2 && offset_of!(Descent, top) == 4);
+    assert!(offset_of!(Descent, list) == 6 && offset_of!(Descent, timer) == 7);
+    assert!(size_of::<Settings>() == 614 && align_of::<Settings>() == 2);
     assert!(offset_of!(Settings, regions) == 7 && offset_of!(Settings, airports) == 265);
     assert!(offset_of!(Settings, enroute) == 590 && offset_of!(Settings, ascent) == 592);
-    assert!(offset_of!(Settings, routine6) == 602 && offset_of!(Settings, hours) == 604);
-    assert!(size_of::<Command>() == 616 && offset_of!(Command, downlink) == 606);
-    assert!(offset_of!(Command, named) == 607 && offset_of!(Command, spare) == 615);
-    assert!(size_of::<CommandGot>() == 632 && offset_of!(CommandGot, command) == 16);
+    assert!(offset_of!(Settings, descent) == 602 && offset_of!(Settings, routine6) == 610);
+    assert!(offset_of!(Settings, routine8) == 611 && offset_of!(Settings, hours) == 612);
+    assert!(size_of::<Command>() == 624 && offset_of!(Command, downlink) == 614);
+    assert!(offset_of!(Command, named) == 615 && offset_of!(Command, spare) == 623);
+    assert!(size_of::<CommandGot>() == 640 && offset_of!(CommandGot, command) == 16);
     assert!(size_of::<Applied>() == 16 && offset_of!(Applied, downlink) == 9);
     assert!(size_of::<Decided>() == 16 && offset_of!(Decided, code) == 8 && offset_of!(Decided, decision) == 9);
     assert!(size_of::<Explained>() == 16 && offset_of!(Explained, code) == 8 && offset_of!(Explained, decision) == 9);

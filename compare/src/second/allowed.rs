@@ -12,7 +12,7 @@ pub fn command(command: &Command) -> Result<usize, Refusal> {
     must(command.downlink <= 2, BYTE, 12)?;
     for (index, &named) in command.named.iter().enumerate() {
         let own = index as u8 + 2;
-        must(named == 0 || named == own && own != 7, BYTE, 13 + index)?;
+        must(named == 0 || named == own, BYTE, 13 + index)?;
     }
     must(command.spare == 0, DISAGREE, SPARE)?;
     let mut at = HEAD;
@@ -35,7 +35,7 @@ fn must(fine: bool, code: u8, at: usize) -> Result<(), Refusal> {
     }
 }
 
-/// One section that begins at a place; gives the place behind its delimiter. There is no section 7.
+/// One section, 2 to 9, that begins at a place; gives the place behind its delimiter.
 #[inline(always)]
 pub fn section(number: usize, of: &Sections, mut at: usize) -> Result<usize, Refusal> {
     match number {
@@ -53,9 +53,9 @@ pub fn section(number: usize, of: &Sections, mut at: usize) -> Result<usize, Ref
         4 => at = numbers(&ENROUTE, &of.enroute, at)?,
         5 => at = numbers(&ASCENT, &of.ascent, at)?,
         6 => at = numbers(&ROUTINE, &of.routine6, at)?,
+        7 => at = numbers(&DESCENT, &of.descent, at)?,
         8 => at = numbers(&ROUTINE, &of.routine8, at)?,
-        9 => at = numbers(&HOURS, &of.hours, at)?,
-        _ => return Ok(at),
+        _ => at = numbers(&HOURS, &of.hours, at)?,
     }
     Ok(at + 1)
 }
@@ -68,9 +68,9 @@ fn zero(number: usize, of: &Sections) -> bool {
         4 => of.enroute == [0; 2],
         5 => of.ascent == [0; 8],
         6 => of.routine6 == [0],
+        7 => of.descent == [0; 5],
         8 => of.routine8 == [0],
-        9 => of.hours == [0; 2],
-        _ => true,
+        _ => of.hours == [0; 2],
     }
 }
 

@@ -1,4 +1,4 @@
-//! The board of waiting commands: slots that the caller lends, and 835 bytes of text for each.
+//! The board of waiting commands: slots that the caller lends, and the longest command's bytes of text for each.
 
 use super::join::parts;
 use super::record::named;
@@ -28,8 +28,8 @@ pub fn check(slots: &[Slot], area: &[u8]) -> Result<(), Refusal> {
     }
 }
 
-/// "At most 64 slots, an area of exactly 835 bytes for each, used designators well formed and different, used texts
-/// accepted."
+/// "At most 64 slots, an area of exactly" the longest command's "bytes for each, used designators well formed and
+/// different, used texts accepted."
 fn valid(slots: &[Slot], area: &[u8]) -> bool {
     if slots.len() > SLOTS || area.len() != MOST * slots.len() {
         return false;

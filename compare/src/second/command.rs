@@ -79,7 +79,6 @@ fn head(text: &[u8]) -> Result<(), Refusal> {
         let allowed = match at {
             5..=11 => matches!(byte, b'0' | b'1' | b'9'),
             12 => matches!(byte, b'0'..=b'2'),
-            18 => byte == b'0',
             _ => byte == b'0' || usize::from(byte) == usize::from(b'0') + at - INDICATOR,
         };
         if !allowed {
@@ -107,6 +106,7 @@ fn section(number: usize, text: &[u8], mut at: usize, keep: &mut impl Keep) -> R
         4 => at = numbers(4, &ENROUTE, text, at, keep)?,
         5 => at = numbers(5, &ASCENT, text, at, keep)?,
         6 | 8 => at = numbers(number, &ROUTINE, text, at, keep)?,
+        7 => at = numbers(7, &DESCENT, text, at, keep)?,
         _ => at = numbers(9, &HOURS, text, at, keep)?,
     }
     delimiter(text, at)
@@ -260,6 +260,7 @@ impl Keep for Sections {
             4 => self.enroute[index] = number,
             5 => self.ascent[index] = number,
             6 => self.routine6[index] = number,
+            7 => self.descent[index] = number,
             8 => self.routine8[index] = number,
             _ => self.hours[index] = number,
         }

@@ -4,7 +4,7 @@ use super::settings::*;
 use super::{allowed, command, refuse, Refusal, SETTINGS};
 
 /// "After reset: flags 1 0 0 0 1 1 1; counts 00; routine 0 in section 3, 1 in 6 and 8; 4 is 07, 1; 5 is 1, 06, 090, 20,
-/// 051, 200, 2, 1; 9 is 00, 00."
+/// 051, 200, 2, 1; 9 is 00, 00." Section 7's defaults are those of source document 003: 1, 040, 200, 2, 1.
 pub fn reset() -> Configuration {
     Configuration {
         flags: [1, 0, 0, 0, 1, 1, 1],
@@ -15,6 +15,7 @@ pub fn reset() -> Configuration {
             enroute: [7, 1],
             ascent: [1, 6, 90, 20, 51, 200, 2, 1],
             routine6: [1],
+            descent: [1, 40, 200, 2, 1],
             routine8: [1],
             hours: [0, 0],
         },

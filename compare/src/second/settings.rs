@@ -50,6 +50,7 @@ pub struct Sections {
     pub enroute: [u16; 2],
     pub ascent: [u16; 8],
     pub routine6: [u16; 1],
+    pub descent: [u16; 5],
     pub routine8: [u16; 1],
     pub hours: [u16; 2],
 }
@@ -108,6 +109,8 @@ pub const ASCENT: [Number; 8] = [
     mark(1, 2),
     mark(0, 1),
 ];
+/// Mode, interval, top, list, timer: source document 003, Table 4.3.10.7-1.
+pub const DESCENT: [Number; 5] = [mark(0, 1), number(3, 10, 300), number(3, 150, 350), mark(1, 2), mark(0, 1)];
 /// Start and end hour.
 pub const HOURS: [Number; 2] = [number(2, 0, 23), number(2, 0, 23)];
 
@@ -147,6 +150,17 @@ pub const SPARE: usize = 21;
 /// "Each section number has its own length": the longest of each, and of a command.
 const BOXES_MOST: usize = 2 * (2 + 16 * 14) + 1;
 const AIRFIELDS_MOST: usize = 4 * (2 + 20 * 4) + 1 + 1;
-const SHORT: usize = (2 + 1 + 1) + (1 + 2 + 3 + 2 + 3 + 3 + 1 + 1 + 1) + 2 + 2 + (2 + 2 + 1);
+const SHORT: usize =
+    short(&ENROUTE) + short(&ASCENT) + short(&ROUTINE) + short(&DESCENT) + short(&ROUTINE) + short(&HOURS);
 pub const MOST: usize = HEAD + BOXES_MOST + AIRFIELDS_MOST + SHORT;
-const _: () = assert!(MOST == 835);
+const _: () = assert!(short(&DESCENT) == 10 && MOST == 845);
+
+/// The bytes of a row of numbers and its delimiter.
+const fn short(row: &[Number]) -> usize {
+    let (mut bytes, mut index) = (1, 0);
+    while index < row.len() {
+        bytes += row[index].bytes;
+        index += 1;
+    }
+    bytes
+}

@@ -68,6 +68,7 @@ impl Text<'_> {
             4 => self.numbers(&ENROUTE, &of.enroute),
             5 => self.numbers(&ASCENT, &of.ascent),
             6 => self.numbers(&ROUTINE, &of.routine6),
+            7 => self.numbers(&DESCENT, &of.descent),
             8 => self.numbers(&ROUTINE, &of.routine8),
             _ => self.numbers(&HOURS, &of.hours),
         }

@@ -25,7 +25,7 @@ fn airfields(name: &str, list: &Airfields) -> String {
 
 /// The lines of a configuration.
 pub fn settings(of: &Settings) -> Vec<String> {
-    let ascent = &of.ascent;
+    let Settings { enroute, ascent, descent, hours, .. } = of;
     vec![
         format!("flags {:?}", of.flags),
         boxes("reporting", &of.regions.reporting),
@@ -35,7 +35,7 @@ pub fn settings(of: &Settings) -> Vec<String> {
         airfields("ascent inhibited", &of.airports.inhibited.ascent),
         airfields("descent inhibited", &of.airports.inhibited.descent),
         format!("routine of section 3 {}, 6 {}, 8 {}", of.airports.routine, of.routine6, of.routine8),
-        format!("{:?} {:?} {ascent:?}", of.enroute, of.hours),
+        format!("{enroute:?} {hours:?} {ascent:?} {descent:?}"),
     ]
 }
 

@@ -5,20 +5,22 @@ use crate::figures::{JOIN, NO_CHANGE};
 use crate::second::settings::{Edge, MOST};
 use crate::second::{command, spell};
 
-/// Commands that name section 2, 3 or 5 only, without the section.
+/// Commands that name section 2, 3, 5 or 7 only, without the section.
 pub const H2: &str = "AWR049999999020000000/";
 pub const H3: &str = "AWR049999999003000000/";
 pub const H5: &str = "AWR049999999000050000/";
+pub const H7: &str = "AWR049999999000000700/";
 
-/// Section 5 as after reset.
+/// Sections 5 and 7 as after reset.
 pub const FIVE: &str = "1060902005120021/";
+pub const SEVEN: &str = "104020021/";
 
 /// The longest command: every list full.
 pub fn longest() -> String {
     let box_ = "90N90S180W180E".repeat(16);
     let names = "ABCD".repeat(20);
     let [two, three] = [format!("16{box_}16{box_}/"), format!("20{names}20{names}20{names}20{names}1/")];
-    format!("AWR041111111223456089/{two}{three}601/{FIVE}1/0/2301/")
+    format!("AWR041111111223456789/{two}{three}601/{FIVE}1/{SEVEN}0/2301/")
 }
 
 /// Check and read agree; an accepted text writes back the same bytes.
@@ -52,13 +54,14 @@ fn printed_commands() {
 #[test]
 fn what_the_longest_command_holds() {
     let record = command::read(longest().as_bytes()).unwrap();
-    assert_eq!((record.flags, record.downlink, record.named), ([1; 7], 2, [2, 3, 4, 5, 6, 0, 8, 9]));
+    assert_eq!((record.flags, record.downlink, record.named), ([1; 7], 2, [2, 3, 4, 5, 6, 7, 8, 9]));
     let sections = record.sections;
     assert_eq!(sections.boxes[1].entries[15].south, Edge { degrees: 90, letter: b'S' });
     assert_eq!(sections.boxes[0].entries[0].west, Edge { degrees: 180, letter: b'W' });
     assert_eq!((sections.airfields[3].count, sections.airfields[3].entries[19]), (20, *b"ABCD"));
     assert_eq!((sections.airports, sections.enroute), ([1], [60, 1]));
     assert_eq!(sections.ascent, [1, 6, 90, 20, 51, 200, 2, 1]);
+    assert_eq!(sections.descent, [1, 40, 200, 2, 1]);
     assert_eq!((sections.routine6, sections.routine8, sections.hours), ([1], [0], [23, 1]));
 }
 
@@ -76,7 +79,10 @@ fn heads() {
         ("AWR049999999000000000.", (3, 21)),
         ("AWR049999999000000000/x", (8, 22)),
         ("AWR049999999000000000//", (8, 22)),
-        ("AWR049999999000000700/", (4, 18)),
+        ("AWR049999999000000700/", (8, 22)),
+        ("AWR049999999000000600/", (4, 18)),
+        ("AWR049999999000000800/", (4, 18)),
+        ("AWR049999999000000/00/", (4, 18)),
         ("AWR049999999002000000/", (4, 14)),
         ("AWR049999999030000000/", (4, 13)),
         ("AWR04999999900000000/", (4, 20)),
@@ -144,6 +150,44 @@ fn sections_of_readings() {
     for (head, section, want) in cases {
         assert_eq!(refusal(format!("{head}{section}").as_bytes()), want, "{head} {section}");
     }
+}
+
+/// Source document 003, Table 4.3.10.7-1, and the section that source document 000 prints.
+#[test]
+fn the_descent_section() {
+    assert_eq!(refusal(format!("{H7}{SEVEN}").as_bytes()), (0, 0));
+    assert_eq!(refusal(format!("{H7}004020011/").as_bytes()), (0, 0));
+    let cases = [
+        (0, "0", (0, 0)),
+        (0, "2", (4, 22)),
+        (0, "/", (4, 22)),
+        (1, "009", (5, 23)),
+        (1, "010", (0, 0)),
+        (1, "300", (0, 0)),
+        (1, "301", (5, 23)),
+        (1, "0x0", (4, 23)),
+        (4, "149", (5, 26)),
+        (4, "150", (0, 0)),
+        (4, "350", (0, 0)),
+        (4, "351", (5, 26)),
+        (4, "35:", (4, 26)),
+        (7, "0", (4, 29)),
+        (7, "1", (0, 0)),
+        (7, "3", (4, 29)),
+        (8, "0", (0, 0)),
+        (8, "2", (4, 30)),
+        (9, "I", (3, 31)),
+    ];
+    for (at, bytes, want) in cases {
+        let mut section = SEVEN.to_string();
+        section.replace_range(at..at + bytes.len(), bytes);
+        assert_eq!(refusal(format!("{H7}{section}").as_bytes()), want, "{section}");
+    }
+    for (length, place) in [(0, 22), (1, 23), (3, 23), (4, 26), (6, 26), (7, 29), (8, 30), (9, 31)] {
+        assert_eq!(refusal(format!("{H7}{}", &SEVEN[..length]).as_bytes()), (8, place), "{length} bytes");
+    }
+    assert_eq!(refusal(format!("AWR049999999000006780/1/{SEVEN}0/").as_bytes()), (0, 0), "between 6 and 8");
+    assert_eq!(refusal(format!("AWR049999999000006780/1/0/{SEVEN}").as_bytes()), (4, 25));
 }
 
 #[test]

@@ -1,12 +1,13 @@
 //! Joining.
 
 use super::code;
-use super::commands::{longest, H2, H3};
+use super::commands::{longest, H2, H3, H7, SEVEN};
 use crate::figures::{JOIN, NO_CHANGE};
 use crate::second::join::{join, Fault};
+use crate::second::settings::MOST;
 
 pub fn joined(first: &[u8], second: &[u8]) -> Vec<u8> {
-    let mut out = [b'#'; 840];
+    let mut out = [b'#'; MOST + 5];
     let length = join(first, second, &mut out).unwrap();
     assert!(out[length..].iter().all(|&byte| byte == b'#'));
     out[..length].to_vec()
@@ -33,11 +34,17 @@ fn lists_are_replaced_and_the_larger_downlink_is_kept() {
     let both = "AWR049999999223000000/0110N10S010W010E00/0001ABCD00000/";
     assert_eq!(joined(one.as_bytes(), three.as_bytes()), both.as_bytes());
     assert_eq!(joined(three.as_bytes(), one.as_bytes()), both.as_bytes());
+    let [seven, eight] = [format!("{H7}{SEVEN}"), "AWR049999999000006089/1/0/2301/".to_string()];
+    let all = format!("AWR049999999000006789/1/{SEVEN}0/2301/");
+    assert_eq!(joined(seven.as_bytes(), eight.as_bytes()), all.as_bytes());
+    assert_eq!(joined(eight.as_bytes(), seven.as_bytes()), all.as_bytes());
+    let other = format!("{H7}004020011/");
+    assert_eq!(joined(all.as_bytes(), other.as_bytes()), all.replace(SEVEN, "004020011/").as_bytes());
 }
 
 #[test]
 fn refusals_in_order() {
-    let long = [b'x'; 836];
+    let long = [b'x'; MOST + 1];
     let cases: [([&[u8]; 2], u8, _); 6] = [
         ([b"", &long], 1, code(8, 0)),
         ([&long, b""], 1, code(1, 0)),

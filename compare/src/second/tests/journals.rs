@@ -7,7 +7,7 @@ use crate::make::uplink::{short_command, text};
 use crate::random::Random;
 use crate::second::config;
 use crate::second::journal::*;
-use crate::second::settings::Configuration;
+use crate::second::settings::{Configuration, MOST};
 use crate::second::Refusal;
 
 /// An entry's bytes, whatever its parts hold.
@@ -145,7 +145,7 @@ fn every_truncation() {
 fn limits() {
     let mut buffer = vec![b'#'; BYTES + 100];
     let (full, mut end) = (longest(), 0);
-    while end + 2 * 844 <= BYTES {
+    while end + 2 * (full.len() + 9) <= BYTES {
         end = add(&mut buffer, end, b"XY0001", full.as_bytes()).unwrap();
     }
     while end + 31 + 35 <= BYTES {
@@ -192,7 +192,7 @@ fn order_of_refusals_when_adding() {
     }
     assert_eq!(add(&mut buffer, 31, b"XY0001", b""), Err(code(8, 0)));
     assert_eq!(add(&mut buffer, 31, b"XY0001", b"AWR04"), Err(code(8, 5)));
-    assert_eq!(add(&mut buffer, 31, b"XY0001", &[b'0'; 836]), Err(code(1, 0)));
+    assert_eq!(add(&mut buffer, 31, b"XY0001", &[b'0'; MOST + 1]), Err(code(1, 0)));
     assert_eq!(add(&mut buffer, 31, b"XY0001", NO_CHANGE), Err(code(2, 0)));
     assert_eq!(buffer, entry(b"XY0001", NO_CHANGE));
     assert_eq!(add(&mut buffer, 0, b"XY0009", NO_CHANGE), Ok(31));

@@ -1,9 +1,9 @@
 //! Records that are not allowed, and the configuration: reset, validity, applying.
 
 use super::code;
-use super::commands::{longest, FIVE, H2, H3};
+use super::commands::{longest, FIVE, H2, H3, SEVEN};
 use crate::figures::NO_CHANGE;
-use crate::second::settings::{Command, Configuration, Edge};
+use crate::second::settings::{Command, Configuration, Edge, MOST};
 use crate::second::{command, config, spell, Refusal};
 
 fn read(text: &str) -> Command {
@@ -13,18 +13,19 @@ fn read(text: &str) -> Command {
 #[test]
 fn records_not_allowed() {
     type Change = fn(&mut Command);
-    let cases: [(Change, Refusal); 36] = [
+    let cases: [(Change, Refusal); 43] = [
         (|c| c.flags[0] = 2, code(4, 5)),
         (|c| c.flags[6] = b'1', code(4, 11)),
         (|c| c.downlink = 3, code(4, 12)),
         (|c| c.named[0] = 3, code(4, 13)),
-        (|c| c.named[5] = 7, code(4, 18)),
+        (|c| c.named[5] = 6, code(4, 18)),
         (|c| c.named[0] = 0, code(7, 22)),
         (|c| c.named[1] = 0, code(7, 475)),
         (|c| c.named[2] = 0, code(7, 805)),
         (|c| c.named[3] = 0, code(7, 809)),
         (|c| c.named[4] = 0, code(7, 826)),
-        (|c| c.named[7] = 0, code(7, 830)),
+        (|c| c.named[5] = 0, code(7, 828)),
+        (|c| c.named[7] = 0, code(7, 840)),
         (|c| c.sections.boxes[0].count = 17, code(5, 22)),
         (|c| c.sections.boxes[0].count = 15, code(7, 22)),
         (|c| c.sections.boxes[1].count = 0, code(7, 248)),
@@ -42,7 +43,13 @@ fn records_not_allowed() {
         (|c| c.sections.enroute[1] = 2, code(5, 807)),
         (|c| c.sections.ascent[0] = 2, code(4, 809)),
         (|c| c.sections.ascent[5] = 351, code(5, 820)),
-        (|c| c.sections.hours[1] = 24, code(5, 832)),
+        (|c| c.sections.descent[0] = 256, code(4, 828)),
+        (|c| c.sections.descent[1] = 9, code(5, 829)),
+        (|c| c.sections.descent[1] = 301, code(5, 829)),
+        (|c| c.sections.descent[2] = 149, code(5, 832)),
+        (|c| c.sections.descent[3] = 0, code(4, 835)),
+        (|c| c.sections.descent[4] = 2, code(4, 836)),
+        (|c| c.sections.hours[1] = 24, code(5, 842)),
         (|c| c.spare = 1, code(7, 21)),
         (|c| c.spare = 255, code(7, 21)),
         (|c| (c.spare, c.flags[6]) = (1, 2), code(4, 11)),
@@ -63,7 +70,7 @@ fn records_not_allowed() {
 fn sides_of_a_box() {
     let mut record = read(&longest());
     record.sections.boxes[0].entries[0].north = Edge { degrees: 89, letter: b'S' };
-    assert_eq!(spell::write(&record, &mut [0; 900]), Ok(835));
+    assert_eq!(spell::write(&record, &mut [0; 900]), Ok(MOST));
     record.sections.boxes[0].entries[0].south = Edge { degrees: 88, letter: b'S' };
     record.sections.boxes[0].entries[0].west = Edge { degrees: 0, letter: 0 };
     assert_eq!(spell::write(&record, &mut []), Err(code(7, 27)));
@@ -71,7 +78,7 @@ fn sides_of_a_box() {
     assert_eq!(spell::write(&record, &mut []), Err(code(4, 30)));
     record.sections.boxes[0].entries[0].west = Edge { degrees: 10, letter: b'E' };
     record.sections.boxes[0].entries[0].east = Edge { degrees: 10, letter: b'W' };
-    assert_eq!(spell::write(&record, &mut [0; 900]), Ok(835), "over the date line");
+    assert_eq!(spell::write(&record, &mut [0; 900]), Ok(MOST), "over the date line");
     record.sections.boxes[0].entries[0].east = Edge { degrees: 0, letter: b'W' };
     assert_eq!(spell::write(&record, &mut []), Err(code(6, 34)));
 }
@@ -92,7 +99,8 @@ fn reset_as_printed() {
     let mut held = Configuration { flags: [0; 7], ..config::reset() };
     held.sections.hours = [5, 6];
     held.sections.enroute = [60, 0];
-    let text = format!("AWR041000111023456089/0000/000000000/071/{FIVE}1/1/0000/");
+    held.sections.descent = [0, 10, 350, 1, 0];
+    let text = format!("AWR041000111023456789/0000/000000000/071/{FIVE}1/{SEVEN}1/0000/");
     assert_eq!(config::apply(&mut held, text.as_bytes()), Ok(0));
     assert_eq!(held, reset);
 }
@@ -119,13 +127,15 @@ fn applying() {
 #[test]
 fn validity() {
     type Change = fn(&mut Configuration);
-    let cases: [Change; 8] = [
+    let cases: [Change; 10] = [
         |c| c.flags[3] = 9,
         |c| c.sections.boxes[1].entries[0].west.degrees = 1,
         |c| c.sections.boxes[0].count = 1,
         |c| c.sections.airfields[2].entries[19][3] = 1,
         |c| c.sections.enroute[0] = 0,
         |c| c.sections.ascent[6] = 0,
+        |c| c.sections.descent[0] = 2,
+        |c| c.sections.descent = [0; 5],
         |c| c.sections.routine8 = [2],
         |c| c.sections.hours[0] = 24,
     ];
