@@ -42,12 +42,12 @@ fn writes(records: &[Command]) -> [f64; 2] {
 }
 
 /// Commands of a size: head alone, about a hundred bytes (every section, few entries), full.
-fn sizes(random: &mut Random) -> [(&'static str, Vec<Command>); 3] {
+fn sizes(random: &mut Random) -> [(String, Vec<Command>); 3] {
     let mut many = |bits, lists| (0..INPUTS).map(|_| command_of(random, bits, lists)).collect();
     [
-        ("22 bytes", many(0, Lists::Empty)),
-        ("about 100 bytes", many(0xff, Lists::Few)),
-        ("835 bytes", many(0xff, Lists::Full)),
+        ("22 bytes".to_string(), many(0, Lists::Empty)),
+        ("about 100 bytes".to_string(), many(0xff, Lists::Few)),
+        (format!("{MOST} bytes"), many(0xff, Lists::Full)),
     ]
 }
 

@@ -5,7 +5,7 @@ use crate::measure::{best, pass, Bench, INPUTS};
 use desk_compare::make::uplink::{command_of, configuration_of, short_command, text, Lists};
 use desk_compare::meet::uplink as meet;
 use desk_compare::random::Random;
-use desk_compare::second::settings::Configuration;
+use desk_compare::second::settings::{Configuration, MOST};
 use desk_compare::second::{config, Refusal};
 use std::hint::black_box;
 
@@ -49,5 +49,5 @@ pub fn rows(bench: &Bench) {
     let flags: Vec<_> = (0..INPUTS).map(|_| text(&command_of(&mut random, 0, Lists::Empty))).collect();
     bench.row("apply in place, flags alone, full lists held", INPUTS, None, || applies(&full, &flags));
     let long: Vec<_> = (0..INPUTS).map(|_| text(&command_of(&mut random, 0xff, Lists::Full))).collect();
-    bench.row("apply in place, 835 bytes, full lists held", INPUTS, None, || applies(&full, &long));
+    bench.row(&format!("apply in place, {MOST} bytes, full lists held"), INPUTS, None, || applies(&full, &long));
 }

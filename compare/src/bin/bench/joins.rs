@@ -25,13 +25,13 @@ pub fn joins<T: AsRef<[u8]>>(pairs: &[[T; 2]]) -> [f64; 2] {
 pub fn rows(bench: &Bench) {
     let mut random = Random::new(1, "bench-join");
     for (name, bits, lists) in [
-        ("join, two short commands (22 bytes)", 0, Lists::Empty),
-        ("join, two typical commands", 0x9d, Lists::Few),
-        ("join, two full commands (835 bytes)", 0xff, Lists::Full),
+        ("join, two short commands (22 bytes)".to_string(), 0, Lists::Empty),
+        ("join, two typical commands".to_string(), 0x9d, Lists::Few),
+        (format!("join, two full commands ({MOST} bytes)"), 0xff, Lists::Full),
     ] {
         let mut one = || text(&command_of(&mut random, bits, lists));
         let pairs: Vec<[Vec<u8>; 2]> = (0..INPUTS).map(|_| [one(), one()]).collect();
         let bytes = pairs.iter().flatten().map(Vec::len).sum::<usize>() / INPUTS;
-        bench.row(name, INPUTS, Some(bytes), || joins(&pairs));
+        bench.row(&name, INPUTS, Some(bytes), || joins(&pairs));
     }
 }

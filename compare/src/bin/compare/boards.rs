@@ -35,7 +35,7 @@ pub fn families(run: &mut Run) {
         );
     }
     let nights = run.turns(4);
-    run.family("board-full", "events on 64 slots, all with commands of 835 bytes", |random, queue| {
+    run.family("board-full", &format!("events on 64 slots, all with commands of {MOST} bytes"), |random, queue| {
         for _ in 0..nights {
             let board = filled(random, 64, 100, uplink::full_text);
             night(random, queue, board, 100, |random| {
@@ -52,7 +52,11 @@ pub fn families(run: &mut Run) {
     run.family("board-invalid", "boards with one fault of every kind x check, add and take", |random, queue| {
         (0..turns).try_for_each(|_| invalid(random, queue))
     });
-    run.family("board-sizes", "0 to 70 slots x areas of every length near theirs", sizes);
+    run.family(
+        "board-sizes",
+        "0 to 70 slots x areas of every length near theirs, and of the text size before section 7",
+        sizes,
+    );
 }
 
 /// A board of free slots, whose designators and texts may be anything.
@@ -180,12 +184,18 @@ fn invalid(random: &mut Random, queue: &mut Queue) -> Done {
     queue.case(board)
 }
 
+/// Lengths of texts that are longer than the longest.
+const OVER: [u16; 6] = [MOST as u16 + 1, MOST as u16 + 2, 2 * MOST as u16, 2 * MOST as u16 + 1, 0x7fff, 0xffff];
+
+/// The bytes of section 7, which a text area did not have before it.
+const SEVEN: usize = 10;
+
 /// One fault in a board whose slot `index` is used.
 fn fault(random: &mut Random, board: &mut Case, index: usize) {
     let n = board.slots.len();
     let length = usize::from(board.slots[index].length);
     match random.below(13) {
-        0 => board.slots[index].length = random.of(&[836, 837, 1670, 1671, 0x7fff, 0xffff]),
+        0 => board.slots[index].length = random.of(&OVER),
         1 => board.slots[index].length = 1 + random.below(21) as u16,
         2 => board.slots[index].length = (length as u16).wrapping_add(random.of(&[1, 0xffff])),
         3 => board.slots[index].designator[random.below(6)] = odd_byte(random),
@@ -215,11 +225,11 @@ fn fault(random: &mut Random, board: &mut Case, index: usize) {
 
 fn sizes(random: &mut Random, queue: &mut Queue) -> Done {
     for n in 0..=70 {
-        for more in [-1_i32, 0, 1, -835, 835, i32::MIN] {
-            let length = (MOST * n) as i32;
-            let length = if more == i32::MIN { 0 } else { (length + more).max(0) };
+        let length = MOST * n;
+        let [less, fewer] = [1, MOST].map(|bytes| length.saturating_sub(bytes));
+        for length in [0, length, length + 1, length + MOST, less, fewer, (MOST - SEVEN) * n] {
             let mut board = empty(random, n);
-            board.area.resize(length as usize, 0);
+            board.area.resize(length, 0);
             board.events = all_events(random, n);
             queue.case(board)?;
         }

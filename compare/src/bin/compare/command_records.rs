@@ -9,6 +9,7 @@ use desk_compare::meet::uplink as meet;
 use desk_compare::ours::uplink::Command;
 use desk_compare::ours::{bytes_of, of_bytes};
 use desk_compare::random::Random;
+use desk_compare::second::settings::MOST;
 
 type Queue = queue::Queue<Case>;
 
@@ -41,7 +42,7 @@ pub fn families(run: &mut Run) {
                 for _ in 0..1 + random.below(4) {
                     faults::command(random, &mut damaged);
                 }
-                for room in [0, 835, random.below(840)] {
+                for room in [0, MOST, random.below(MOST + 5)] {
                     write(queue, &damaged, room)?;
                 }
             }
@@ -59,7 +60,7 @@ pub fn families(run: &mut Run) {
                     faults::command(random, &mut command);
                 }
                 command.spare = if random.percent(50) { random.byte() } else { random.of(&[1, 2, 9, b'/', 128, 255]) };
-                for room in [835, random.below(840)] {
+                for room in [MOST, random.below(MOST + 5)] {
                     write(queue, &command, room)?;
                 }
             }
@@ -87,7 +88,7 @@ pub fn families(run: &mut Run) {
 
 /// No room, too little, just enough, and more.
 fn rooms(length: usize) -> [usize; 6] {
-    [0, 21, length - 1, length, length + 1, 840]
+    [0, 21, length - 1, length, length + 1, MOST + 5]
 }
 
 fn any(random: &mut Random) -> Command {
@@ -103,7 +104,7 @@ fn bytes(command: &Command, random: &mut Random, queue: &mut Queue) -> Done {
         for byte in 0..=255 {
             let mut changed = bytes_of(command).to_vec();
             changed[at] = byte;
-            write(queue, &of_bytes(&changed), random.of(&[835, 835, 835, 840, 0, 400]))?;
+            write(queue, &of_bytes(&changed), random.of(&[MOST, MOST, MOST, MOST + 5, 0, 400]))?;
         }
     }
     Ok(())

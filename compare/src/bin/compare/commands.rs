@@ -127,12 +127,13 @@ fn heads(random: &mut Random, queue: &mut Queue) -> Done {
 /// A command that names one section, its contents, and where its numbers stand: (place, bytes).
 type Row = (u32, &'static [u8], &'static [(usize, u32)]);
 
-const ROWS: [Row; 7] = [
+const ROWS: [Row; 8] = [
     (0x01, b"0000/", &[(0, 2), (2, 2)]),
     (0x02, b"01ABCD01EFGH01JKLM01NOPQ0/", &[(0, 2), (6, 2), (12, 2), (18, 2), (24, 1)]),
     (0x04, b"071/", &[(0, 2), (2, 1), (3, 1)]),
     (0x08, b"1060902005120021/", &[(0, 1), (1, 2), (3, 3), (6, 2), (8, 3), (11, 3), (14, 1), (15, 1), (16, 1)]),
     (0x10, b"1/", &[(0, 1), (1, 1)]),
+    (0x20, b"104020021/", &[(0, 1), (1, 3), (4, 3), (7, 1), (8, 1), (9, 1)]),
     (0x40, b"1/", &[(0, 1), (1, 1)]),
     (0x80, b"2301/", &[(0, 2), (2, 2)]),
 ];

@@ -11,6 +11,7 @@ use desk_compare::ours::uplink::Settings;
 use desk_compare::ours::{bytes_of, of_bytes};
 use desk_compare::random::Random;
 use desk_compare::second::config;
+use desk_compare::second::settings::MOST;
 
 type Queue = queue::Queue<Case>;
 
@@ -77,7 +78,7 @@ fn text(random: &mut Random) -> Vec<u8> {
         uplink::damage(random, &mut text);
     }
     if random.percent(1) {
-        text.resize(836 + random.below(50), b'/');
+        text.resize(MOST + 1 + random.below(50), b'/');
     }
     text
 }

@@ -58,7 +58,7 @@ fn join(queue: &mut Queue, first: &[u8], second: &[u8], room: usize) -> Done {
 /// The second program's join of two accepted texts.
 fn joined(first: &[u8], second: &[u8]) -> Vec<u8> {
     let mut out = vec![0; MOST];
-    let length = join::join(first, second, &mut out).expect("accepted texts join within 835 bytes");
+    let length = join::join(first, second, &mut out).expect("accepted texts join within the longest command's bytes");
     out.truncate(length);
     out
 }
@@ -124,7 +124,7 @@ fn damaged(turns: u64) -> impl FnOnce(&mut Random, &mut Queue) -> Done {
             let which = random.below(3);
             for (index, text) in texts.iter_mut().enumerate().filter(|(index, _)| which == 2 || which == *index) {
                 match random.below(10) {
-                    0 => text.resize(836 + random.below(9) + index, b'0'),
+                    0 => text.resize(MOST + 1 + random.below(9) + index, b'0'),
                     1 => text.clear(),
                     _ => uplink::damage(random, text),
                 }

@@ -25,7 +25,7 @@ fn command(random: &mut Random, index: usize) -> Command {
 
 pub fn command_text(random: &mut Random, index: usize) -> Vec<u8> {
     match index {
-        5 => NO_CHANGE.to_vec(),
+        9 => NO_CHANGE.to_vec(),
         _ => text(&command(random, index)),
     }
 }
