@@ -14,8 +14,9 @@ static esk_slot *slots_of(uint8_t *bytes)
 }
 
 /*
- * The number of slots, up to 66; what the area has more or less than 835 bytes for each (1: one more, 2: one less, else
- * nothing); then each slot, followed by its text where its length is up to 835. All else in the area is a pattern.
+ * The number of slots, up to 66; what the area has more or less than the longest command for each (1: one byte more, 2:
+ * one less, 3: ten less for each slot, as it was before section 7, else nothing); then each slot, followed by its text
+ * where that is no longer than the longest command. All else in the area is a pattern.
  */
 static board take_board(input *from)
 {
@@ -32,6 +33,8 @@ static board take_board(input *from)
         bytes++;
     else if (odd == 2 && bytes > 0)
         bytes--;
+    else if (odd == 3)
+        bytes -= n * 10;
     board taken = {lend(slots, n * sizeof slots[0]), lend(area, bytes), n};
     return taken;
 }
