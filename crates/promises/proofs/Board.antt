@@ -3,7 +3,7 @@ use mathlib.Core.Path.{_≡_, refl, sym, ap, _∙_, subst}
 use mathlib.Core.Logic.{_↔_}
 use mathlib.Core.Bool.{Bool, true, false}
 use mathlib.Core.List.{List}
-use Prim.Native.Nat.{ℕ}
+use Prim.Native.Nat.{ℕ, _*_, _<_}
 use native.Mathlib.Omega.{arith}
 use lib.Dec.{eqb}
 use lib.ListN.{length}
@@ -11,6 +11,7 @@ use borrow.Author.Tests.{eq-eqb, ne-eqb}
 use Rattle.text.specs.Equal.{sameBytes}
 use Rattle.text.proofs.Cases.{by-test}
 use Rattle.text.proofs.Equal.{same-equal}
+use Rattle.command.specs.Text.{longest}
 use Rattle.board.specs.Board.{isNone, waiting, Move, Stay, Put, Free, replyOf}
 use Rattle.board.specs.History.{isEmptyBoard, Add as AddEvent, Take as TakeEvent}
 use Rattle.board.specs.Lent.{isValidLent, onSlots, onArea, onOut}
@@ -157,6 +158,13 @@ ten-first : (x : Lent) (c : Call) → ¬ ValidBoard (x .slots) (x .area) → ans
 ten-first x (Add d t) n = ap (λ (m : Move). replyNumbers (replyOf m)) (call-ten x (AddEvent d t) (invalid x n))
 ten-first x (Take d out) n = ap (λ (m : Move). replyNumbers (replyOf m)) (call-ten x (TakeEvent d (length out)) (invalid x n))
 
+-- an area that is too short for its slots
+old-size : (x : Lent) → length (x .area) < longest * length (x .slots)
+    → (boardNumbers (isValidLent (x .slots) (x .area)) ≡ answerOf 10 0) × ((c : Call) → answerTo x c ≡ answerOf 10 0)
+old-size x h =
+    let n : ¬ ValidBoard (x .slots) (x .area) = λ v. omega (arith, v .bytes) in
+    (ap boardNumbers (invalid x n), λ c. ten-first x c n)
+
 -- ---- All of it
 
 pub board-promises : BoardPromises
@@ -180,6 +188,7 @@ board-promises =
       checked = checked;
       ten = λ x n. ap boardNumbers (invalid x n);
       ten-first = ten-first;
+      old-size = old-size;
       places = λ x d t i e w k. adds (x .slots) (x .area) d t i e w k;
       refusals = refusals;
       coded = coded;

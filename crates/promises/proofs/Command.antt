@@ -167,6 +167,7 @@ command-promises =
       unwritten = unwritten;
       no-change = fine-check _ (all-read .0 .0);
       printed = fine-check _ (all-read .1 .1 .0 .0);
+      printed-descent = fine-check _ (all-read .1 .1 .1 .1 .1 .0 .0);
       full = (fine-check longestText (all-read .1 .1 .1 .1 .0 .0), longest-text);
       empty = empty-refused;
     }

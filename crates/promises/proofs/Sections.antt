@@ -1,6 +1,6 @@
 -- Where the members of what is read stand in a command's text.
 use mathlib.Core.Path.{_≡_, refl, sym, ap, _∙_}
-use mathlib.Core.Bool.{true}
+use mathlib.Core.Bool.{true, cond}
 use mathlib.Core.List.{List, [], _∷_, _++_}
 use Prim.Native.Nat.{ℕ, zero, suc, _+_, _-_, _*_, _≤_, _<_}
 use native.Mathlib.Omega.{arith}
@@ -10,13 +10,13 @@ use Rattle.field.proofs.Local.{part-byte}
 use Rattle.field.specs.Boxes.{noRegion, regionAt, edgeAt}
 use Rattle.field.specs.declared.Region.{Region}
 use Rattle.lists.specs.Lists.{countAt, regionsAt, boxesAt, airfieldsAt}
-use Rattle.section.specs.Layout.{layoutOf, tableOf}
+use Rattle.section.specs.Layout.{layoutOf, tableOf, itemsSize}
 use Rattle.section.specs.Contents.{Content, contentsAt}
 use Rattle.settings.specs.Settings.{settingsFrom, regionsFrom, airportsFrom, enrouteFrom, ascentFrom, hoursFrom, amountIn}
 use Rattle.command.specs.Text.{isNamed}
 use Rattle.command.specs.Record.{digitsOf, commandOf}
-use Rattle.command.specs.Sections.{heldIn, placeOf}
-use Rattle.promises.specs.Sections.{numberAt, pastBoxes, pastAirfields, BoxStands, BoxesStand, AirfieldsStand, Regions, Airports, Ascent, Means}
+use Rattle.command.specs.Sections.{heldIn, placeFrom, placeOf}
+use Rattle.promises.specs.Sections.{numberAt, pastBoxes, pastAirfields, BoxStands, BoxesStand, AirfieldsStand, Regions, Airports, Ascent, Descent, Means}
 
 -- ---- The entries of a list, each at its place
 
@@ -108,6 +108,32 @@ module _ (s : List ℕ) where
         timer = rw h (ap (λ (i : ℕ). numberAt s i 1) eighth);
       }
 
+  behind-six : placeOf s 7 ≡ cond (isNamed s 6) (placeOf s 6 + 2) (placeOf s 6)
+  unfolding placeFrom itemsSize layoutOf tableOf
+  behind-six = refl
+
+  before-eight : isNamed s 7 ≡ true → placeOf s 8 ≡ placeOf s 7 + 10
+  unfolding placeFrom itemsSize layoutOf tableOf
+  before-eight n = rw n
+
+  descent-stands : isNamed s 7 ≡ true → Descent s (placeOf s 7) (commandOf s)
+  unfolding commandOf settingsFrom layoutOf tableOf contentsAt
+  descent-stands n =
+      let h = held-there 7 n in
+      let p = placeOf s 7 in
+      let third : p + 1 + 3 ≡ p + 4 = omega arith in
+      let fourth : p + 1 + 3 + 3 ≡ p + 7 = omega arith in
+      let fifth : p + 1 + 3 + 3 + 1 ≡ p + 8 = omega arith in
+      record {
+        behind = behind-six;
+        before = before-eight n;
+        mode = rw h;
+        interval = rw h;
+        top = rw h (ap (λ (i : ℕ). numberAt s i 3) third);
+        list = rw h (ap (λ (i : ℕ). numberAt s i 1) fourth);
+        timer = rw h (ap (λ (i : ℕ). numberAt s i 1) fifth);
+      }
+
   pub means : Means s (commandOf s)
   unfolding commandOf settingsFrom enrouteFrom hoursFrom layoutOf tableOf contentsAt
   means =
@@ -123,6 +149,7 @@ module _ (s : List ℕ) where
         enroute = λ n. let h = held-there 4 n in (rw h, rw h);
         ascent = ascent-stands;
         six = λ n. rw (held-there 6 n);
+        descent = descent-stands;
         eight = λ n. rw (held-there 8 n);
         hours = λ n. let h = held-there 9 n in (rw h, rw h);
       }

@@ -139,6 +139,9 @@ pub record BoardPromises : Type 0 where
   pub checked : (x : Lent) → (boardNumbers (isValidLent (x .slots) (x .area)) .code ≡ 0) ↔ ValidBoard (x .slots) (x .area)
   pub ten : (x : Lent) → ¬ ValidBoard (x .slots) (x .area) → boardNumbers (isValidLent (x .slots) (x .area)) ≡ answerOf 10 0
   pub ten-first : (x : Lent) (c : Call) → ¬ ValidBoard (x .slots) (x .area) → answerTo x c ≡ answerOf 10 0
+  -- document 02, §4: "A board with the old text size is refused with 10." So is any with fewer bytes than the longest for each slot
+  pub old-size : (x : Lent) → length (x .area) < longest * length (x .slots)
+      → (boardNumbers (isValidLent (x .slots) (x .area)) ≡ answerOf 10 0) × ((c : Call) → answerTo x c ≡ answerOf 10 0)
   -- an adding joins onto that aircraft's text in its own slot, or uses the lowest free slot
   pub places : (x : Lent) (d t : List ℕ) (i : ℕ) (e w : List ℕ) → moveOf x (Add d t) ≡ Put i e w → Adds (x .slots) (x .area) d t i e w
   -- of any lent board, empty or not: an answer names no text; a refusal leaves all as it was, and has another code than 0

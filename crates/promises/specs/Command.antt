@@ -67,6 +67,7 @@ pub record CommandPromises : Type 0 where
   -- there are accepted texts: the printed ones, and one that is full
   pub no-change : check (bytes "AWR049999999000000000/") ≡ accepted 0
   pub printed : check (bytes "AWR041199999100400009/300/2301/") ≡ accepted 0
+  pub printed-descent : check (bytes "AWR049999999000000700/004020011/") ≡ accepted 0
   pub full : (check longestText ≡ accepted 0) × (length longestText ≡ longest)
   -- "Empty command: 8 at 0."
   pub empty : check [] ≡ answerOf 8 0

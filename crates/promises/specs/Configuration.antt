@@ -33,7 +33,7 @@ apply x s = appliedNumbers (applied x s)
 
 pub record ConfigurationPromises : Type 0 where
   -- "After reset: flags 1 0 0 0 1 1 1; counts 00; routine 0 in section 3, 1 in 6 and 8; 4 is 07, 1; 5 is 1, 06, 090, 20, 051,
-  -- 200, 2, 1; 9 is 00, 00."
+  -- 200, 2, 1; 9 is 00, 00." 7 is 1, 040, 200, 2, 1 in source document 003
   pub after-reset : reset
       ≡ record {
         flags = 1 ∷ 0 ∷ 0 ∷ 0 ∷ 1 ∷ 1 ∷ 1 ∷ [];
@@ -41,6 +41,7 @@ pub record ConfigurationPromises : Type 0 where
         airports = record { selected = noLists; inhibited = noLists; routine = 0 };
         enroute = record { interval = 7; wind = 1 };
         ascent = record { mode = 1; interval1 = 6; duration = 90; interval2 = 20; total = 51; top = 200; list = 2; timer = 1 };
+        descent = record { mode = 1; interval = 40; top = 200; list = 2; timer = 1 };
         routine6 = 1;
         routine8 = 1;
         hours = record { start = 0; end = 0 };

@@ -1,6 +1,6 @@
 -- Where each member of a command's record stands in its text: "the published layouts".
 use mathlib.Core.Path.{_≡_}
-use mathlib.Core.Bool.{true}
+use mathlib.Core.Bool.{true, cond}
 use mathlib.Core.List.{List}
 use Prim.Native.Nat.{ℕ, _+_, _-_, _*_, _<_, _≤_}
 use lib.ListN.{getD}
@@ -74,6 +74,16 @@ pub record Ascent (s : List ℕ) (p : ℕ) (c : Command) : Type 0 where
   pub list : c .settings .ascent .list ≡ numberAt s (p + 14) 1
   pub timer : c .settings .ascent .timer ≡ numberAt s (p + 15) 1
 
+-- section 7, which stands between 6, of two bytes, and 8: mode, interval, top, list, timer
+pub record Descent (s : List ℕ) (p : ℕ) (c : Command) : Type 0 where
+  pub behind : p ≡ cond (isNamed s 6) (placeOf s 6 + 2) (placeOf s 6)
+  pub before : placeOf s 8 ≡ p + 10
+  pub mode : c .settings .descent .mode ≡ numberAt s p 1
+  pub interval : c .settings .descent .interval ≡ numberAt s (p + 1) 3
+  pub top : c .settings .descent .top ≡ numberAt s (p + 4) 3
+  pub list : c .settings .descent .list ≡ numberAt s (p + 7) 1
+  pub timer : c .settings .descent .timer ≡ numberAt s (p + 8) 1
+
 -- seven flags, a downlink digit, eight indicators, and the sections that are named, each where it stands
 pub record Means (s : List ℕ) (c : Command) : Type 0 where
   pub flags : (i : ℕ) → i < 7 → getD (c .settings .flags) i 0 ≡ getD s (5 + i) 0 - 48
@@ -85,6 +95,7 @@ pub record Means (s : List ℕ) (c : Command) : Type 0 where
       → (c .settings .enroute .interval ≡ numberAt s (placeOf s 4) 2) × (c .settings .enroute .wind ≡ numberAt s (placeOf s 4 + 2) 1)
   pub ascent : isNamed s 5 ≡ true → Ascent s (placeOf s 5) c
   pub six : isNamed s 6 ≡ true → c .settings .routine6 ≡ numberAt s (placeOf s 6) 1
+  pub descent : isNamed s 7 ≡ true → Descent s (placeOf s 7) c
   pub eight : isNamed s 8 ≡ true → c .settings .routine8 ≡ numberAt s (placeOf s 8) 1
   pub hours : isNamed s 9 ≡ true
       → (c .settings .hours .start ≡ numberAt s (placeOf s 9) 2) × (c .settings .hours .end ≡ numberAt s (placeOf s 9 + 2) 2)

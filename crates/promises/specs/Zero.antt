@@ -25,6 +25,7 @@ noSettings =
       airports = record { selected = noLists; inhibited = noLists; routine = 0 };
       enroute = record { interval = 0; wind = 0 };
       ascent = record { mode = 0; interval1 = 0; duration = 0; interval2 = 0; total = 0; top = 0; list = 0; timer = 0 };
+      descent = record { mode = 0; interval = 0; top = 0; list = 0; timer = 0 };
       routine6 = 0;
       routine8 = 0;
       hours = record { start = 0; end = 0 };
