@@ -153,7 +153,7 @@ fn head_fine(s: &[u8]) -> bool
 }
 
 // The first 22 bytes: all at once, and group by group only where one is wrong.
-fn check_head(s: &[u8]) -> Step
+pub fn check_head(s: &[u8]) -> Step
     ensures { λ r. ⌜ r ≡ checkHead (now (s .entry)) ⌝ }
 {
     if 22 <= s.len() {
