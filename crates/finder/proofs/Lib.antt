@@ -1,0 +1,5 @@
+-- The laws that the layers above cite.
+pub mod Finds
+pub mod Passing
+pub mod Reaching
+pub mod Sizes
