@@ -4,8 +4,9 @@ use mathlib.Core.Bool.{Bool, true, false, cond, _&&_, _||_}
 use mathlib.Core.List.{List, [], _∷_}
 use Prim.Native.Nat.{ℕ, zero, suc, _+_, _-_, _≤_, _<_}
 use native.Mathlib.Omega.{arith}
+use native.Mathlib.Nat.{le-trans, le-add-left}
 use lib.Dec.{leb, eqb}
-use lib.ListN.{length, drop}
+use lib.ListN.{length, getD, drop}
 use borrow.Author.Tests.{le-leb, eq-eqb, leb-true}
 use Rattle.text.specs.Names.{between}
 use Rattle.text.specs.Parts.{part}
@@ -13,7 +14,9 @@ use Rattle.text.specs.declared.Seen.the-variants.{Fine}
 use Rattle.text.proofs.Cases.{by-test, both-left, both-right}
 use Rattle.field.specs.declared.Step.{Step}
 use Rattle.field.specs.declared.Step.the-variants.{Next, Stop}
-use Rattle.section.specs.Layout.{numbers, layoutOf, itemsSize, Accepted}
+use Rattle.field.proofs.Accepted.{delimiter}
+use Rattle.field.proofs.Local.{after-cases}
+use Rattle.section.specs.Layout.{Item, numbers, layoutOf, checkItem, checkItems, itemsSize, Accepted}
 use Rattle.command.specs.Text.{checkHead, isNamed, longest, checkCommand}
 use Rattle.command.specs.Sections.{isOneOf, placeOf, bytesOf}
 use Rattle.command.proofs.Head.{head-passes}
@@ -55,9 +58,25 @@ finds-inside k s =
     tt)
     tt
 
+-- a refusal is no part
+pub part-refused {ℓ} : {P : Type ℓ} {at n code place : ℕ} → Refused code place ≡ Part at n → P
+part-refused e = let z : _≡_ {A = ℕ} 0 1 = cc in absurd (omega arith)
+
 -- the part's bounds
 pub part-inside : (k : ℕ) (s : List ℕ) (at n : ℕ) → findSection k s ≡ Part at n → at + n ≤ length s
 part-inside k s at n e = rw e at (finds-inside k s)
+
+-- no longer than the longest command
+pub part-short : (k : ℕ) (s : List ℕ) (at n : ℕ) → findSection k s ≡ Part at n → n ≤ longest
+unfolding findSection
+part-short k s at n e =
+    let i = part-inside k s at n e in
+    by-test (between 2 9 k)
+    (λ (b : between 2 9 k ≡ true).
+    by-test (leb (length s) longest)
+    (λ (l : leb (length s) longest ≡ true). le-trans (le-trans (le-add-left n at) i) (leb-true (length s) longest l))
+    (λ (l : leb (length s) longest ≡ false). part-refused (rw (b, l) at e)))
+    (λ (b : between 2 9 k ≡ false). part-refused (rw b at e))
 
 -- ---- Section numbers
 
@@ -70,6 +89,9 @@ one-behind (suc i) (k ∷ ks) j e = rw (one-behind i ks j e) (or-true (eqb j k))
     or-true : (t : Bool) → (t || true) ≡ true
     or-true true = refl
     or-true false = refl
+
+pub number-between : (k : ℕ) → 2 ≤ k → k ≤ 9 → between 2 9 k ≡ true
+number-between k lo hi = rw (le-leb 2 k lo, le-leb k 9 hi)
 
 -- 2 to 9
 pub is-number : (k : ℕ) → between 2 9 k ≡ true → isOneOf numbers k ≡ true
@@ -98,6 +120,26 @@ found-accepted k s b f =
     (λ (n : isNamed s k ≡ true).
     rw n (standing-accepted k s (placeOf s k) (accepted-place numbers s 22 k (length s) (is-number k b) n (a .walk))))
     (λ (n : isNamed s k ≡ false). rw n))
+
+-- a whole section, its delimiter included
+items-last : (is : List Item) (s : List ℕ) (at p : ℕ) → checkItems is s at ≡ Next p → getD s (p - 1) 0 ≡ 47
+unfolding checkItems
+items-last [] s at p e =
+    let d = delimiter s at p e in
+    let z : p - 1 ≡ at = omega (arith, d .2) in
+    rw z (d .1)
+items-last (i ∷ is) s at p e =
+    after-cases (checkItem i s at) (checkItems is s) p e
+    (λ q (c : checkItem i s at ≡ Next q) (d : checkItems is s q ≡ Next p). items-last is s q p d)
+
+module _ (k : ℕ) (s : List ℕ) (b : between 2 9 k ≡ true) (f : checkCommand s ≡ Fine) (n : isNamed s k ≡ true) where
+  -- it was accepted where it stands
+  pub place-accepted : Accepted k s (placeOf s k)
+  place-accepted = accepted-place numbers s 22 k (length s) (is-number k b) n (accepted s f .walk)
+
+  -- its last byte is the delimiter
+  pub last-accepted : getD s (placeOf s k + itemsSize (layoutOf k) s (placeOf s k) - 1) 0 ≡ 47
+  last-accepted = items-last (layoutOf k) s (placeOf s k) _ place-accepted
 
 -- its bytes: the same that a join copies
 pub bytes-accepted : (k : ℕ) (s : List ℕ) → between 2 9 k ≡ true → checkCommand s ≡ Fine → partOf s (findSection k s) ≡ bytesOf s k

@@ -3,3 +3,4 @@ pub mod Finds
 pub mod Passing
 pub mod Reaching
 pub mod Sizes
+pub mod Words

@@ -72,3 +72,8 @@ findSection k s =
 abbrev pub partOf : List ℕ → Found → List ℕ
 partOf s (Part at n) = part at n s
 partOf s (Refused code place) = []
+
+-- where it begins
+abbrev pub placeIn : Found → ℕ
+placeIn (Part at n) = at
+placeIn (Refused code place) = 0

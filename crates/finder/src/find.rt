@@ -6,10 +6,10 @@ use command::check::check_head;
 use command::check::is_named;
 use field::Step;
 ghost use mathlib.Core.Path.{_≡_};
-ghost use Prim.Native.Nat.{_≤_};
+ghost use Prim.Native.Nat.{_+_, _≤_};
 ghost use lib.ListN.{length};
 ghost use Rattle.section.specs.Layout.{numbers};
-ghost use Rattle.finder.specs.Finding.{reach, standing, findIn, findSection, partOf};
+ghost use Rattle.finder.specs.Finding.{reach, standing, findIn, findSection, partOf, placeIn};
 ghost use Rattle.finder.specs.Inner.{sectionPassed};
 
 // Section k passed over where it is named.
@@ -90,7 +90,10 @@ pub fn find(k: usize, s: &[u8]) -> Found
 
 // Section k as the caller's own bytes, delimiter included: a part of the text that was lent, no copy and no offset.
 pub fn section_of(k: usize, s: &[u8]) -> &[u8]
-    ensures { λ r. ⌜ now r ≡ partOf (now (s .entry)) (findSection k (now (s .entry))) ⌝ }
+    ensures { λ r. ⌜
+        (now r ≡ partOf (now (s .entry)) (findSection k (now (s .entry))))
+        × (r .ptr ≡ (s .entry .ptr .0, placeIn (findSection k (now (s .entry))) + s .entry .ptr .1))
+        ⌝ }
 {
     match find(k, s) {
         Found::Part(at, n) => &s[at..at + n],

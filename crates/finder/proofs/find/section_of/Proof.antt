@@ -3,7 +3,7 @@ use borrow.Author.Needs.{needs}
 use Rattle.finder.proofs.find.section_of.Statement.{statement}
 use Rattle.finder.proofs.find.section_of.Tie as tie
 use native.Mathlib.Omega.{arith}
-use mathlib.Core.Path.{_≡_, sym, _∙_}
+use mathlib.Core.Path.{_≡_, refl, sym, _∙_}
 use Prim.Native.Nat.{_+_, _-_, _≤_}
 use lib.ListN.{length}
 use denote.Ref.{now}
@@ -52,10 +52,10 @@ returns c =
     let at = told .before .at .given .0 .0 in
     let n = told .before .at .given .0 .1 .0 in
     let same : at + n - at ≡ n = omega arith in
-    rw (same, sym (told .before .before .before .find .ensures) ∙ told .before .at .given .1)
+    rw (same, sym (told .before .before .before .find .ensures) ∙ told .before .at .given .1) (refl, refl)
 
 returns-2 : tie.Need-returns-2
-returns-2 c = rw (sym (c .before .before .before .find .ensures) ∙ c .before .enum-told .given .1)
+returns-2 c = rw (sym (c .before .before .before .find .ensures) ∙ c .before .enum-told .given .1) (refl, refl)
 
 pub section-of-spec : {M : Type 1} → statement M
 section-of-spec =
