@@ -1,4 +1,4 @@
--- The numbers of an answer, whichever way they are made, and the longest text that a writer or a join gives.
+-- The numbers of an answer, whichever way they are made, and the longest text that a writer, a join or a finding gives.
 use mathlib.Core.Path.{_≡_, refl}
 use mathlib.Core.List.{List}
 use Prim.Native.Nat.{ℕ, _≤_}
@@ -18,9 +18,13 @@ use Rattle.command_write.specs.Filled.{Filled}
 use Rattle.command_write.proofs.RoundTrip.{written-short}
 use Rattle.join.specs.Join.{Joined, Joins, Refuses, joinText, bySeen, join, told}
 use Rattle.join.proofs.Laws.{join-short}
+use Rattle.finder.specs.declared.Found.{Found}
+use Rattle.finder.specs.declared.Found.the-variants.{Part, Refused as Stopped}
+use Rattle.finder.specs.Finding.{findSection}
+use Rattle.finder.proofs.Finds.{part-short}
 use Rattle.desk.specs.Numbers.{checkNumbers, writeNumbers}
 use Rattle.desk.specs.Joins.{joinNumbers}
-use Rattle.desk.specs.Steps.{wroteNumbers, toldNumbers, toldLength}
+use Rattle.desk.specs.Steps.{wroteNumbers, toldNumbers, toldLength, foundLength}
 
 -- a check's numbers are those of a writer that gives no length
 pub no-length : (x : Seen) → writeNumbers x 0 ≡ checkNumbers x
@@ -56,3 +60,12 @@ told-short a b room = go (checkCommand a) (checkCommand b) refl refl
     go Fine (Bad c p) e f = omega arith
     go Fine Fine e f =
         by-test (leb (length (joinText a b)) room) (λ t. rw t (join-short a b e f)) (λ t. rw t (omega arith))
+
+-- ---- A section that is found
+
+pub found-short : (k : ℕ) (s : List ℕ) → foundLength (findSection k s) ≤ longest
+found-short k s = go (findSection k s) refl
+  where
+    go : (x : Found) → findSection k s ≡ x → foundLength x ≤ longest
+    go (Part at n) e = part-short k s at n e
+    go (Stopped code place) e = omega arith

@@ -4,6 +4,7 @@ pub mod Joins
 pub mod Journal
 pub mod Numbers
 pub mod Outcomes
+pub mod Parts
 pub mod Reports
 pub mod Steps
 pub mod Waiting

@@ -8,6 +8,7 @@ mod join_calls;
 mod journal_calls;
 mod packed_calls;
 mod report_calls;
+mod section_calls;
 
 use caller::HostReport;
 use command::Command;
@@ -87,4 +88,15 @@ pub struct HostEntry {
     pub code: u8,
     pub given: u8,
     pub spare: u16,
+}
+
+// The answer of finding a section: where its part of the text begins and how long it is, both 0 where it isn't named; or the
+// refusal's place, and no length.
+#[repr(C)]
+pub struct HostPart {
+    pub place: usize,
+    pub length: u32,
+    pub code: u8,
+    pub spare: u8,
+    pub rest: u16,
 }
