@@ -29,55 +29,6 @@ use Rattle.finder.specs.Finding.{passSection, reach, foundAt, standing, 
 use Rattle.finder.proofs.Passing.{items-inside, items-accepted}
 use Rattle.finder.proofs.Reaching.{reach-accepted}
 
--- ---- A part that is found lies in the text
-
-abbrev pub Inside : List ℕ → Found → Type 0
-Inside s (Part at n) = at + n ≤ length s
-Inside s (Refused code place) = Unit
-
-either : (s : List ℕ) (t : Bool) (x y : Found) → Inside s x → Inside s y → Inside s (cond t x y)
-either s true x y a b = a
-either s false x y a b = b
-
-then : (s : List ℕ) (x : Step) (more : ℕ → Found) → ((at : ℕ) → x ≡ Next at → Inside s (more at)) → Inside s (foundAt x more)
-then s (Next at) more h = h at refl
-then s (Stop code place) more h = tt
-
-standing-inside : (k : ℕ) (s : List ℕ) (at : ℕ) → Inside s (standing k s at)
-standing-inside k s at =
-    then s (passSection k s at) (λ end. Part at (end - at)) (λ end e. omega (arith, items-inside (layoutOf k) s at at end e))
-
-pub finds-inside : (k : ℕ) (s : List ℕ) → Inside s (findSection k s)
-unfolding findSection
-finds-inside k s =
-    either s (between 2 9 k) _ (Refused 5 0)
-    (either s (leb (length s) longest) _ (Refused 1 0)
-    (then s (checkHead s) (findIn k s)
-    (λ at e.
-    either s (isNamed s k) _ (Part 0 0) (then s (reach numbers s at k) (standing k s) (λ p d. standing-inside k s p)) (omega arith)))
-    tt)
-    tt
-
--- a refusal is no part
-pub part-refused {ℓ} : {P : Type ℓ} {at n code place : ℕ} → Refused code place ≡ Part at n → P
-part-refused e = let z : _≡_ {A = ℕ} 0 1 = cc in absurd (omega arith)
-
--- the part's bounds
-pub part-inside : (k : ℕ) (s : List ℕ) (at n : ℕ) → findSection k s ≡ Part at n → at + n ≤ length s
-part-inside k s at n e = rw e at (finds-inside k s)
-
--- no longer than the longest command
-pub part-short : (k : ℕ) (s : List ℕ) (at n : ℕ) → findSection k s ≡ Part at n → n ≤ longest
-unfolding findSection
-part-short k s at n e =
-    let i = part-inside k s at n e in
-    by-test (between 2 9 k)
-    (λ (b : between 2 9 k ≡ true).
-    by-test (leb (length s) longest)
-    (λ (l : leb (length s) longest ≡ true). le-trans (le-trans (le-add-left n at) i) (leb-true (length s) longest l))
-    (λ (l : leb (length s) longest ≡ false). part-refused (rw (b, l) at e)))
-    (λ (b : between 2 9 k ≡ false). part-refused (rw b at e))
-
 -- ---- Section numbers
 
 -- one of the rest is one of all
@@ -148,3 +99,52 @@ bytes-accepted k s b f =
     (by-test (isNamed s k)
     (λ (n : isNamed s k ≡ true). rw n)
     (λ (n : isNamed s k ≡ false). rw n))
+
+-- ---- A part that is found lies in the text
+
+abbrev pub Inside : List ℕ → Found → Type 0
+Inside s (Part at n) = at + n ≤ length s
+Inside s (Refused code place) = Unit
+
+either : (s : List ℕ) (t : Bool) (x y : Found) → Inside s x → Inside s y → Inside s (cond t x y)
+either s true x y a b = a
+either s false x y a b = b
+
+then : (s : List ℕ) (x : Step) (more : ℕ → Found) → ((at : ℕ) → x ≡ Next at → Inside s (more at)) → Inside s (foundAt x more)
+then s (Next at) more h = h at refl
+then s (Stop code place) more h = tt
+
+standing-inside : (k : ℕ) (s : List ℕ) (at : ℕ) → Inside s (standing k s at)
+standing-inside k s at =
+    then s (passSection k s at) (λ end. Part at (end - at)) (λ end e. omega (arith, items-inside (layoutOf k) s at at end e))
+
+pub finds-inside : (k : ℕ) (s : List ℕ) → Inside s (findSection k s)
+unfolding findSection
+finds-inside k s =
+    either s (between 2 9 k) _ (Refused 5 0)
+    (either s (leb (length s) longest) _ (Refused 1 0)
+    (then s (checkHead s) (findIn k s)
+    (λ at e.
+    either s (isNamed s k) _ (Part 0 0) (then s (reach numbers s at k) (standing k s) (λ p d. standing-inside k s p)) (omega arith)))
+    tt)
+    tt
+
+-- a refusal is no part
+pub part-refused {ℓ} : {P : Type ℓ} {at n code place : ℕ} → Refused code place ≡ Part at n → P
+part-refused e = let z : _≡_ {A = ℕ} 0 1 = cc in absurd (omega arith)
+
+-- the part's bounds
+pub part-inside : (k : ℕ) (s : List ℕ) (at n : ℕ) → findSection k s ≡ Part at n → at + n ≤ length s
+part-inside k s at n e = rw e at (finds-inside k s)
+
+-- no longer than the longest command
+pub part-short : (k : ℕ) (s : List ℕ) (at n : ℕ) → findSection k s ≡ Part at n → n ≤ longest
+unfolding findSection
+part-short k s at n e =
+    let i = part-inside k s at n e in
+    by-test (between 2 9 k)
+    (λ (b : between 2 9 k ≡ true).
+    by-test (leb (length s) longest)
+    (λ (l : leb (length s) longest ≡ true). le-trans (le-trans (le-add-left n at) i) (leb-true (length s) longest l))
+    (λ (l : leb (length s) longest ≡ false). part-refused (rw (b, l) at e)))
+    (λ (b : between 2 9 k ≡ false). part-refused (rw b at e))

@@ -64,6 +64,32 @@ list-reaches most w s start at p few short e =
     let high : countAt s at ≤ 20 = omega (arith, c .count .high) in
     omega (arith, c .count .room, c .ends, mul-le-mul short high)
 
+-- ---- What the check accepts is passed over whole
+
+list-accepted : (most w : ℕ) (entry : List ℕ → ℕ → Step) (s : List ℕ) (start at p : ℕ)
+    → checkList most entry s at ≡ Next p → p ≡ at + (2 + w * countAt s at) → passList most w s start at ≡ Next p
+list-accepted most w entry s start at p e d =
+    let n = counted most entry s at p e .count in
+    list-next most w s start at (at + 2) (omega (arith, n .room)) (digits-fine 5 2 0 most s at (n .room) (n .digits) (n .low) (n .high))
+    ∙ ap Next (omega arith)
+
+-- an item
+pub item-accepted : (i : Item) (s : List ℕ) (start at p : ℕ) → checkItem i s at ≡ Next p → passItem i s start at ≡ Next p
+item-accepted (Digits r) s start at p e = ap Next (sym (item-sized (Digits r) .passes s at p e))
+item-accepted AirfieldList s start at p e = list-accepted 20 4 checkAirfield s start at p e (item-sized AirfieldList .passes s at p e)
+item-accepted BoxList s start at p e = list-accepted 16 14 checkBox s start at p e (item-sized BoxList .passes s at p e)
+
+-- and a section
+pub items-accepted : (is : List Item) (s : List ℕ) (start at p : ℕ) → checkItems is s at ≡ Next p → passItems is s start at ≡ Next p
+unfolding checkItems passItems
+items-accepted [] s start at p e =
+    let d = delimiter s at p e in
+    rw (le-leb (at + 1) (length s) (d .0)) (ap Next (d .2))
+items-accepted (i ∷ is) s start at p e =
+    after-cases (checkItem i s at) (checkItems is s) p e
+    (λ q (c : checkItem i s at ≡ Next q) (d : checkItems is s q ≡ Next p).
+    rw (item-accepted i s start at q c) (items-accepted is s start q p d))
+
 -- ---- Lists of one kind, one after the other
 
 grouped : (x : Step) (f g h : ℕ → Step) → ((p : ℕ) → f p ≡ after (g p) h) → after x f ≡ after (after x g) h
@@ -121,29 +147,3 @@ items-inside (i ∷ is) s start at p e =
     onward (Digits r) s start at q c = let d : at + r .width ≡ q = next-same c in omega arith
     onward AirfieldList s start at q c = omega (arith, list-counted 20 4 s start at q c .ends)
     onward BoxList s start at q c = omega (arith, list-counted 16 14 s start at q c .ends)
-
--- ---- What the check accepts is passed over whole
-
-list-accepted : (most w : ℕ) (entry : List ℕ → ℕ → Step) (s : List ℕ) (start at p : ℕ)
-    → checkList most entry s at ≡ Next p → p ≡ at + (2 + w * countAt s at) → passList most w s start at ≡ Next p
-list-accepted most w entry s start at p e d =
-    let n = counted most entry s at p e .count in
-    list-next most w s start at (at + 2) (omega (arith, n .room)) (digits-fine 5 2 0 most s at (n .room) (n .digits) (n .low) (n .high))
-    ∙ ap Next (omega arith)
-
--- an item
-pub item-accepted : (i : Item) (s : List ℕ) (start at p : ℕ) → checkItem i s at ≡ Next p → passItem i s start at ≡ Next p
-item-accepted (Digits r) s start at p e = ap Next (sym (item-sized (Digits r) .passes s at p e))
-item-accepted AirfieldList s start at p e = list-accepted 20 4 checkAirfield s start at p e (item-sized AirfieldList .passes s at p e)
-item-accepted BoxList s start at p e = list-accepted 16 14 checkBox s start at p e (item-sized BoxList .passes s at p e)
-
--- and a section
-pub items-accepted : (is : List Item) (s : List ℕ) (start at p : ℕ) → checkItems is s at ≡ Next p → passItems is s start at ≡ Next p
-unfolding checkItems passItems
-items-accepted [] s start at p e =
-    let d = delimiter s at p e in
-    rw (le-leb (at + 1) (length s) (d .0)) (ap Next (d .2))
-items-accepted (i ∷ is) s start at p e =
-    after-cases (checkItem i s at) (checkItems is s) p e
-    (λ q (c : checkItem i s at ≡ Next q) (d : checkItems is s q ≡ Next p).
-    rw (item-accepted i s start at q c) (items-accepted is s start q p d))

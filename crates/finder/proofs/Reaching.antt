@@ -22,6 +22,26 @@ use Rattle.finder.specs.Finding.{passSection, reach}
 use Rattle.finder.specs.Inner.{sectionPassed}
 use Rattle.finder.proofs.Passing.{items-inside, items-accepted}
 
+-- ---- In an accepted text
+
+-- it comes to where the section stands
+pub reach-accepted : (ks s : List ℕ) (at j p : ℕ) → checkFrom ks s at ≡ Next p → reach ks s at j ≡ Next (placeFrom ks s at j)
+unfolding reach checkFrom placeFrom
+reach-accepted [] s at j p e = refl
+reach-accepted (k ∷ ks) s at j p e =
+    by-test (eqb j k)
+    (λ (y : eqb j k ≡ true). rw y)
+    (λ (y : eqb j k ≡ false).
+    by-test (isNamed s k)
+    (λ (m : isNamed s k ≡ true).
+    after-cases (checkSection k s at) (checkFrom ks s) p (rw m at e)
+    (λ q (c : checkSection k s at ≡ Next q) (d : checkFrom ks s q ≡ Next p).
+    let end = cut-end (layoutOf k) s at q c in
+    rw (y, m, items-accepted (layoutOf k) s at at q c, ← end) (reach-accepted ks s q j p d)))
+    (λ (m : isNamed s k ≡ false). rw (y, m) (reach-accepted ks s at j p (rw m at e))))
+
+-- ---- In any text
+
 -- what is passed over ends in the text
 pub passed-inside : (s : List ℕ) (k p q : ℕ) → p ≤ length s → sectionPassed s k p ≡ Next q → q ≤ length s
 passed-inside s k p q h e = go (isNamed s k) e
@@ -76,21 +96,3 @@ reach-inside (k ∷ ks) s at j p h e =
     (λ q (c : passSection k s at ≡ Next q) (d : reach ks s q j ≡ Next p).
     reach-inside ks s q j p (items-inside (layoutOf k) s at at q c .1) d))
     (λ (m : isNamed s k ≡ false). reach-inside ks s at j p h (rw (y, m) at e)))
-
--- ---- In an accepted text
-
--- it comes to where the section stands
-pub reach-accepted : (ks s : List ℕ) (at j p : ℕ) → checkFrom ks s at ≡ Next p → reach ks s at j ≡ Next (placeFrom ks s at j)
-unfolding reach checkFrom placeFrom
-reach-accepted [] s at j p e = refl
-reach-accepted (k ∷ ks) s at j p e =
-    by-test (eqb j k)
-    (λ (y : eqb j k ≡ true). rw y)
-    (λ (y : eqb j k ≡ false).
-    by-test (isNamed s k)
-    (λ (m : isNamed s k ≡ true).
-    after-cases (checkSection k s at) (checkFrom ks s) p (rw m at e)
-    (λ q (c : checkSection k s at ≡ Next q) (d : checkFrom ks s q ≡ Next p).
-    let end = cut-end (layoutOf k) s at q c in
-    rw (y, m, items-accepted (layoutOf k) s at at q c, ← end) (reach-accepted ks s q j p d)))
-    (λ (m : isNamed s k ≡ false). rw (y, m) (reach-accepted ks s at j p (rw m at e))))

@@ -1,13 +1,11 @@
 -- How many bytes the digits of a section are.
-use mathlib.Core.Path.{_≡_, refl, ap}
-use mathlib.Core.Bool.{cond}
+use mathlib.Core.Path.{_≡_, refl}
 use mathlib.Core.List.{List, [], _∷_, map}
 use Prim.Native.Nat.{ℕ, zero, suc, _+_, _≤_, _<_}
 use native.Mathlib.Omega.{arith}
-use lib.Dec.{leb}
+use native.Mathlib.Nat.{add-zero, add-assoc}
 use lib.ListN.{length, getD, drop}
 use lib.Seq.{drop-nil}
-use Rattle.field.specs.declared.Step.the-variants.{Next, Stop}
 use Rattle.section.specs.declared.Row.{Row}
 use Rattle.section.specs.Layout.{Digits, noRow}
 use Rattle.finder.specs.Finding.{passItems}
@@ -30,12 +28,10 @@ width-end [] i h = rw (drop-nil i)
 width-end (r ∷ rows) zero h = absurd (omega arith)
 width-end (r ∷ rows) (suc i) h = width-end rows i (omega arith)
 
--- digits are passed over, and the delimiter
+-- digits are passed over
 pub digits-passed : (rows : List Row) (s : List ℕ) (start at : ℕ)
-    → passItems (map Digits rows) s start at
-    ≡ cond (leb (at + widthOf rows + 1) (length s)) (Next (at + widthOf rows + 1)) (Stop 8 start)
+    → passItems (map Digits rows) s start at ≡ passItems [] s start (at + widthOf rows)
 unfolding passItems widthOf
-digits-passed [] s start at = let e : at + 0 + 1 ≡ at + 1 = omega arith in rw e
+digits-passed [] s start at = rw (add-zero at)
 digits-passed (r ∷ rows) s start at =
-    let e : at + (r .width + widthOf rows) + 1 ≡ at + r .width + widthOf rows + 1 = omega arith in
-    rw e (digits-passed rows s start (at + r .width))
+    rw (← add-assoc at (r .width) (widthOf rows)) (digits-passed rows s start (at + r .width))
