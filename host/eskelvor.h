@@ -34,8 +34,9 @@
  * 3.4.0: code 4 in a packed field points at the byte that is wrong, no longer at the field's first.
  * 3.5.0: a box may go over 180 degrees, and 7 is not given for longitudes; 180E and 180W hold the same positions.
  * 4.0.0: section 7, descent: esk_descent in esk_settings; a command has up to 845 bytes, and a board as many a slot;
- * libeskelvor.so.4. */
-#define ESK_VERSION "4.0.0"
+ * libeskelvor.so.4.
+ * 4.1.0: esk_section, and esk_part_of over its answer. */
+#define ESK_VERSION "4.1.0"
 
 #ifdef __cplusplus
 extern "C" {
@@ -60,8 +61,8 @@ enum {
                           number, a small letter in a name; place: the field's first byte, and 0 for a designator or
                           an airfield that is handed over by itself; in a packed field the byte from which on nothing
                           could mend it, see esk_packed_read */
-    ESK_RANGE = 5,     /* number outside its range; place: the field's first byte, and 0 for what esk_decide, esk_explain
-                          and esk_journal_drop are asked */
+    ESK_RANGE = 5,     /* number outside its range; place: the field's first byte, and 0 for what esk_section,
+                          esk_decide, esk_explain and esk_journal_drop are asked */
     ESK_SPELLING = 6,  /* a number in a spelling other than its one spelling: a packed figure in more digits than it
                           needs, zero degrees spelt south or west; place: the field's first byte */
     ESK_DISAGREE = 7,  /* fields disagree: wind direction without speed, a present observation behind an absent one, a
@@ -442,6 +443,42 @@ esk_command_got esk_command_read(const uint8_t *text, size_t length);
  *   2  room below the text's length; place 0
  */
 esk_answer esk_command_write(const esk_command *command, uint8_t *out, size_t room);
+
+/* One section of a command's text, as esk_section finds it. 16 bytes, no padding. place and length are both 0 where the
+ * text doesn't name the section; of a refusal the place is the refusal's, and the length 0. */
+typedef struct esk_part {
+    size_t place;     /* of the section's first byte in the text */
+    uint32_t length;  /* of the section, its '/' counted */
+    uint8_t code;     /* 0, 1, 3, 4, 5 or 8 */
+    uint8_t spare[3]; /* 0 */
+} esk_part;
+
+/*
+ * Finds one section of a command, `number` 2 to 9, from the header, bytes 0 to 21, and the counts of lists alone: the
+ * boxes and airfields that are passed over cost nothing. The text is lent for reading, and nothing of it is copied;
+ * esk_part_of has the section's bytes. Of a text that esk_command_check accepts they are that section. Of any other, all
+ * that isn't the header or a count on the way may be anything, and so may what stands behind the section.
+ *   5  the number is not 2 to 9; place 0
+ *   1  over 845 bytes; place 0
+ * and then, in each field of the header, at its first byte, as esk_command_check:
+ *   8  the text ends inside the field, or before it
+ *   3  AWR04 or the delimiter is wrong
+ *   4  a flag, the downlink digit or an indicator is another byte
+ * A section that the header doesn't name is then answered with code 0 and no bytes. Else, in each section that is named up
+ * to that one:
+ *   8  the text ends inside a count, or where it would begin; place: the count's first byte
+ *   4  a count has a non-digit; place: its first byte
+ *   5  a count is above 16, of boxes, or 20, of airfields; place: its first byte
+ *   8  the text ends inside the section, and no count of it is refused before; place: the section's first byte
+ */
+esk_part esk_section(uint32_t number, const uint8_t *text, size_t length);
+
+/* The bytes of a section that esk_section found in this text, part.length of them: the caller's own, not a copy. NULL where
+ * there are none: the section is not named, or a refusal. */
+static inline const uint8_t *esk_part_of(const uint8_t *text, esk_part part)
+{
+    return part.length > 0 ? text + part.place : NULL;
+}
 
 /* ---- the configuration ----------------------------------------------------------------------------------------- */
 
