@@ -12,6 +12,7 @@ _eskelvor_options() {
     report) echo '--jsonl --csv --fields --count --quiet' ;;
     check | join) echo "$text" ;;
     explain) echo "$text --options" ;;
+    section) echo "$text --words" ;;
     compose)
         echo '--config -c --amdar --inhibit-hours --regions --airports --ascent --enroute --descent --downlink'
         echo '--reporting-box --report --inhibiting-box --inhibit --selected-for-ascent --selected-for-descent'
@@ -53,7 +54,7 @@ _eskelvor_values() {
     esac
 }
 
-_eskelvor_subcommands='report check explain compose join apply config decide why packed board journal night help'
+_eskelvor_subcommands='report check explain section compose join apply config decide why packed board journal night help'
 
 _eskelvor() {
     local current=${COMP_WORDS[COMP_CWORD]} before=${COMP_WORDS[COMP_CWORD - 1]} subcommand='' at words lead=''
