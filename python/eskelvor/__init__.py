@@ -5,7 +5,7 @@
     b'AWR041199999100400009/300/2301/'
 
 Reports: ``reports``, ``read_report``, ``write_report``, ``check_report``. Commands: ``read_command``, ``write_command``,
-``check_command``, ``command_fields``, ``join``. An aircraft's configuration: ``Configuration``, with ``apply``, ``decide``
+``check_command``, ``command_fields``, ``section``, ``join``. An aircraft's configuration: ``Configuration``, with ``apply``, ``decide``
 and ``explain``. What waits for aircraft out of coverage: ``Board``. What was taken for them: ``Journal``. One
 figure: ``read_packed``, ``write_packed``.
 
@@ -32,6 +32,7 @@ from ._commands import (
     command_fields,
     join,
     read_command,
+    section,
     write_command,
 )
 from ._configuration import Configuration, Decision, Explanation, Phase, Reason, Settings, minutes
@@ -111,6 +112,7 @@ __all__ = [
     "read_packed",
     "read_report",
     "reports",
+    "section",
     "words_of",
     "write_command",
     "write_packed",

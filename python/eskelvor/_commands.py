@@ -1,4 +1,4 @@
-"""Uplink commands, 22 to 845 bytes: checked, read into a record, written, told field by field, joined."""
+"""Uplink commands, 22 to 845 bytes: checked, read into a record, written, told field by field, taken apart, joined."""
 
 from dataclasses import dataclass
 from typing import Iterator, List, NamedTuple, Optional, Sequence, Tuple
@@ -21,6 +21,7 @@ from ._library import (
     room,
     u8,
     u16,
+    u32,
 )
 from ._refusals import refuse
 
@@ -344,6 +345,20 @@ def write_command(command: Command) -> bytes:
     answer = lib.esk_command_write(raw, out, len(out))
     refuse(answer.code, answer.place)
     return out.raw[: answer.length]
+
+
+def section(number: int, text: Text) -> bytes:
+    """The bytes of one section of a command, 2 to 9, its delimiter included; none where the command doesn't name it.
+
+    It is found from the first 22 bytes and the counts of lists alone: what else is wrong with the command isn't seen.
+
+    >>> section(9, "AWR049199999100400009/300/2301/")
+    b'2301/'
+    """
+    data = as_bytes(text)
+    part = lib.esk_section(u32(number), data, len(data))
+    refuse(part.code, part.place)
+    return data[part.place : part.place + part.length]
 
 
 def join(first: Text, second: Text) -> bytes:

@@ -11,7 +11,7 @@ from pathlib import Path
 from typing import Dict, List, Optional, Tuple, Type, Union
 
 #: The version of eskelvor.h that this module is written for: the first number must be the library's, the second not above.
-HEADER_VERSION = (4, 0)
+HEADER_VERSION = (4, 1)
 SONAME = "libeskelvor.so.%d" % HEADER_VERSION[0]
 ENVIRONMENT = "ESKELVOR_LIBRARY"
 
@@ -190,6 +190,10 @@ class RawEntry(ctypes.Structure):
     ]
 
 
+class Part(ctypes.Structure):
+    _fields_ = [("place", _size), ("length", _u32), ("code", _u8), ("spare", _u8 * 3)]
+
+
 #: Every record of the header by its name there.
 RECORDS: Dict[str, Type[ctypes.Structure]] = {
     "esk_answer": Answer,
@@ -217,6 +221,7 @@ RECORDS: Dict[str, Type[ctypes.Structure]] = {
     "esk_explained": Explained,
     "esk_slot": Slot,
     "esk_entry": RawEntry,
+    "esk_part": Part,
 }
 
 # ---- calls -------------------------------------------------------------------------------------------------------------
@@ -238,6 +243,7 @@ CALLS: Dict[str, Tuple[object, List[object]]] = {
     "esk_command_check": (Answer, [_bytes, _size]),
     "esk_command_read": (CommandGot, [_bytes, _size]),
     "esk_command_write": (Answer, [ctypes.POINTER(RawCommand), _room, _size]),
+    "esk_section": (Part, [_u32, _bytes, _size]),
     "esk_reset": (RawSettings, []),
     "esk_settings_valid": (Answer, [_settings]),
     "esk_apply": (Applied, [_settings, _bytes, _size]),
@@ -356,6 +362,11 @@ def u8(number: Optional[int]) -> int:
 def u16(number: int) -> int:
     """Two bytes, likewise."""
     return within(operator.index(number), 0, 65535)
+
+
+def u32(number: int) -> int:
+    """Four bytes, likewise."""
+    return within(operator.index(number), 0, 2 ** 32 - 1)
 
 
 def i32(number: int) -> int:

@@ -61,7 +61,7 @@ class ByteNotAllowed(Refusal):
 
 
 class OutOfRange(Refusal):
-    """5: a number outside its range, or more entries to be dropped than a journal has."""
+    """5: a number outside its range, no section of that number, or more entries to be dropped than a journal has."""
 
     code = 5
 

@@ -5,7 +5,7 @@ from dataclasses import replace
 import eskelvor
 from eskelvor import (
     Airports, AscentScheme, Box, Command, Configuration, Decision, DescentScheme, Flags, Hours, LevelFlight, Phase,
-    Reason, Regions, check_command, command_fields, join, minutes, read_command, write_command,
+    Reason, Regions, check_command, command_fields, join, minutes, read_command, section, write_command,
 )
 from known import BOTH, EXAMPLES, FIRST, FIVE, LONGEST, SECOND, SEVEN, Case, head
 
@@ -80,6 +80,21 @@ class Commands(Case):
             self.refused(code, place, lambda: write_command(command))
         full = Command(regions=Regions(16 * (box,)))
         self.assertEqual(write_command(full), head(2) + b"16" + 16 * b"10N10S010W010E" + b"00/")
+
+    def test_sections(self) -> None:
+        for text in (BOTH, LONGEST, eskelvor.NO_CHANGE):
+            parts = [section(k, text) for k in range(2, 10)]
+            self.assertEqual(text[:22] + b"".join(parts), text)
+            for k, part in zip(range(2, 10), parts):
+                self.assertEqual(part != b"", text[11 + k] == 48 + k)
+        self.assertEqual(section(9, BOTH.decode("ascii")), b"2301/")
+        self.assertEqual(section(2, head(2) + b"0000?and more"), b"0000?")
+        for number in (-1, 0, 1, 10, 2 ** 32 + 2):
+            self.refused(5, 0, lambda: section(number, b""))
+        for code, place, tail in ((8, 24, b"00"), (8, 22, b"01"), (8, 22, b"0000"), (4, 22, b"0a"), (5, 22, b"17")):
+            self.refused(code, place, lambda: section(2, head(2) + tail))
+        self.refused(1, 0, lambda: section(9, LONGEST + b"/"))
+        self.refused(3, 0, lambda: section(9, b"AWR05"))
 
     def test_fields(self) -> None:
         for text in (eskelvor.NO_CHANGE, FIRST, BOTH, LONGEST, head(3) + b"01ABCD02EFGHIJKL00001/", head(6, 8) + b"1/0/"):
