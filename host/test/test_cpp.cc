@@ -14,6 +14,7 @@ static_assert(std::is_trivially_copyable<esk_report>::value && std::is_standard_
               "a record is plain memory");
 static_assert(sizeof(esk_settings) == 614 && sizeof(esk_command) == 624 && sizeof(esk_slot) == 8, "as in C");
 static_assert(sizeof(esk_entry) == 32 && std::is_trivially_copyable<esk_entry>::value, "as in C");
+static_assert(sizeof(esk_part) == 16 && std::is_trivially_copyable<esk_part>::value, "as in C");
 
 static const uint8_t *at(std::string_view text) { return reinterpret_cast<const uint8_t *>(text.data()); }
 
@@ -65,6 +66,9 @@ static void commands()
     HOLD(got.answer.code == ESK_ACCEPTED && got.command.settings.hours.start == 23 && got.command.named[7] == 9);
     a = esk_command_write(&got.command, out.data(), out.size());
     HOLD(a.code == ESK_ACCEPTED && text_in(out, a.length) == both);
+    const esk_part part = esk_section(9, at(both), both.size()), none = esk_section(5, at(both), both.size());
+    HOLD(part.code == ESK_ACCEPTED && part.length == 5 && esk_part_of(at(both), part) == at(both) + 26);
+    HOLD(none.code == ESK_ACCEPTED && esk_part_of(at(both), none) == nullptr);
 }
 
 static void configuration()
