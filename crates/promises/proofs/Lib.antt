@@ -13,6 +13,7 @@ pub mod Join
 pub mod Journal
 mod JournalBytes
 pub mod Packed
+pub mod Part
 mod Relaid
 pub mod Report
 mod Sections

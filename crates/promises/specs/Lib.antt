@@ -9,6 +9,7 @@ pub mod Join
 pub mod Journal
 pub mod JournalBytes
 pub mod Packed
+pub mod Part
 pub mod Report
 pub mod Sections
 pub mod Zero
