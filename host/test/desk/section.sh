@@ -28,13 +28,15 @@ out_is 'section 4: level flight' '  a report every 15 minutes' '  reports of the
 answers 0 'in words, not named' section 5 --words $lists
 out_is "section 5 isn't named"
 answers 1 'in words it is read' section 4 --words "$broken"
-err_has 'command 1: refused: code 4 at byte 57' 'section 4, interval'
+err_has 'command 1: refused: code 4 at byte 55'
+answers 1 'in words, the field' section 9 --words AWR049999999000400009/xx1/2401/
+err_has 'command 1: refused: code 5 at byte 26'
 
 answers 0 'for a machine' section 9 --json $lists $second
 json_has subcommand=section results.0.accepted=true results.0.section=9 results.0.named=true results.0.place=59 \
     results.0.length=5 results.0.text=2301/ results.1.place=26 status=0
 answers 0 'for a machine, in words' section 4 --words --json $lists
-json_has results.0.place=55 results.0.holds.report_every_minutes=15 status=0
+json_has results.0.place=55 results.0.holds.interval_minutes=15 status=0
 answers 0 'for a machine, not named' section 7 --json $second
 json_has results.0.named=false results.0.place=0 results.0.length=0 results.0.text= status=0
 
@@ -56,4 +58,4 @@ answers 2 'no number' section nine $second
 err_is 'eskelvor: nine: no section: they are numbered 2 to 9'
 answers 2 'no command' section 9
 err_has 'no section or no command'
-done_with section
+done_with 'sections found'
