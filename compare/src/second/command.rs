@@ -70,7 +70,7 @@ pub fn walk(text: &[u8], keep: &mut impl Keep) -> Result<(), Refusal> {
 
 /// `AWR04`, seven flags, the downlink digit, eight indicators, `/`.
 #[inline(always)]
-fn head(text: &[u8]) -> Result<(), Refusal> {
+pub fn head(text: &[u8]) -> Result<(), Refusal> {
     if field(text, 0)? != b"AWR04" {
         return refuse(FIXED, 0);
     }
@@ -167,7 +167,7 @@ fn numbers(section: usize, row: &[Number], text: &[u8], mut at: usize, keep: &mu
 }
 
 #[inline(always)]
-fn count(most: u16, text: &[u8], at: usize) -> Result<u8, Refusal> {
+pub fn count(most: u16, text: &[u8], at: usize) -> Result<u8, Refusal> {
     ranged(field::<2>(text, at)?, 0, most, RANGE, at).map(|count| count as u8)
 }
 

@@ -3,6 +3,7 @@
 use super::command::{walk, Keep};
 use super::settings::*;
 use super::{refuse, Refusal, ROOM};
+use std::ops::Range;
 
 /// A refusal, and which text it speaks of: 1, 2, or 0 for the room.
 #[derive(Clone, Copy, Debug, PartialEq, Eq)]
@@ -42,10 +43,16 @@ pub fn parts(text: &[u8]) -> Result<Parts<'_>, Refusal> {
 }
 
 impl Parts<'_> {
+    /// Where a section stands.
+    #[inline(always)]
+    pub fn span(&self, number: usize) -> Range<usize> {
+        let (from, to) = self.spans.0[number - 2];
+        usize::from(from)..usize::from(to)
+    }
+
     #[inline(always)]
     fn section(&self, number: usize) -> &[u8] {
-        let (from, to) = self.spans.0[number - 2];
-        &self.text[usize::from(from)..usize::from(to)]
+        &self.text[self.span(number)]
     }
 
     /// "Each flag and section from the second text where it sets one, else from the first; the larger downlink digit."

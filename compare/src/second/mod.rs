@@ -1,6 +1,6 @@
 //! The second program, written from the text of documents 01 and 02 alone, and from the header's words where these say
-//! more: packed figures and reports; commands, the configuration, the decision and its reason, joining, the board and
-//! the journal.
+//! more: packed figures and reports; commands and one section of them, the configuration, the decision and its reason,
+//! joining, the board and the journal.
 
 pub mod allowed;
 pub mod board;
@@ -10,6 +10,7 @@ pub mod decide;
 pub mod join;
 pub mod journal;
 pub mod packed;
+pub mod part;
 pub mod raw;
 pub mod record;
 pub mod report;

@@ -156,7 +156,7 @@ pub const MOST: usize = HEAD + BOXES_MOST + AIRFIELDS_MOST + SHORT;
 const _: () = assert!(short(&DESCENT) == 10 && MOST == 845);
 
 /// The bytes of a row of numbers and its delimiter.
-const fn short(row: &[Number]) -> usize {
+pub const fn short(row: &[Number]) -> usize {
     let (mut bytes, mut index) = (1, 0);
     while index < row.len() {
         bytes += row[index].bytes;

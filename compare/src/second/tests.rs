@@ -6,6 +6,7 @@ mod decisions;
 mod forms;
 mod joins;
 mod journals;
+mod parts;
 mod reasons;
 mod records;
 
