@@ -9,6 +9,7 @@ pub mod explain;
 pub mod join;
 pub mod journal;
 pub mod report;
+pub mod section;
 
 use crate::asked::Replies;
 use crate::ours::Answer;

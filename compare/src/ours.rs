@@ -89,6 +89,7 @@ const _: () = {
 /// # Safety
 /// Only for structs in which every sequence of bytes is a value and no byte is padding.
 pub unsafe trait Plain: Copy {}
+unsafe impl Plain for u64 {}
 unsafe impl Plain for Answer {}
 unsafe impl Plain for Figure {}
 unsafe impl Plain for Packed {}

@@ -1,5 +1,5 @@
-//! Where the two programs meet in what goes up: commands, configurations, decisions, reasons, joins, boards and
-//! journals.
+//! Where the two programs meet in what goes up: commands and their sections, configurations, decisions, reasons, joins,
+//! boards and journals.
 
 use super::answer;
 use crate::ours::uplink as ours;
@@ -10,12 +10,21 @@ use crate::second::join::Fault;
 use crate::second::journal::{Entry, NAME};
 use crate::second::settings::*;
 use crate::second::Refusal;
+use std::ops::Range;
 
 /// What esk_command_read ought to answer: the command is 0 where it refuses.
 pub fn got(read: &Result<Command, Refusal>) -> ours::CommandGot {
     match read {
         Ok(read) => ours::CommandGot { answer: answer(Ok(0)), command: command(read) },
         Err(refusal) => ours::CommandGot { answer: answer(Err(*refusal)), command: Default::default() },
+    }
+}
+
+/// What esk_section ought to answer.
+pub fn part(found: &Result<Range<usize>, Refusal>) -> ours::Part {
+    match found {
+        Ok(part) => ours::Part { place: part.start, length: part.len() as u32, ..Default::default() },
+        Err(Refusal { code, place }) => ours::Part { code: *code, place: *place as usize, ..Default::default() },
     }
 }
 

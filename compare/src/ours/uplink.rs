@@ -1,4 +1,4 @@
-//! The header's structs for commands, the configuration, the decision, its reason, the board and the journal.
+//! The header's structs for commands, a section of them, the configuration, the decision, its reason, the board and the journal.
 
 use super::{Answer, Plain};
 use std::mem::{offset_of, size_of};
@@ -125,6 +125,15 @@ pub struct CommandGot {
 
 #[repr(C)]
 #[derive(Clone, Copy, Debug, Default, PartialEq, Eq)]
+pub struct Part {
+    pub place: usize,
+    pub length: u32,
+    pub code: u8,
+    pub spare: [u8; 3],
+}
+
+#[repr(C)]
+#[derive(Clone, Copy, Debug, Default, PartialEq, Eq)]
 pub struct Applied {
     pub place: usize,
     pub code: u8,
@@ -186,6 +195,7 @@ const _: () = {
     assert!(size_of::<Command>() == 624 && offset_of!(Command, downlink) == 614);
     assert!(offset_of!(Command, named) == 615 && offset_of!(Command, spare) == 623);
     assert!(size_of::<CommandGot>() == 640 && offset_of!(CommandGot, command) == 16);
+    assert!(size_of::<Part>() == 16 && offset_of!(Part, length) == 8 && offset_of!(Part, code) == 12);
     assert!(size_of::<Applied>() == 16 && offset_of!(Applied, downlink) == 9);
     assert!(size_of::<Decided>() == 16 && offset_of!(Decided, code) == 8 && offset_of!(Decided, decision) == 9);
     assert!(size_of::<Explained>() == 16 && offset_of!(Explained, code) == 8 && offset_of!(Explained, decision) == 9);
@@ -198,6 +208,7 @@ const _: () = {
 unsafe impl Plain for Settings {}
 unsafe impl Plain for Command {}
 unsafe impl Plain for CommandGot {}
+unsafe impl Plain for Part {}
 unsafe impl Plain for Applied {}
 unsafe impl Plain for Decided {}
 unsafe impl Plain for Explained {}

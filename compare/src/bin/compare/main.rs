@@ -7,6 +7,7 @@
 //!     packed-read HEX (- is no byte)                packed-write NUMBER GIVEN WIDTH ROOM
 //!     report HEX                                    record HEX ROOM
 //!     command HEX                                   command-record HEX ROOM
+//!     section NUMBER TEXT
 //!     reset                                         apply SETTINGS TEXT
 //!     decide SETTINGS PHASE LATITUDE LONGITUDE HOUR AIRFIELD
 //!     explain, as decide
@@ -34,17 +35,18 @@ mod queue;
 mod records;
 mod reports;
 mod run;
+mod sections;
 
 use run::{Options, Run};
 use std::process::exit;
 
 const USAGE: &str = "compare [--seed N] [--long] [--groups GROUP,.. | --only FAMILY] | compare case WORDS
-groups: report, command, config, decide, explain, join, board, journal, all";
+groups: report, command, section, config, decide, explain, join, board, journal, all";
 
 type Group = (&'static str, fn(&mut Run));
 
 /// Each group and its families.
-const GROUPS: [Group; 8] = [
+const GROUPS: [Group; 9] = [
     ("report", |run| {
         packed::families(run);
         reports::families(run);
@@ -55,6 +57,7 @@ const GROUPS: [Group; 8] = [
         commands::families(run);
         command_records::families(run);
     }),
+    ("section", sections::families),
     ("config", configs::families),
     ("decide", decisions::families),
     ("explain", explanations::families),
@@ -68,6 +71,7 @@ fn standing() -> Vec<String> {
     let groups = [
         ("report", true),
         ("command", cfg!(feature = "command")),
+        ("section", cfg!(feature = "section")),
         ("config", cfg!(feature = "config")),
         ("decide", cfg!(feature = "decide")),
         ("explain", cfg!(feature = "explain")),

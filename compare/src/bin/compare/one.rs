@@ -1,7 +1,7 @@
 //! One case from the command line, as a mismatch prints it.
 
 use crate::run;
-use desk_compare::cases::{board, command, config, decide, explain, join, journal, report};
+use desk_compare::cases::{board, command, config, decide, explain, join, journal, report, section};
 use desk_compare::ours::{self, of_bytes, Plain};
 
 /// Runs the case and gives the exit status, or says what is wrong with the words. `@FILE` stands for words in a file.
@@ -15,6 +15,7 @@ pub fn case(words: &[String]) -> Result<i32, String> {
     match words.first() {
         Some(&("packed-read" | "packed-write" | "report" | "record")) => run::one(report_case(&words)?),
         Some(&("command" | "command-record")) => run::one(command_case(&words)?),
+        Some(&"section") => run::one(section_case(&words)?),
         Some(&("reset" | "apply")) => run::one(config_case(&words)?),
         Some(&"decide") => run::one(decide_case(&words[1..])?),
         Some(&"explain") => run::one(explain::Case::from(decide_case(&words[1..])?)),
@@ -48,6 +49,13 @@ fn command_case(words: &[&str]) -> Result<command::Case, String> {
         ["command-record", record, at] => command::Case::Record { record: plain(record)?, room: room(at)? },
         _ => return no_such_case(),
     })
+}
+
+fn section_case(words: &[&str]) -> Result<section::Case, String> {
+    match words {
+        ["section", number, text] => Ok(section::Case { text: bytes(text)?, numbers: vec![parse(number)?] }),
+        _ => no_such_case(),
+    }
 }
 
 fn config_case(words: &[&str]) -> Result<config::Case, String> {
