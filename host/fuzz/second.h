@@ -18,6 +18,8 @@ esk_answer second_command_check(const uint8_t *text, size_t length);
 esk_command_got second_command_read(const uint8_t *text, size_t length);
 esk_answer second_command_write(esk_command command, uint8_t *out, size_t room);
 
+esk_part second_section(uint8_t number, const uint8_t *text, size_t length);
+
 esk_settings second_reset(void);
 esk_answer second_settings_valid(esk_settings settings);
 esk_applied second_apply(esk_settings *settings, const uint8_t *text, size_t length);

@@ -42,6 +42,25 @@ static void command_write(input from)
     give_back("out", out);
 }
 
+/* Number, text. The answer is held against the second program's; the part that the header's own function points to
+ * against the second program's bytes; and of an accepted text the number alone may be at fault. */
+static void section(input from)
+{
+    uint8_t number = take_byte(&from);
+    lent text = lend_rest(&from);
+    esk_part ours = esk_section(number, text.ours, text.length);
+    esk_part second = second_section(number, text.second, text.length);
+    hold("answer", &ours, &second, sizeof ours);
+    const uint8_t *part = esk_part_of(text.ours, ours);
+    if (part != NULL)
+        hold("part", part, text.second + second.place, second.length);
+    if (esk_command_check(text.ours, text.length).code == ESK_ACCEPTED) {
+        const uint8_t code = number < 2 || number > 9 ? ESK_RANGE : ESK_ACCEPTED;
+        hold("accepted", &ours.code, &code, 1);
+    }
+    give_back("text", text);
+}
+
 /* There is nothing to hand over. */
 static void reset(input from)
 {
@@ -146,6 +165,7 @@ const target uplink_targets[] = {
     {"esk_command_check", "answer text", command_check},
     {"esk_command_read", "answer command text", command_read},
     {"esk_command_write", "answer command out", command_write},
+    {"esk_section", "answer part accepted text", section},
     {"esk_reset", "settings", reset},
     {"esk_settings_valid", "answer settings", settings_valid},
     {"esk_apply", "answer settings text", apply},

@@ -1,12 +1,12 @@
-//! The calls of what goes up: commands, the configuration, the decision and its reason, the join, the board
-//! and the journal.
+//! The calls of what goes up: commands and their sections, the configuration, the decision and its reason, the join, the
+//! board and the journal.
 
 use super::{lent, lent_mut};
 use desk_compare::meet::{self, uplink as meet_up};
-use desk_compare::ours::uplink::{Applied, Command, CommandGot, Decided, Entry, Explained, Settings, Slot};
+use desk_compare::ours::uplink::{Applied, Command, CommandGot, Decided, Entry, Explained, Part, Settings, Slot};
 use desk_compare::ours::Answer;
 use desk_compare::second::decide::Question;
-use desk_compare::second::{board, command, config, decide, join, journal, spell};
+use desk_compare::second::{board, command, config, decide, join, journal, part, spell};
 
 /// # Safety
 /// As `lent` and `lent_mut` of each byte string; so it is for every call below.
@@ -27,6 +27,13 @@ pub unsafe extern "C" fn second_command_read(text: *const u8, length: usize) -> 
 #[no_mangle]
 pub unsafe extern "C" fn second_command_write(command: Command, out: *mut u8, room: usize) -> Answer {
     meet::answer(spell::write(&meet_up::meant_command(&command), lent_mut(out, room)))
+}
+
+/// # Safety
+/// As above.
+#[no_mangle]
+pub unsafe extern "C" fn second_section(number: u8, text: *const u8, length: usize) -> Part {
+    meet_up::part(&part::find(number, lent(text, length)))
 }
 
 #[no_mangle]

@@ -15,7 +15,7 @@ const COUNT: usize = 12;
 /// One input of a call; `index` runs through the forms that differ most.
 type Maker = fn(&mut Random, usize) -> Vec<u8>;
 
-const CALLS: [(&str, Maker); 22] = [
+const CALLS: [(&str, Maker); 23] = [
     ("esk_packed_read", downlink::packed_read),
     ("esk_packed_write", downlink::packed_write),
     ("esk_report_check", downlink::report_text),
@@ -24,6 +24,7 @@ const CALLS: [(&str, Maker); 22] = [
     ("esk_command_check", uplink::command_text),
     ("esk_command_read", uplink::command_text),
     ("esk_command_write", uplink::command_write),
+    ("esk_section", uplink::section),
     ("esk_reset", |_, index| vec![index as u8]),
     ("esk_settings_valid", uplink::settings),
     ("esk_apply", uplink::apply),

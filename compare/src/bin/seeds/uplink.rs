@@ -36,6 +36,12 @@ pub fn command_write(random: &mut Random, index: usize) -> Vec<u8> {
     [&short(MOST)[..], bytes_of(&meet::command(&command))].concat()
 }
 
+/// Number, text: each section of a text that names it, and the last of a short and a long one.
+pub fn section(random: &mut Random, index: usize) -> Vec<u8> {
+    let number = if index < 8 { index as u8 + 2 } else { 9 };
+    [vec![number], command_text(random, index)].concat()
+}
+
 pub fn settings(random: &mut Random, index: usize) -> Vec<u8> {
     let held = match index % 3 {
         0 => config::reset(),
