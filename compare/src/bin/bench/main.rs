@@ -27,6 +27,8 @@ mod linked;
 mod measure;
 #[cfg(linked)]
 mod reports;
+#[cfg(linked)]
+mod sections;
 
 #[cfg(linked)]
 fn main() {
@@ -40,6 +42,7 @@ fn main() {
     let bench = measure::Bench::start(word);
     reports::rows(&bench);
     commands::rows(&bench);
+    sections::rows(&bench);
     configs::rows(&bench);
     decisions::rows(&bench);
     joins::rows(&bench);

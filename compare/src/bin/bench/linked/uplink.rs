@@ -1,12 +1,13 @@
 //! The calls of what goes up.
 
-use desk_compare::ours::uplink::{Applied, Command, CommandGot, Decided, Entry, Explained, Settings, Slot};
+use desk_compare::ours::uplink::{Applied, Command, CommandGot, Decided, Entry, Explained, Part, Settings, Slot};
 use desk_compare::ours::Answer;
 
 extern "C" {
     fn esk_command_check(text: *const u8, length: usize) -> Answer;
     fn esk_command_read(text: *const u8, length: usize) -> CommandGot;
     fn esk_command_write(command: *const Command, out: *mut u8, room: usize) -> Answer;
+    fn esk_section(number: u32, text: *const u8, length: usize) -> Part;
     fn esk_reset() -> Settings;
     fn esk_settings_valid(settings: *const Settings) -> Answer;
     fn esk_apply(settings: *mut Settings, text: *const u8, length: usize) -> Applied;
@@ -93,6 +94,11 @@ pub fn command_read(text: &[u8]) -> CommandGot {
 #[inline(always)]
 pub fn command_write(command: &Command, out: &mut [u8]) -> Answer {
     unsafe { esk_command_write(command, out.as_mut_ptr(), out.len()) }
+}
+
+#[inline(always)]
+pub fn section(number: u8, text: &[u8]) -> Part {
+    unsafe { esk_section(u32::from(number), text.as_ptr(), text.len()) }
 }
 
 #[inline(always)]
