@@ -15,32 +15,17 @@ use settings::empty::no_settings;
 use settings::reset::after_reset;
 use text::copy;
 use text::is_designator;
+use text::same_bytes;
 ghost use mathlib.Core.Path.{_≡_};
 ghost use mathlib.Core.Bool.{true};
 ghost use Prim.Native.Nat.{_+_, _≤_};
 ghost use lib.ListN.{length, take};
 ghost use Rattle.text.specs.declared.Seen.the-variants.{Fine};
 ghost use Rattle.command.specs.Text.{longest, checkCommand};
-ghost use Rattle.text.specs.Equal.{sameBytes};
 ghost use Rattle.join.specs.Join.{joinText, noChange};
 ghost use Rattle.journal.specs.Journal.{isEntry, entryAt};
 ghost use Rattle.journal.specs.Calls.{noReplay, replayed};
 ghost use Rattle.journal.specs.Inner.{joinedAt, Holds, Gathered};
-
-fn same_bytes(a: &[u8], b: &[u8]) -> bool
-    ensures { λ r. ⌜ r ≡ sameBytes (now (a .entry)) (now (b .entry)) ⌝ }
-{
-    if a.len() != b.len() {
-        return false;
-    }
-    let mut same = true;
-    let mut i = 0;
-    while i < a.len() {
-        same = same & (a[i] == b[i]);
-        i += 1;
-    }
-    same
-}
 
 // The command that changes nothing, over the start of `later`.
 fn put_no_change(later: &mut [u8]) -> usize

@@ -4,6 +4,7 @@ ghost use mathlib.Core.Bool.{cond};
 ghost use lib.ListN.{length};
 ghost use lib.Dec.{leb};
 ghost use Rattle.text.specs.Names.{allowed, allAllowed, isDesignator};
+ghost use Rattle.text.specs.Equal.{sameBytes};
 ghost use Rattle.text.specs.Over.{over};
 
 // What a check finds: all fine, or a refusal with its code and its place.
@@ -44,6 +45,22 @@ pub fn is_designator(s: &[u8]) -> bool
         return false;
     }
     all_allowed(s)
+}
+
+// Whether two texts are the same bytes. One loop with one way out, as above.
+pub fn same_bytes(a: &[u8], b: &[u8]) -> bool
+    ensures { λ r. ⌜ r ≡ sameBytes (now (a .entry)) (now (b .entry)) ⌝ }
+{
+    if a.len() != b.len() {
+        return false;
+    }
+    let mut same = true;
+    let mut i = 0;
+    while i < a.len() {
+        same = same & (a[i] == b[i]);
+        i += 1;
+    }
+    same
 }
 
 // Writes `s` over the start of `d`; where it has no room there, `d` stays as it is.

@@ -1,14 +1,14 @@
--- `journal::replay::same_bytes` meets its contract. The loop's invariant: what was compared so far, and what is left, are together the test of all.
+-- `text::same_bytes` meets its contract. The loop's invariant: what was compared so far, and what is left, are together the test of all.
 use mathlib.Core.Path.{_≡_, refl, sym, _∙_}
 use mathlib.Core.Bool.{_&&_, and-true}
 use Prim.Native.Nat.{_≤_, _-_}
 use native.Mathlib.Omega.{arith}
 use lib.ListN.{length, drop}
 use denote.Ref.{now}
 use Rattle.text.specs.Equal.{sameBytes}
 use Rattle.text.proofs.Equal.{same-length, same-turn, same-end}
-use Rattle.journal.proofs.replay.same_bytes.Statement.{statement}
-use Rattle.journal.proofs.replay.same_bytes.Tie as tie
+use Rattle.text.proofs.same_bytes.Statement.{statement}
+use Rattle.text.proofs.same_bytes.Tie as tie
 
 abbrev Inv-loop : tie.InvT-loop
 Inv-loop a b same₀ i₀ same i = (i ≤ length a) × (sameBytes a b ≡ (same && sameBytes (drop i a) (drop i b)))
