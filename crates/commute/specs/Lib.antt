@@ -1,0 +1,2 @@
+pub mod Commute
+pub mod Order
