@@ -3,6 +3,7 @@ pub mod Decisions
 pub mod Joins
 pub mod Journal
 pub mod Numbers
+pub mod Orders
 pub mod Outcomes
 pub mod Parts
 pub mod Reports

@@ -2,6 +2,7 @@
 mod answers;
 mod board_calls;
 mod command_calls;
+mod commute_calls;
 mod config_calls;
 mod decide_calls;
 mod join_calls;
@@ -75,6 +76,20 @@ pub struct HostDecided {
     pub decision: u8,
     pub spare: u16,
     pub rest: u32,
+}
+
+// The answer of whether two commands may be sent either way round: yes 1 or 0, and a bit for each flag and section that both set
+// differently. All are 0 in a refusal.
+#[repr(C)]
+pub struct HostCommute {
+    pub place: usize,
+    pub code: u8,
+    pub text: u8,
+    pub yes: u8,
+    pub flags: u8,
+    pub sections: u8,
+    pub spare: u8,
+    pub rest: u16,
 }
 
 // The answer of a step from the end of a journal: where an entry starts, where its text does and how long that is. `given` is 0
