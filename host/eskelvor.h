@@ -35,8 +35,9 @@
  * 3.5.0: a box may go over 180 degrees, and 7 is not given for longitudes; 180E and 180W hold the same positions.
  * 4.0.0: section 7, descent: esk_descent in esk_settings; a command has up to 845 bytes, and a board as many a slot;
  * libeskelvor.so.4.
- * 4.1.0: esk_section, and esk_part_of over its answer. */
-#define ESK_VERSION "4.1.0"
+ * 4.1.0: esk_section, and esk_part_of over its answer.
+ * 4.2.0: esk_commute. */
+#define ESK_VERSION "4.2.0"
 
 #ifdef __cplusplus
 extern "C" {
@@ -593,6 +594,30 @@ esk_explained esk_explain(const esk_settings *settings, uint8_t phase, int32_t l
  */
 esk_answer esk_join(const uint8_t *first, size_t first_length, const uint8_t *second, size_t second_length,
                     uint8_t *out, size_t room);
+
+/* ---- when order is of no account -------------------------------------------------------------------------------- */
+
+/* The answer of esk_commute. 16 bytes, no padding. */
+typedef struct esk_commute_answer {
+    size_t place;     /* offset of the byte that the code speaks of, from 0 */
+    uint8_t code;     /* 0, or a code of esk_command_check */
+    uint8_t text;     /* which text is at fault, 1 or 2; 0 where code is 0 */
+    uint8_t yes;      /* 1 either way round is the same, 0 it is not; 0 on refusal */
+    uint8_t flags;    /* bit i: both set flag i, and differently; i from 0, AMDAR, to 6, descent. 0 on refusal */
+    uint8_t sections; /* bit k - 2: both name section k, with other contents; k from 2 to 9. 0 on refusal */
+    uint8_t spare[3]; /* 0 */
+} esk_commute_answer;
+
+/*
+ * Whether two commands may be sent either way round, and what stands against it. yes is 1 exactly where, from every
+ * valid configuration, applying `a` and then `b` gives the same one as applying `b` and then `a`; and that is where flags
+ * and sections are both 0: every flag and section that both set has the same contents in both. The joined texts are then
+ * the same bytes too. The downlink digits play no part: esk_join keeps the larger, whichever comes first. The two texts
+ * are lent for reading, and may be the same.
+ *   the refusals of esk_command_check for `a`, with text 1 and the place in it, and then
+ *   those for `b`, with text 2 and the place in it
+ */
+esk_commute_answer esk_commute(const uint8_t *a, size_t a_length, const uint8_t *b, size_t b_length);
 
 /* ---- the waiting board ------------------------------------------------------------------------------------------ */
 
