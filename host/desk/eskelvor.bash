@@ -13,6 +13,7 @@ _eskelvor_options() {
     check | join) echo "$text" ;;
     explain) echo "$text --options" ;;
     section) echo "$text --words" ;;
+    commute) echo "$text --exit-code" ;;
     compose)
         echo '--config -c --amdar --inhibit-hours --regions --airports --ascent --enroute --descent --downlink'
         echo '--reporting-box --report --inhibiting-box --inhibit --selected-for-ascent --selected-for-descent'
@@ -54,7 +55,7 @@ _eskelvor_values() {
     esac
 }
 
-_eskelvor_subcommands='report check explain section compose join apply config decide why packed board journal night help'
+_eskelvor_subcommands='report check explain section compose join commute apply config decide why packed board journal night help'
 
 _eskelvor() {
     local current=${COMP_WORDS[COMP_CWORD]} before=${COMP_WORDS[COMP_CWORD - 1]} subcommand='' at words lead=''

@@ -1,5 +1,5 @@
 #!/bin/sh
-# Commands: check, explain, join.
+# Commands: check, explain, join, commute.
 . "$(dirname "$0")/cases.sh"
 none=AWR049999999000000000/
 first=AWR041999999000400000/151/
@@ -198,4 +198,37 @@ for file in "$examples"/*.damaged; do
     answers 1 'the damaged one is refused' check "$file"
 done
 
-done_with 'commands checked, explained, joined'
+# Either way round
+answers 0 'nothing is shared' commute $first AWR049199999100000009/2301/
+out_is 'either way round'
+answers 0 'the same is shared' commute $first AWR041999999200400000/151/
+out_is 'either way round'
+answers 0 'a section stands against it' commute $first $second
+out_is 'the order counts: both set section 4 (level flight), and differently'
+answers 0 'a flag and two sections do' commute AWR041999999000400009/151/0102/ AWR040999999000400009/150/0103/
+out_is 'the order counts: both set flag AMDAR, section 4 (level flight) and section 9 (the hours of silence), and differently'
+answers 0 'two flags do' commute AWR040000000000000000/ AWR049991991000000000/
+out_is 'the order counts: both set flag airports and flag descent, and differently'
+answers 1 'and by the status' commute --exit-code $first $second
+answers 0 'which is 0 where it does not count' commute --exit-code $first $none
+answers 0 'for a machine' commute --json AWR040000000000000000/ AWR049991991000006000/0/
+json_has results.0.either_way=false results.0.flags.0=airports results.0.flags.1=descent results.0.first=1 results.0.second=2 \
+    'results.0.second_from=command 2' status=0
+answers 0 'sections for a machine' commute --json $first $second
+json_has results.0.either_way=false results.0.sections.0=4
+answers 1 'for a machine, by the status' commute --json --exit-code $first $second
+json_has results.0.either_way=false status=1
+printf '%s\n' $first $second $none >"$scratch/three"
+answers 0 'of more than two, each against those before it' commute "$scratch/three"
+out_is "$scratch/three, line 2 may not be moved before $scratch/three, line 1: both set section 4 (level flight), and differently" \
+    "$scratch/three, line 3 may be moved before $scratch/three, line 1" \
+    "$scratch/three, line 3 may be moved before $scratch/three, line 2"
+answers 0 'the same typed, for a machine' commute --json $none $first $second
+json_has results.0.either_way=true results.1.either_way=true results.2.either_way=false results.2.first=2 results.2.second=3
+answers 1 'one is refused: none is told' commute $first AWR049x $second
+out_is
+err_has 'command 2: refused: code 4 at byte 6'
+answers 2 'one alone' commute $first
+err_is 'eskelvor: one command alone; give two or more'
+
+done_with 'commands checked, explained, joined, held against each other'

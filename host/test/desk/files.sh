@@ -17,6 +17,7 @@ check @
 check --exact @
 explain @
 join @
+commute @
 apply -c @
 apply @
 decide --phase level --lat 0 --lon 0 --hour 0 -c @
