@@ -5,8 +5,8 @@
     b'AWR041199999100400009/300/2301/'
 
 Reports: ``reports``, ``read_report``, ``write_report``, ``check_report``. Commands: ``read_command``, ``write_command``,
-``check_command``, ``command_fields``, ``section``, ``join``. An aircraft's configuration: ``Configuration``, with ``apply``, ``decide``
-and ``explain``. What waits for aircraft out of coverage: ``Board``. What was taken for them: ``Journal``. One
+``check_command``, ``command_fields``, ``section``, ``join``, ``commute``. An aircraft's configuration: ``Configuration``, with
+``apply``, ``decide`` and ``explain``. What waits for aircraft out of coverage: ``Board``. What was taken for them: ``Journal``. One
 figure: ``read_packed``, ``write_packed``.
 
 Every verdict is one call's of the library. A refusal is raised as a ``Refusal``, with code, place and words; nothing that
@@ -27,9 +27,11 @@ from ._commands import (
     Flags,
     Hours,
     LevelFlight,
+    Order,
     Regions,
     check_command,
     command_fields,
+    commute,
     join,
     read_command,
     section,
@@ -89,6 +91,7 @@ __all__ = [
     "NoRoom",
     "NothingWaits",
     "Observation",
+    "Order",
     "OutOfRange",
     "Phase",
     "REPORT_BYTES",
@@ -105,6 +108,7 @@ __all__ = [
     "check_command",
     "check_report",
     "command_fields",
+    "commute",
     "join",
     "library_version",
     "minutes",

@@ -1,4 +1,4 @@
-"""Uplink commands, 22 to 845 bytes: checked, read into a record, written, told field by field, taken apart, joined."""
+"""Uplink commands, 22 to 845 bytes: checked, read, written, told field by field, taken apart, joined, held against each other."""
 
 from dataclasses import dataclass
 from typing import Iterator, List, NamedTuple, Optional, Sequence, Tuple
@@ -373,6 +373,32 @@ def join(first: Text, second: Text) -> bytes:
     answer = lib.esk_join(one, len(one), other, len(other), out, len(out))
     refuse(answer.code, answer.place, answer.text)
     return out.raw[: answer.length]
+
+
+class Order(NamedTuple):
+    """Whether two commands may be sent either way round, and the flags and sections that both set, and differently."""
+
+    either_way: bool
+    flags: Tuple[str, ...] = ()
+    sections: Tuple[int, ...] = ()
+
+
+def commute(first: Text, second: Text) -> Order:
+    """Says whether two commands may be sent either way round: both orders give the same configuration, from every valid one.
+
+    A refusal says in ``text`` which of the two it speaks of.
+
+    >>> commute("AWR041999999000400000/151/", "AWR049199999100400009/300/2301/")
+    Order(either_way=False, flags=(), sections=(4,))
+    """
+    one, other = as_bytes(first), as_bytes(second)
+    answer = lib.esk_commute(one, len(one), other, len(other))
+    refuse(answer.code, answer.place, answer.text)
+    return Order(
+        bool(answer.yes),
+        tuple(name for i, name in enumerate(Flags._fields) if answer.flags >> i & 1),
+        tuple(k for k in range(2, 10) if answer.sections >> (k - 2) & 1),
+    )
 
 
 # ---- a command field by field ------------------------------------------------------------------------------------------

@@ -11,7 +11,7 @@ from pathlib import Path
 from typing import Dict, List, Optional, Tuple, Type, Union
 
 #: The version of eskelvor.h that this module is written for: the first number must be the library's, the second not above.
-HEADER_VERSION = (4, 1)
+HEADER_VERSION = (4, 2)
 SONAME = "libeskelvor.so.%d" % HEADER_VERSION[0]
 ENVIRONMENT = "ESKELVOR_LIBRARY"
 
@@ -174,6 +174,19 @@ class Explained(ctypes.Structure):
     ]
 
 
+class CommuteAnswer(ctypes.Structure):
+    _fields_ = [
+        ("place", _size),
+        ("code", _u8),
+        ("text", _u8),
+        ("yes", _u8),
+        ("flags", _u8),
+        ("sections", _u8),
+        ("spare", _u8),
+        ("spare_on", _u16),
+    ]
+
+
 class Slot(ctypes.Structure):
     _fields_ = [("designator", _u8 * 6), ("length", _u16)]
 
@@ -219,6 +232,7 @@ RECORDS: Dict[str, Type[ctypes.Structure]] = {
     "esk_applied": Applied,
     "esk_decided": Decided,
     "esk_explained": Explained,
+    "esk_commute_answer": CommuteAnswer,
     "esk_slot": Slot,
     "esk_entry": RawEntry,
     "esk_part": Part,
@@ -250,6 +264,7 @@ CALLS: Dict[str, Tuple[object, List[object]]] = {
     "esk_decide": (Decided, _asked),
     "esk_explain": (Explained, _asked),
     "esk_join": (Answer, [_bytes, _size, _bytes, _size, _room, _size]),
+    "esk_commute": (CommuteAnswer, [_bytes, _size, _bytes, _size]),
     "esk_board_check": (Answer, [_slots, _size, _room, _size]),
     "esk_board_add": (Answer, [_slots, _size, _room, _size, _bytes, _size, _bytes, _size]),
     "esk_board_take": (Answer, [_slots, _size, _room, _size, _bytes, _size, _room, _size]),

@@ -5,7 +5,7 @@ from dataclasses import replace
 import eskelvor
 from eskelvor import (
     Airports, AscentScheme, Box, Command, Configuration, Decision, DescentScheme, Flags, Hours, LevelFlight, Phase,
-    Reason, Regions, check_command, command_fields, join, minutes, read_command, section, write_command,
+    Reason, Regions, check_command, command_fields, commute, join, minutes, read_command, section, write_command,
 )
 from known import BOTH, EXAMPLES, FIRST, FIVE, LONGEST, SECOND, SEVEN, Case, head
 
@@ -135,6 +135,37 @@ class Joins(Case):
         self.assertIn("of text 1", str(refusal))
         refusal = self.refused(5, 22, lambda: join(FIRST, head(4) + b"611/"), text=2, kind=eskelvor.OutOfRange)
         self.assertEqual(str(refusal), "code 5 at byte 22 of text 2: a number outside its range")
+
+
+class Orders(Case):
+    def test_known(self) -> None:
+        self.assertEqual(commute(FIRST, SECOND), (False, (), (4,)))
+        self.assertEqual(commute(FIRST, eskelvor.NO_CHANGE), (True, (), ()))
+        self.assertEqual(commute(LONGEST, LONGEST), (True, (), ()))
+        every = ("amdar", "inhibit_hours", "regions", "airports", "ascent", "enroute", "descent")
+        off, on = b"AWR040000000000000000/", b"AWR041111111200000000/"
+        self.assertEqual(commute(off, on), eskelvor.Order(False, every, ()))
+        for k, (one, other) in {2: (b"0000/", b"000110N10S010W010E/"), 3: (b"000000000/", b"000000001/"), 4: (b"151/", b"150/"),
+                                6: (b"0/", b"1/"), 8: (b"1/", b"0/"), 9: (b"0000/", b"0001/")}.items():
+            self.assertEqual(commute(head(k) + one, head(k) + other), (False, (), (k,)))
+            self.assertEqual(commute(head(k) + one, head(k) + one), (True, (), ()))
+
+    def test_the_law(self) -> None:
+        """The answer is yes exactly where both orders leave the same configuration after reset, and then the joins are equal."""
+        texts = [FIRST, SECOND, BOTH, LONGEST, eskelvor.NO_CHANGE, head(4) + b"300/", head(9) + b"2301/", b"AWR041999999100000000/"]
+        for one in texts:
+            for other in texts:
+                forth, back = Configuration(), Configuration()
+                forth.apply(one), forth.apply(other)
+                back.apply(other), back.apply(one)
+                yes = commute(one, other).either_way
+                self.assertEqual(yes, forth == back, (one, other))
+                if yes:
+                    self.assertEqual(join(one, other), join(other, one))
+
+    def test_refusals_name_the_text(self) -> None:
+        self.refused(8, 5, lambda: commute(b"AWR04", b""), text=1, kind=eskelvor.WrongEnd)
+        self.refused(5, 22, lambda: commute(FIRST, head(4) + b"611/"), text=2, kind=eskelvor.OutOfRange)
 
 
 class Configurations(Case):
