@@ -1,30 +1,25 @@
 -- The promises of the configuration, kept.
 use mathlib.Core.Path.{_≡_, refl, sym, ap, _∙_}
-use mathlib.Core.Bool.{Bool, true, false, cond, _&&_}
-use mathlib.Core.List.{List, [], _∷_}
-use Prim.Native.Nat.{ℕ, _+_, _-_, _≤_, _<_}
+use mathlib.Core.Bool.{Bool, true, false, cond}
+use mathlib.Core.List.{List}
+use Prim.Native.Nat.{ℕ}
 use native.Mathlib.Omega.{arith}
-use lib.Dec.{leb, eqb}
-use lib.ListN.{getD}
-use borrow.Author.Tests.{le-leb, lt-leb, eqb-true, ne-eqb}
 use Rattle.text.specs.declared.Seen.{Seen}
 use Rattle.text.specs.declared.Seen.the-variants.{Fine, Bad}
-use Rattle.text.proofs.Bytes.{tests-agree}
 use Rattle.text.proofs.Cases.{by-test}
-use Rattle.text.proofs.Table.{agree}
-use Rattle.section.specs.Layout.{layoutOf, numbers}
+use Rattle.section.specs.Layout.{layoutOf}
 use Rattle.section.specs.Contents.{contentsAt}
 use Rattle.settings.specs.Settings.{contentsOf, settingsFrom, regionsFrom, airportsFrom, enrouteFrom, ascentFrom, hoursFrom}
 use Rattle.settings.specs.declared.Settings.{Settings}
 use Rattle.command.specs.Text.{isNamed, checkCommand}
-use Rattle.command.specs.Sections.{heldIn, isOneOf, placeOf}
+use Rattle.command.specs.Sections.{heldIn, placeOf}
 use Rattle.command.specs.Allowed.{allowedSettings}
-use Rattle.command.proofs.Each.{Each}
 use Rattle.config.specs.Config.{onSeen, refused, applied, keptBy, kept}
 use Rattle.settings.specs.Valid.{reset, valid}
 use Rattle.config.proofs.Allowed.{valid-same}
 use Rattle.config.proofs.Kept.{applied-zero, applied-digit, kept-flag, kept-section}
 use Rattle.config.proofs.Valid.{applies-valid, reset-valid}
+use Rattle.commute.proofs.Numbered.{of-number}
 use Rattle.desk.specs.Numbers.{accepted, answerOf, checkNumbers}
 use Rattle.desk.specs.Outcomes.{validNumbers, appliedNumbers}
 use Rattle.promises.specs.Configuration.{check, apply, ConfigurationPromises}
@@ -32,11 +27,12 @@ use Rattle.promises.proofs.Codes.{accepted-fine, fine-accepted}
 
 -- ---- Validity, by the code
 
-valid-zero : (t : Bool) → validNumbers t .code ≡ 0 → t ≡ true
+-- code 0 is answered just where it is
+pub valid-zero : (t : Bool) → validNumbers t .code ≡ 0 → t ≡ true
 valid-zero true e = refl
 valid-zero false e = absurd (omega arith)
 
-zero-valid : (t : Bool) → t ≡ true → validNumbers t .code ≡ 0
+pub zero-valid : (t : Bool) → t ≡ true → validNumbers t .code ≡ 0
 zero-valid t e = rw e
 
 is-twelve : (t : Bool) → ¬ (validNumbers t .code ≡ 0) → (t ≡ false) × (validNumbers t ≡ answerOf 12 0)
@@ -44,22 +40,6 @@ is-twelve true n = absurd (n refl)
 is-twelve false n = (refl, refl)
 
 -- ---- Sections by their number
-
-each-of : (P : ℕ → Type 0) (ks : List ℕ) → Each P ks → (k : ℕ) → isOneOf ks k ≡ true → P k
-each-of P [] e k o = let z : _≡_ {A = Bool} false true = o in let w : _≡_ {A = ℕ} 0 1 = cc in absurd (omega arith)
-each-of P (j ∷ ks) e k o =
-    by-test (eqb k j) (λ (t : eqb k j ≡ true). rw (eqb-true k j t) (e .0)) (λ (t : eqb k j ≡ false). each-of P ks (e .1) k (rw t at o))
-
-numbered : (k : ℕ) → 2 ≤ k → k ≤ 9 → isOneOf numbers k ≡ true
-numbered k a b =
-    tests-agree (isOneOf numbers) (λ (j : ℕ). leb 2 j && leb j 9)
-    (agree (λ (j : ℕ). cond (isOneOf numbers j) 1 0) (λ (j : ℕ). cond (leb 2 j && leb j 9) 1 0) 128 refl) none-high
-    (λ (j : ℕ) (h : 128 ≤ j). rw (le-leb 2 j (omega arith), lt-leb j 9 (omega arith))) k
-    ∙ rw (le-leb 2 k a, le-leb k 9 b)
-  where
-    none-high : (j : ℕ) → 128 ≤ j → isOneOf numbers j ≡ false
-    none-high j h =
-        rw (ne-eqb j 2 (λ (e : j ≡ 2). omega arith), ne-eqb j 3 (λ (e : j ≡ 3). omega arith), ne-eqb j 4 (λ (e : j ≡ 4). omega arith), ne-eqb j 5 (λ (e : j ≡ 5). omega arith), ne-eqb j 6 (λ (e : j ≡ 6). omega arith), ne-eqb j 7 (λ (e : j ≡ 7). omega arith), ne-eqb j 8 (λ (e : j ≡ 8). omega arith), ne-eqb j 9 (λ (e : j ≡ 9). omega arith))
 
 section-is : (s : List ℕ) (x : Settings) (k : ℕ)
     → cond (isNamed s k) (heldIn s k) (contentsOf x k) ≡ cond (isNamed s k) (contentsAt (layoutOf k) s (placeOf s k)) (contentsOf x k)
@@ -122,8 +102,7 @@ configuration-promises =
       );
       flags = λ x s e i l h. kept-flag x s e i l h;
       sections = λ x s e k a b.
-          let o = numbered k a b in
-          each-of (λ (j : ℕ). contentsOf (kept x s) j ≡ cond (isNamed s j) (heldIn s j) (contentsOf x j)) numbers (kept-section x s e) k o
+          of-number (λ (j : ℕ). contentsOf (kept x s) j ≡ cond (isNamed s j) (heldIn s j) (contentsOf x j)) (kept-section x s e) k a b
           ∙ section-is s x k;
       downlink = λ x s e. applied-digit x s e;
       stays-valid = stays-valid;

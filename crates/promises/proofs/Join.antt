@@ -101,7 +101,8 @@ untouched a b out n = go (join a b (length out)) n
 -- ---- Applied
 
 module _ (x : Settings) (t : List ℕ) (v : valid x ≡ true) (k : checkCommand t ≡ Fine) where
-  kept-is : kept x t ≡ applyTo x t
+  -- what is left where both are accepted
+  pub kept-is : kept x t ≡ applyTo x t
   unfolding kept
   kept-is = rw (v, k)
 

@@ -4,6 +4,7 @@ mod Asked
 pub mod Board
 mod Codes
 pub mod Command
+pub mod Commute
 pub mod Configuration
 pub mod Dateline
 pub mod Decision

@@ -1,6 +1,7 @@
 pub mod Board
 pub mod BoardRuns
 pub mod Command
+pub mod Commute
 pub mod Configuration
 pub mod Dateline
 pub mod Decision
