@@ -130,7 +130,7 @@ class Refusing(Case):
 
     def test_without_a_call(self) -> None:
         self.refuses("has no esk_packed_read", self.built("calls", STUB % ("4.2.0", 16)))
-        for call in (name for name in _library.CALLS if name.startswith("esk_journal_")):
+        for call in (name for name in _library.CALLS if name.startswith(("esk_journal_", "esk_section", "esk_commute"))):
             others = self.calls().replace("void %s(void) {}\n" % call, "")
             self.refuses("has no " + call, self.built(call, STUB % ("4.2.0", 16) + others))
 
