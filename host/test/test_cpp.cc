@@ -62,6 +62,10 @@ static void commands()
     HOLD(a.code == ESK_ACCEPTED && text_in(out, a.length) == both);
     a = esk_join(at(first), first.size(), at("AWR05"sv), 5, out.data(), out.size());
     HOLD(a.code == ESK_FIXED && a.text == 2 && a.place == 0 && a.length == 0);
+    esk_commute_answer order = esk_commute(at(first), first.size(), at(second), second.size());
+    HOLD(order.code == ESK_ACCEPTED && order.yes == 0 && order.flags == 0 && order.sections == 1 << (4 - 2));
+    order = esk_commute(at(second), second.size(), at(both), both.size());
+    HOLD(order.code == ESK_ACCEPTED && order.yes == 1 && order.flags == 0 && order.sections == 0);
     const esk_command_got got = esk_command_read(at(both), both.size());
     HOLD(got.answer.code == ESK_ACCEPTED && got.command.settings.hours.start == 23 && got.command.named[7] == 9);
     a = esk_command_write(&got.command, out.data(), out.size());
