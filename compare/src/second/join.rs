@@ -50,8 +50,9 @@ impl Parts<'_> {
         usize::from(from)..usize::from(to)
     }
 
+    /// Its bytes; none where it isn't named.
     #[inline(always)]
-    fn section(&self, number: usize) -> &[u8] {
+    pub fn section(&self, number: usize) -> &[u8] {
         &self.text[self.span(number)]
     }
 

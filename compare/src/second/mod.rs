@@ -1,10 +1,11 @@
 //! The second program, written from the text of documents 01 and 02 alone, and from the header's words where these say
 //! more: packed figures and reports; commands and one section of them, the configuration, the decision and its reason,
-//! joining, the board and the journal.
+//! joining, whether the order counts, the board and the journal.
 
 pub mod allowed;
 pub mod board;
 pub mod command;
+pub mod commute;
 pub mod config;
 pub mod decide;
 pub mod join;

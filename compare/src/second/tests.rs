@@ -2,6 +2,7 @@
 
 mod boards;
 mod commands;
+mod commutes;
 mod decisions;
 mod forms;
 mod joins;
