@@ -35,7 +35,8 @@ library := target/native/libeskelvor.a
 native_program := target/native/eskelvor
 
 # Those that make the proved calls for the comparison, one for each group of calls that it compares.
-programs := answer answer_command answer_section answer_config answer_decide answer_join answer_board answer_journal
+programs := answer answer_command answer_section answer_config answer_decide answer_join answer_commute answer_board \
+	answer_journal
 
 .PHONY: all demo possible install uninstall test test-desk test-library compare bench growth fuzz replay coverage edits clean
 

@@ -3,6 +3,7 @@
 
 pub mod board;
 pub mod command;
+pub mod commute;
 pub mod config;
 pub mod decide;
 pub mod explain;

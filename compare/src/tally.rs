@@ -3,7 +3,8 @@
 use crate::second::Refusal;
 use std::fmt;
 
-/// How a case came out on both sides: accepted, with a missing figure and each decision told apart, or refused.
+/// How a case came out on both sides: accepted, with a missing figure, each decision and what clashes told apart, or
+/// refused.
 #[derive(Clone, Copy, Debug, PartialEq, Eq)]
 pub enum Outcome {
     Accepted,
@@ -11,10 +12,11 @@ pub enum Outcome {
     Silent,
     Routine,
     Scheme,
+    Clash,
     Refused(u8),
 }
 
-const LABELS: [&str; 5] = ["accepted", "missing", "silent", "routine", "scheme"];
+const LABELS: [&str; 6] = ["accepted", "missing", "silent", "routine", "scheme", "clash"];
 
 /// The reasons of esk_explain, each with the numbers that it goes with: boxes, flags, sections, or none.
 const REASONS: [(usize, &[usize]); 9] = [
@@ -32,7 +34,7 @@ const REASONS: [(usize, &[usize]); 9] = [
 #[derive(Default)]
 pub struct Tally {
     /// Those of the labels, then codes 1 to 14.
-    counts: [u64; 19],
+    counts: [u64; LABELS.len() + 14],
     /// Those of each reason with each number.
     reasons: [[u64; 17]; 10],
 }
@@ -45,7 +47,8 @@ impl Tally {
             Outcome::Silent => 2,
             Outcome::Routine => 3,
             Outcome::Scheme => 4,
-            Outcome::Refused(code) => 4 + usize::from(code),
+            Outcome::Clash => 5,
+            Outcome::Refused(code) => LABELS.len() - 1 + usize::from(code),
         };
         self.counts[at] += 1;
     }
@@ -67,7 +70,7 @@ impl Tally {
     pub fn unmet(&self) -> Vec<String> {
         let numbers = REASONS.iter().flat_map(|(reason, numbers)| numbers.iter().map(|number| (*reason, *number)));
         let reasons = numbers.filter(|(reason, number)| self.reasons[*reason][*number] == 0);
-        let codes = [4, 5, 12].into_iter().filter(|code| self.counts[4 + code] == 0);
+        let codes = [4, 5, 12].into_iter().filter(|code| self.counts[LABELS.len() - 1 + code] == 0);
         let words = reasons.map(|(reason, number)| format!("reason {reason} number {number}"));
         words.chain(codes.map(|code| format!("code {code}"))).collect()
     }
@@ -90,7 +93,9 @@ impl Tally {
 
 impl fmt::Display for Tally {
     fn fmt(&self, to: &mut fmt::Formatter) -> fmt::Result {
-        let label = |at: usize| LABELS.get(at).map_or_else(|| format!("code {}", at - 4), |label| label.to_string());
+        let label = |at: usize| {
+            LABELS.get(at).map_or_else(|| format!("code {}", at + 1 - LABELS.len()), |label| label.to_string())
+        };
         let counts = self.counts.iter().enumerate().filter(|(_, count)| **count > 0);
         let parts: Vec<String> = counts.map(|(at, count)| format!("{count} {}", label(at))).collect();
         write!(to, "{} alike ({})", self.total(), parts.join(", "))?;

@@ -113,23 +113,33 @@ fn sections(random: &mut Random, lists: Lists) -> Sections {
 
 /// A command that names the sections whose bits are set, from that of section 2 on.
 pub fn command_of(random: &mut Random, bits: u32, lists: Lists) -> Command {
-    let named: [u8; 8] = std::array::from_fn(|index| if bits >> index & 1 == 1 { index as u8 + 2 } else { 0 });
     let all = sections(random, lists);
+    let flags = flags(random, &[0, 1, 9]);
+    named_of(&Command { flags, downlink: random.below(3) as u8, sections: all, ..Default::default() }, bits)
+}
+
+/// A command with those sections alone whose bits are set.
+pub fn named_of(all: &Command, bits: u32) -> Command {
+    let named = std::array::from_fn(|index| if bits >> index & 1 == 1 { index as u8 + 2 } else { 0 });
     let mut sections = Sections::default();
-    for number in named {
+    copy_sections(&all.sections, &mut sections, bits);
+    Command { named, sections, ..*all }
+}
+
+/// Puts those sections whose bits are set into the place of others.
+pub fn copy_sections(from: &Sections, to: &mut Sections, bits: u32) {
+    for number in (0..8).filter(|index| bits >> index & 1 == 1).map(|index| index + 2) {
         match number {
-            2 => sections.boxes = all.boxes,
-            3 => (sections.airfields, sections.airports) = (all.airfields, all.airports),
-            4 => sections.enroute = all.enroute,
-            5 => sections.ascent = all.ascent,
-            6 => sections.routine6 = all.routine6,
-            7 => sections.descent = all.descent,
-            8 => sections.routine8 = all.routine8,
-            9 => sections.hours = all.hours,
-            _ => (),
+            2 => to.boxes = from.boxes,
+            3 => (to.airfields, to.airports) = (from.airfields, from.airports),
+            4 => to.enroute = from.enroute,
+            5 => to.ascent = from.ascent,
+            6 => to.routine6 = from.routine6,
+            7 => to.descent = from.descent,
+            8 => to.routine8 = from.routine8,
+            _ => to.hours = from.hours,
         }
     }
-    Command { flags: flags(random, &[0, 1, 9]), downlink: random.below(3) as u8, named, spare: 0, sections }
 }
 
 fn flags(random: &mut Random, from: &[u8]) -> Flags {

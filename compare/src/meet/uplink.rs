@@ -5,6 +5,7 @@ use super::answer;
 use crate::ours::uplink as ours;
 use crate::ours::Answer;
 use crate::second::board::Slot;
+use crate::second::commute::Clash;
 use crate::second::decide::{Cause, Decision, Why};
 use crate::second::join::Fault;
 use crate::second::journal::{Entry, NAME};
@@ -70,6 +71,24 @@ pub fn joined(joined: Result<usize, Fault>) -> Answer {
     match joined {
         Ok(length) => answer(Ok(length)),
         Err(Fault { text, refusal }) => Answer { text, ..answer(Err(refusal)) },
+    }
+}
+
+/// What esk_commute ought to answer: a bit for each flag and section that clashes.
+pub fn commutes(clash: Result<Clash, Fault>) -> ours::CommuteAnswer {
+    fn bits<const N: usize>(of: [bool; N]) -> u8 {
+        of.iter().rev().fold(0, |bits, bit| bits << 1 | u8::from(*bit))
+    }
+    match clash {
+        Ok(clash) => ours::CommuteAnswer {
+            yes: clash.none().into(),
+            flags: bits(clash.flags),
+            sections: bits(clash.sections),
+            ..Default::default()
+        },
+        Err(Fault { text, refusal: Refusal { code, place } }) => {
+            ours::CommuteAnswer { place: place as usize, code, text, ..Default::default() }
+        }
     }
 }
 

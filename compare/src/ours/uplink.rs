@@ -163,6 +163,18 @@ pub struct Explained {
 
 #[repr(C)]
 #[derive(Clone, Copy, Debug, Default, PartialEq, Eq)]
+pub struct CommuteAnswer {
+    pub place: usize,
+    pub code: u8,
+    pub text: u8,
+    pub yes: u8,
+    pub flags: u8,
+    pub sections: u8,
+    pub spare: [u8; 3],
+}
+
+#[repr(C)]
+#[derive(Clone, Copy, Debug, Default, PartialEq, Eq)]
 pub struct Slot {
     pub designator: [u8; 6],
     pub length: u16,
@@ -200,6 +212,9 @@ const _: () = {
     assert!(size_of::<Decided>() == 16 && offset_of!(Decided, code) == 8 && offset_of!(Decided, decision) == 9);
     assert!(size_of::<Explained>() == 16 && offset_of!(Explained, code) == 8 && offset_of!(Explained, decision) == 9);
     assert!(offset_of!(Explained, reason) == 10 && offset_of!(Explained, number) == 11);
+    assert!(size_of::<CommuteAnswer>() == 16 && offset_of!(CommuteAnswer, code) == 8);
+    assert!(offset_of!(CommuteAnswer, text) == 9 && offset_of!(CommuteAnswer, yes) == 10);
+    assert!(offset_of!(CommuteAnswer, flags) == 11 && offset_of!(CommuteAnswer, sections) == 12);
     assert!(size_of::<Slot>() == 8 && offset_of!(Slot, length) == 6);
     assert!(size_of::<Entry>() == 32 && offset_of!(Entry, offset) == 8 && offset_of!(Entry, text) == 16);
     assert!(offset_of!(Entry, length) == 24 && offset_of!(Entry, code) == 28 && offset_of!(Entry, given) == 29);
@@ -212,5 +227,6 @@ unsafe impl Plain for Part {}
 unsafe impl Plain for Applied {}
 unsafe impl Plain for Decided {}
 unsafe impl Plain for Explained {}
+unsafe impl Plain for CommuteAnswer {}
 unsafe impl Plain for Slot {}
 unsafe impl Plain for Entry {}

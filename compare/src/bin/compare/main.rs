@@ -11,7 +11,8 @@
 //!     reset                                         apply SETTINGS TEXT
 //!     decide SETTINGS PHASE LATITUDE LONGITUDE HOUR AIRFIELD
 //!     explain, as decide
-//!     join FIRST SECOND ROOM                        board-check SLOTS AREA
+//!     join FIRST SECOND ROOM                        commute FIRST SECOND SETTINGS
+//!     board-check SLOTS AREA
 //!     board-add SLOTS AREA DESIGNATOR TEXT          board-take SLOTS AREA DESIGNATOR ROOM
 //!     journal-check BUFFER END                      journal-last BUFFER END
 //!     journal-add BUFFER END DESIGNATOR TEXT        journal-drop BUFFER END COUNT
@@ -23,6 +24,7 @@
 mod boards;
 mod command_records;
 mod commands;
+mod commutes;
 mod configs;
 mod decisions;
 mod explanations;
@@ -41,12 +43,12 @@ use run::{Options, Run};
 use std::process::exit;
 
 const USAGE: &str = "compare [--seed N] [--long] [--groups GROUP,.. | --only FAMILY] | compare case WORDS
-groups: report, command, section, config, decide, explain, join, board, journal, all";
+groups: report, command, section, config, decide, explain, join, commute, board, journal, all";
 
 type Group = (&'static str, fn(&mut Run));
 
 /// Each group and its families.
-const GROUPS: [Group; 9] = [
+const GROUPS: [Group; 10] = [
     ("report", |run| {
         packed::families(run);
         reports::families(run);
@@ -62,6 +64,7 @@ const GROUPS: [Group; 9] = [
     ("decide", decisions::families),
     ("explain", explanations::families),
     ("join", joins::families),
+    ("commute", commutes::families),
     ("board", boards::families),
     ("journal", journals::families),
 ];
@@ -76,6 +79,7 @@ fn standing() -> Vec<String> {
         ("decide", cfg!(feature = "decide")),
         ("explain", cfg!(feature = "explain")),
         ("join", cfg!(feature = "join")),
+        ("commute", cfg!(feature = "commute")),
         ("board", cfg!(feature = "board")),
         ("journal", cfg!(feature = "journal")),
     ];

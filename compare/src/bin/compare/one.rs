@@ -1,7 +1,7 @@
 //! One case from the command line, as a mismatch prints it.
 
 use crate::run;
-use desk_compare::cases::{board, command, config, decide, explain, join, journal, report, section};
+use desk_compare::cases::{board, command, commute, config, decide, explain, join, journal, report, section};
 use desk_compare::ours::{self, of_bytes, Plain};
 
 /// Runs the case and gives the exit status, or says what is wrong with the words. `@FILE` stands for words in a file.
@@ -20,6 +20,7 @@ pub fn case(words: &[String]) -> Result<i32, String> {
         Some(&"decide") => run::one(decide_case(&words[1..])?),
         Some(&"explain") => run::one(explain::Case::from(decide_case(&words[1..])?)),
         Some(&"join") => run::one(join_case(&words)?),
+        Some(&"commute") => run::one(commute_case(&words)?),
         Some(&("board-check" | "board-add" | "board-take")) => run::one(board_case(&words)?),
         Some(word) if word.starts_with("journal-") => run::one(journal_case(&words)?),
         _ => no_such_case(),
@@ -87,6 +88,15 @@ fn decide_case(words: &[&str]) -> Result<decide::Case, String> {
 fn join_case(words: &[&str]) -> Result<join::Case, String> {
     match words {
         ["join", first, second, at] => Ok(join::Case { first: bytes(first)?, second: bytes(second)?, room: room(at)? }),
+        _ => no_such_case(),
+    }
+}
+
+fn commute_case(words: &[&str]) -> Result<commute::Case, String> {
+    match words {
+        ["commute", first, second, settings] => {
+            Ok(commute::Case { first: bytes(first)?, second: bytes(second)?, settings: plain(settings)? })
+        }
         _ => no_such_case(),
     }
 }
