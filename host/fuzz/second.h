@@ -31,6 +31,9 @@ esk_explained second_explain(esk_settings settings, uint8_t phase, int32_t latit
 esk_answer second_join(const uint8_t *first, size_t first_length, const uint8_t *second, size_t second_length,
                        uint8_t *out, size_t room);
 
+esk_commute_answer second_commute(const uint8_t *first, size_t first_length, const uint8_t *second,
+                                  size_t second_length);
+
 esk_answer second_board_check(const esk_slot *slots, size_t n, const uint8_t *area, size_t area_length);
 esk_answer second_board_add(esk_slot *slots, size_t n, uint8_t *area, size_t area_length, const uint8_t *designator,
                             size_t designator_length, const uint8_t *text, size_t length);

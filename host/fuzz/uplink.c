@@ -1,5 +1,8 @@
-/* Targets of what goes up: commands, the configuration, the decision, its reason and the join. */
+/* Targets of what goes up: commands and their sections, the configuration, the decision and its reason, the join, and
+ * whether the order counts. */
 #include "harness.h"
+
+#include <string.h>
 
 /* A room for a command: up to 1023 bytes, past the longest one. */
 static lent command_room(input *from)
@@ -161,6 +164,26 @@ static void join(input from)
     give_back("out", out);
 }
 
+/* Length of the first text, both texts. The answer is held against the second program's, and of accepted texts the yes
+ * or no against our own joins in both orders: it is yes exactly where these are the same bytes. */
+static void commute(input from)
+{
+    static uint8_t ab[ESK_COMMAND_BYTES], ba[ESK_COMMAND_BYTES];
+    size_t length = take_short(&from);
+    lent a = lend_next(&from, length), b = lend_rest(&from);
+    esk_commute_answer ours = esk_commute(a.ours, a.length, b.ours, b.length);
+    esk_commute_answer second = second_commute(a.second, a.length, b.second, b.length);
+    hold("answer", &ours, &second, sizeof ours);
+    if (ours.code == ESK_ACCEPTED) {
+        esk_answer one = esk_join(a.ours, a.length, b.ours, b.length, ab, sizeof ab);
+        esk_answer other = esk_join(b.ours, b.length, a.ours, a.length, ba, sizeof ba);
+        const uint8_t same = one.length == other.length && memcmp(ab, ba, one.length) == 0;
+        hold("joins", &ours.yes, &same, 1);
+    }
+    give_back("first", a);
+    give_back("second", b);
+}
+
 const target uplink_targets[] = {
     {"esk_command_check", "answer text", command_check},
     {"esk_command_read", "answer command text", command_read},
@@ -172,5 +195,6 @@ const target uplink_targets[] = {
     {"esk_decide", "answer settings airfield", decide},
     {"esk_explain", "answer decided reason settings airfield", explain},
     {"esk_join", "answer first second out", join},
+    {"esk_commute", "answer joins first second", commute},
     {NULL, NULL, NULL},
 };

@@ -3,10 +3,12 @@
 
 use super::{lent, lent_mut};
 use desk_compare::meet::{self, uplink as meet_up};
-use desk_compare::ours::uplink::{Applied, Command, CommandGot, Decided, Entry, Explained, Part, Settings, Slot};
+use desk_compare::ours::uplink::{
+    Applied, Command, CommandGot, CommuteAnswer, Decided, Entry, Explained, Part, Settings, Slot,
+};
 use desk_compare::ours::Answer;
 use desk_compare::second::decide::Question;
-use desk_compare::second::{board, command, config, decide, join, journal, part, spell};
+use desk_compare::second::{board, command, commute, config, decide, join, journal, part, spell};
 
 /// # Safety
 /// As `lent` and `lent_mut` of each byte string; so it is for every call below.
@@ -100,6 +102,18 @@ pub unsafe extern "C" fn second_join(
     room: usize,
 ) -> Answer {
     meet_up::joined(join::join(lent(first, first_length), lent(second, second_length), lent_mut(out, room)))
+}
+
+/// # Safety
+/// As above.
+#[no_mangle]
+pub unsafe extern "C" fn second_commute(
+    first: *const u8,
+    first_length: usize,
+    second: *const u8,
+    second_length: usize,
+) -> CommuteAnswer {
+    meet_up::commutes(commute::commute(lent(first, first_length), lent(second, second_length)))
 }
 
 /// The second program's slots, and the caller's as a call left them.

@@ -15,7 +15,7 @@ const COUNT: usize = 12;
 /// One input of a call; `index` runs through the forms that differ most.
 type Maker = fn(&mut Random, usize) -> Vec<u8>;
 
-const CALLS: [(&str, Maker); 23] = [
+const CALLS: [(&str, Maker); 24] = [
     ("esk_packed_read", downlink::packed_read),
     ("esk_packed_write", downlink::packed_write),
     ("esk_report_check", downlink::report_text),
@@ -30,6 +30,7 @@ const CALLS: [(&str, Maker); 23] = [
     ("esk_apply", uplink::apply),
     ("esk_decide", uplink::decide),
     ("esk_join", uplink::join),
+    ("esk_commute", uplink::commute),
     ("esk_board_check", uplink::board),
     ("esk_board_add", uplink::board_add),
     ("esk_board_take", uplink::board_take),

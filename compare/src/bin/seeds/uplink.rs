@@ -72,6 +72,19 @@ pub fn join(random: &mut Random, index: usize) -> Vec<u8> {
     [&short(MOST)[..], &short(first.len()), &first, &second].concat()
 }
 
+/// Length of the first text, both texts: those of a join, and a text beside itself.
+pub fn commute(random: &mut Random, index: usize) -> Vec<u8> {
+    let [first, second] = match index {
+        0 => [JOIN[0].to_vec(), JOIN[1].to_vec()],
+        1..=8 => [command_text(random, index), command_text(random, 11 - index)],
+        _ => {
+            let text = command_text(random, index);
+            [text.clone(), text]
+        }
+    };
+    [&short(first.len())[..], &first, &second].concat()
+}
+
 fn designator(index: usize) -> [u8; 6] {
     format!("AU{index:04}").as_bytes().try_into().expect("six bytes")
 }
