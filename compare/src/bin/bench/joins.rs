@@ -1,9 +1,10 @@
-//! Rows of joins.
+//! Rows of joins, and of the question whether their order counts.
 
 use crate::linked::uplink as linked;
 use crate::measure::{best, pass, Bench, INPUTS};
 use desk_compare::make::uplink::{command_of, text, Lists};
 use desk_compare::random::Random;
+use desk_compare::second::commute::{commute, Clash};
 use desk_compare::second::join::{join, Fault};
 use desk_compare::second::settings::MOST;
 use std::hint::black_box;
@@ -11,6 +12,18 @@ use std::hint::black_box;
 #[inline(never)]
 fn second_join(first: &[u8], second: &[u8], out: &mut [u8]) -> Result<usize, Fault> {
     join(first, second, out)
+}
+
+#[inline(never)]
+fn second_commute(first: &[u8], second: &[u8]) -> Result<Clash, Fault> {
+    commute(first, second)
+}
+
+fn commutes(pairs: &[[Vec<u8>; 2]]) -> [f64; 2] {
+    best(
+        || pass(pairs, |[first, second]| linked::commute(first, second)),
+        || pass(pairs, |[first, second]| second_commute(first, second)),
+    )
 }
 
 /// Joins of pairs of texts.
@@ -25,13 +38,14 @@ pub fn joins<T: AsRef<[u8]>>(pairs: &[[T; 2]]) -> [f64; 2] {
 pub fn rows(bench: &Bench) {
     let mut random = Random::new(1, "bench-join");
     for (name, bits, lists) in [
-        ("join, two short commands (22 bytes)".to_string(), 0, Lists::Empty),
-        ("join, two typical commands".to_string(), 0x9d, Lists::Few),
-        (format!("join, two full commands ({MOST} bytes)"), 0xff, Lists::Full),
+        ("two short commands (22 bytes)".to_string(), 0, Lists::Empty),
+        ("two typical commands".to_string(), 0x9d, Lists::Few),
+        (format!("two full commands ({MOST} bytes)"), 0xff, Lists::Full),
     ] {
         let mut one = || text(&command_of(&mut random, bits, lists));
         let pairs: Vec<[Vec<u8>; 2]> = (0..INPUTS).map(|_| [one(), one()]).collect();
         let bytes = pairs.iter().flatten().map(Vec::len).sum::<usize>() / INPUTS;
-        bench.row(&name, INPUTS, Some(bytes), || joins(&pairs));
+        bench.row(&format!("join, {name}"), INPUTS, Some(bytes), || joins(&pairs));
+        bench.row(&format!("either way round, {name}"), INPUTS, Some(bytes), || commutes(&pairs));
     }
 }

@@ -1,6 +1,8 @@
 //! The calls of what goes up.
 
-use desk_compare::ours::uplink::{Applied, Command, CommandGot, Decided, Entry, Explained, Part, Settings, Slot};
+use desk_compare::ours::uplink::{
+    Applied, Command, CommandGot, CommuteAnswer, Decided, Entry, Explained, Part, Settings, Slot,
+};
 use desk_compare::ours::Answer;
 
 extern "C" {
@@ -37,6 +39,7 @@ extern "C" {
         out: *mut u8,
         room: usize,
     ) -> Answer;
+    fn esk_commute(first: *const u8, first_length: usize, second: *const u8, second_length: usize) -> CommuteAnswer;
     fn esk_board_check(slots: *const Slot, n: usize, area: *const u8, area_length: usize) -> Answer;
     fn esk_board_add(
         slots: *mut Slot,
@@ -131,6 +134,11 @@ pub fn explain(settings: &Settings, [phase, hour]: [u8; 2], [north, east]: [i32;
 #[inline(always)]
 pub fn join(first: &[u8], second: &[u8], out: &mut [u8]) -> Answer {
     unsafe { esk_join(first.as_ptr(), first.len(), second.as_ptr(), second.len(), out.as_mut_ptr(), out.len()) }
+}
+
+#[inline(always)]
+pub fn commute(first: &[u8], second: &[u8]) -> CommuteAnswer {
+    unsafe { esk_commute(first.as_ptr(), first.len(), second.as_ptr(), second.len()) }
 }
 
 #[inline(always)]
