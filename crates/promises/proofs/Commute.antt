@@ -11,11 +11,15 @@ use borrow.Author.Tests.{eqb-true, eqb-false, ne-eqb, not-true, le-leb}
 use Rattle.text.specs.declared.Seen.{Seen}
 use Rattle.text.specs.declared.Seen.the-variants.{Fine, Bad}
 use Rattle.text.proofs.Cases.{both-left, both-right}
-use Rattle.section.specs.Layout.{numbers}
+use Rattle.text.specs.Bytes.{bytes}
+use Rattle.text.specs.Equal.{sameBytes}
+use Rattle.field.specs.Decimal.{allDigits, valueFrom}
+use Rattle.field.specs.Fields.{checkDigits, checkDelimiter}
+use Rattle.section.specs.Layout.{numbers, layoutOf, tableOf, checkItems, itemsSize}
 use Rattle.settings.specs.Valid.{valid, reset}
 use Rattle.settings.specs.declared.Settings.{Settings}
-use Rattle.command.specs.Text.{isNamed, longest, checkCommand}
-use Rattle.command.specs.Sections.{heldIn}
+use Rattle.command.specs.Text.{isNamed, checkEach, checkAwr04, checkHead, checkFrom, longest, checkCommand}
+use Rattle.command.specs.Sections.{heldIn, placeFrom}
 use Rattle.command.proofs.Codes.{check-coded}
 use Rattle.config.specs.Config.{applyTo, kept}
 use Rattle.config.proofs.Valid.{applies-valid, reset-valid}
@@ -35,7 +39,7 @@ use Rattle.desk.specs.declared.HostCommute.{HostCommute}
 use Rattle.promises.specs.BoardRuns.{IsAccepted}
 use Rattle.promises.specs.Configuration.{check}
 use Rattle.promises.specs.Join.{joinAnswer, bufferJoined}
-use Rattle.promises.specs.Commute.{commuteAnswer, refusing, BothOrders, flagIn, contentsIn, SameContents, FlagApart, SectionApart, Answered, AsJoin, CommutePromises}
+use Rattle.promises.specs.Commute.{commuteAnswer, refusing, answering, BothOrders, flagIn, contentsIn, SameContents, FlagApart, SectionApart, Answered, AsJoin, CommutePromises}
 use Rattle.promises.proofs.Codes.{accepted-fine, fine-accepted}
 use Rattle.promises.proofs.Configuration.{valid-zero, zero-valid}
 use Rattle.promises.proofs.Join.{kept-is}
@@ -182,6 +186,16 @@ module _ (a b : List ℕ) (p : IsAccepted a) (q : IsAccepted b) where
         none = yes-none f s;
       })
 
+-- ---- The printed pair
+
+printed-no : commuteAnswer (bytes "AWR041999999000400000/151/") (bytes "AWR049199999100400009/300/2301/") ≡ answering 0 0 4
+unfolding compared bitsOf checkCommand checkHead checkAwr04 sameBytes checkEach checkDelimiter checkFrom checkItems checkDigits allDigits valueFrom layoutOf tableOf itemsSize placeFrom
+printed-no = refl
+
+printed-yes : commuteAnswer (bytes "AWR049199999100400009/300/2301/") (bytes "AWR041199999100400009/300/2301/") ≡ answering 1 0 0
+unfolding compared bitsOf checkCommand checkHead checkAwr04 sameBytes checkEach checkDelimiter checkFrom checkItems checkDigits allDigits valueFrom layoutOf tableOf itemsSize placeFrom
+printed-yes = refl
+
 -- ---- Refusals
 
 accepts : (a b : List ℕ) → (commuteAnswer a b .code ≡ 0) ↔ (IsAccepted a × IsAccepted b)
@@ -244,6 +258,8 @@ commute-promises =
       itself = λ a p. join-same a (accepted-fine a p);
       earlier-copy = λ a b p q. join-earlier a b (accepted-fine a p) (accepted-fine b q);
       answers = answers;
+      printed-no = printed-no;
+      printed-yes = printed-yes;
       accepts = accepts;
       first-refused = first-refused;
       second-refused = second-refused;

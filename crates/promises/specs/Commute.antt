@@ -5,6 +5,7 @@ use mathlib.Core.Bool.{true}
 use mathlib.Core.List.{List}
 use Prim.Native.Nat.{ℕ, _+_, _-_, _<_, _≤_}
 use lib.ListN.{length, getD}
+use Rattle.text.specs.Bytes.{bytes}
 use Rattle.section.specs.Layout.{layoutOf}
 use Rattle.section.specs.Contents.{Content, contentsAt}
 use Rattle.settings.specs.Valid.{reset}
@@ -29,6 +30,10 @@ commuteAnswer a b = commuteNumbers (compared a b)
 -- a refusal's code and place, and which text is at fault; all else is 0
 abbrev pub refusing : ℕ → Answer → HostCommute
 refusing n r = record { place = r .place; code = r .code; text = n; yes = 0; flags = 0; sections = 0; spare = 0; rest = 0 }
+
+-- yes or no, and what stands against it
+abbrev pub answering : ℕ → ℕ → ℕ → HostCommute
+answering y f s = record { place = 0; code = 0; text = 0; yes = y; flags = f; sections = s; spare = 0; rest = 0 }
 
 -- "the same configuration in both orders, from every valid configuration"; what esk_apply leaves is `kept`
 abbrev pub BothOrders : List ℕ → List ℕ → Type 0
@@ -99,6 +104,9 @@ pub record CommutePromises : Type 0 where
   pub earlier-copy : (a b : List ℕ) → IsAccepted a → IsAccepted b → joinText b (joinText a b) ≡ joinText a b
   -- "Supply a yes or no for two texts that says exactly this"
   pub answers : (a b : List ℕ) → IsAccepted a → IsAccepted b → Answered a b (commuteAnswer a b)
+  -- there are both: document 01's printed pair is a no, by section 4, and the second beside their join a yes
+  pub printed-no : commuteAnswer (bytes "AWR041999999000400000/151/") (bytes "AWR049199999100400009/300/2301/") ≡ answering 0 0 4
+  pub printed-yes : commuteAnswer (bytes "AWR049199999100400009/300/2301/") (bytes "AWR041199999100400009/300/2301/") ≡ answering 1 0 0
   -- "refusing as a join does but for room"
   pub accepts : (a b : List ℕ) → (commuteAnswer a b .code ≡ 0) ↔ (IsAccepted a × IsAccepted b)
   pub first-refused : (a b : List ℕ) → ¬ IsAccepted a → commuteAnswer a b ≡ refusing 1 (checkNumbers (checkCommand a))
