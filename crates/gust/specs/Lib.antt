@@ -1,0 +1,4 @@
+pub mod Floor
+pub mod Gust
+pub mod Inner
+pub mod Rows
