@@ -15,12 +15,12 @@ use Rattle.gust.specs.declared.Derived.the-variants.{Gust, Refused}
 use Rattle.gust.specs.Rows.{rows}
 use Rattle.gust.specs.Gust.{heightIn, inRange, ofGust, derived}
 
-pub below : (g : ℤ) → ltZ g (pos 0) ≡ true → ofGust g ≡ Refused 5 0
+pub below : (g : ℤ) → ltZ g (pos 0) ≡ true → ofGust g ≡ Refused 5
 unfolding ofGust
 below (pos a) e = absurd (not-suc-le-zero (ltb-true a 0 e))
 below (negsuc a) e = refl
 
-pub beyond : (g : ℤ) → ltZ (pos 799) g ≡ true → ofGust g ≡ Refused 5 0
+pub beyond : (g : ℤ) → ltZ (pos 799) g ≡ true → ofGust g ≡ Refused 5
 unfolding ofGust
 beyond (pos a) e = rw (le-leb 0 a zero-le, lt-leb a 799 (ltb-true 799 a e))
 beyond (negsuc a) e = let z : _≡_ {A = ℕ} 0 1 = cc in absurd (omega arith)

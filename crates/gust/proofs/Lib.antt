@@ -1,5 +1,9 @@
--- The laws of division rounded down, and of the formula.
+-- The laws of division rounded down, of the rows, and of the formula.
 pub mod Answers
 pub mod Division
+pub mod Examples
 pub mod Limits
+pub mod Meaning
+pub mod Rounding
 pub mod Sizes
+pub mod Table

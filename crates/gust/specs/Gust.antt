@@ -35,7 +35,7 @@ inRange h m n v = heightIn h && (between 1 500000 m && (leb n 5000 && between 1 
 
 -- "5 at 0 for .. a gust below 0 or above 799"
 unfoldable pub ofGust : ℤ → Derived
-ofGust g = cond (leZ (pos 0) g && leZ g (pos 799)) (Gust g) (Refused 5 0)
+ofGust g = cond (leZ (pos 0) g && leZ g (pos 799)) (Gust g) (Refused 5)
 
 -- the row of a number that has one
 unfoldable pub rowAt : ℕ → Row
@@ -44,4 +44,4 @@ rowAt k = getD rows k (row (pos 0) 0 0 0 0 0)
 -- "5 at 0 for a row that doesn't exist, an input outside its range"
 unfoldable pub derived : ℕ → ℤ → ℕ → ℕ → ℕ → Derived
 derived k h m n v =
-    cond (ltb k (length rows) && inRange h m n v) (ofGust (gustOf (rowAt k) h (pos m) (pos n) (pos v))) (Refused 5 0)
+    cond (ltb k (length rows) && inRange h m n v) (ofGust (gustOf (rowAt k) h (pos m) (pos n) (pos v))) (Refused 5)

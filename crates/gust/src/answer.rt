@@ -18,10 +18,10 @@ fn of_gust(g: i64) -> Derived
     ensures { λ r. ⌜ r ≡ ofGust g ⌝ }
 {
     if g < 0 {
-        return Derived::Refused(5, 0);
+        return Derived::Refused(5);
     }
     if 799 < g {
-        return Derived::Refused(5, 0);
+        return Derived::Refused(5);
     }
     Derived::Gust(g as i32)
 }
@@ -32,10 +32,10 @@ pub fn derived_gust(row: u32, h: i32, m: u32, n: u32, v: u32) -> Derived
     ensures { λ r. ⌜ r ≡ derived row h m n v ⌝ }
 {
     if 36 <= row {
-        return Derived::Refused(5, 0);
+        return Derived::Refused(5);
     }
     if !in_range(h, m, n, v) {
-        return Derived::Refused(5, 0);
+        return Derived::Refused(5);
     }
     of_gust(gust_of(row_at(row as usize), h as i64, m as i64, n as i64, v as i64))
 }

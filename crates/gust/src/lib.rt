@@ -15,8 +15,8 @@ pub struct Row {
     pub reference: i64,
 }
 
-// A gust, or the refusal's code and place.
+// A gust, or the refusal's code. The place is always 0.
 pub enum Derived {
     Gust(i32),
-    Refused(u8, usize),
+    Refused(u8),
 }

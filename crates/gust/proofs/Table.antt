@@ -1,0 +1,8 @@
+-- The rows are the printed table, each of its figures.
+use mathlib.Core.Path.{_≡_, refl}
+use Rattle.gust.specs.Rows.{rows}
+use Rattle.gust.specs.Printed.{places, whole, moved, words, printedRows}
+
+pub as-printed : rows ≡ printedRows
+unfolding rows printedRows places whole moved words
+as-printed = refl
