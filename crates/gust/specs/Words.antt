@@ -1,5 +1,6 @@
 -- Document 02, §10, said without a division: each quotient by the two products that it lies between.
-use lib.IntN.{ℤ, pos, _+ℤ_, _-ℤ_, _*ℤ_}
+use Prim.Native.Nat.{ℕ, _≤_}
+use lib.IntN.{ℤ, pos, negℤ, _+ℤ_, _-ℤ_, _*ℤ_}
 use lib.Signed.{_≤ℤ_, _<ℤ_}
 use Rattle.gust.specs.declared.Row.{Row}
 
@@ -22,3 +23,13 @@ pub record Formula (c : Row) (h m n v g : ℤ) : Type 0 where
   pub second : Down more (c .c4 *ℤ (meanBy c share -ℤ c .c5) *ℤ (m -ℤ c .reference)) (pos 100 *ℤ c .reference)
   -- "10·A·m·n divided by 1,000,000,000·V"
   pub third : Down g (pos 10 *ℤ (meanBy c share +ℤ more) *ℤ m *ℤ n) (pos 1000000000 *ℤ v)
+
+-- "H in feet from -1000 to 50,000", "m from 1 to 500,000", n "0 to 5000", "V is 1 to 500 knots"
+pub record InRange (h : ℤ) (m n v : ℕ) : Type 0 where
+  pub lowest : negℤ (pos 1000) ≤ℤ h
+  pub highest : h ≤ℤ pos 50000
+  pub lightest : 1 ≤ m
+  pub heaviest : m ≤ 500000
+  pub strongest : n ≤ 5000
+  pub slowest : 1 ≤ v
+  pub fastest : v ≤ 500
