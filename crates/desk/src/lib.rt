@@ -5,6 +5,7 @@ mod command_calls;
 mod commute_calls;
 mod config_calls;
 mod decide_calls;
+mod gust_calls;
 mod join_calls;
 mod journal_calls;
 mod packed_calls;
@@ -111,6 +112,15 @@ pub struct HostEntry {
 pub struct HostPart {
     pub place: usize,
     pub length: u32,
+    pub code: u8,
+    pub spare: u8,
+    pub rest: u16,
+}
+
+// The answer of esk_gust: tenths of a metre a second, 0 in a refusal. The place of a refusal is always 0.
+#[repr(C)]
+pub struct HostGust {
+    pub gust: i32,
     pub code: u8,
     pub spare: u8,
     pub rest: u16,

@@ -2,6 +2,7 @@
 pub mod Answers
 pub mod Division
 pub mod Examples
+pub mod Kept
 pub mod Limits
 pub mod Meaning
 pub mod Rounding

@@ -9,6 +9,7 @@ pub mod Configuration
 pub mod Dateline
 pub mod Decision
 pub mod Explain
+pub mod Gust
 mod InRun
 pub mod Join
 pub mod Journal

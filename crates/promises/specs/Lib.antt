@@ -6,6 +6,7 @@ pub mod Configuration
 pub mod Dateline
 pub mod Decision
 pub mod Explain
+pub mod Gust
 pub mod Join
 pub mod Journal
 pub mod JournalBytes
