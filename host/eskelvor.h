@@ -36,8 +36,9 @@
  * 4.0.0: section 7, descent: esk_descent in esk_settings; a command has up to 845 bytes, and a board as many a slot;
  * libeskelvor.so.4.
  * 4.1.0: esk_section, and esk_part_of over its answer.
- * 4.2.0: esk_commute. */
-#define ESK_VERSION "4.2.0"
+ * 4.2.0: esk_commute.
+ * 4.3.0: esk_gust. */
+#define ESK_VERSION "4.3.0"
 
 #ifdef __cplusplus
 extern "C" {
@@ -63,7 +64,7 @@ enum {
                           an airfield that is handed over by itself; in a packed field the byte from which on nothing
                           could mend it, see esk_packed_read */
     ESK_RANGE = 5,     /* number outside its range; place: the field's first byte, and 0 for what esk_section,
-                          esk_decide, esk_explain and esk_journal_drop are asked */
+                          esk_decide, esk_explain, esk_journal_drop and esk_gust are asked */
     ESK_SPELLING = 6,  /* a number in a spelling other than its one spelling: a packed figure in more digits than it
                           needs, zero degrees spelt south or west; place: the field's first byte */
     ESK_DISAGREE = 7,  /* fields disagree: wind direction without speed, a present observation behind an absent one, a
@@ -750,6 +751,44 @@ esk_answer esk_journal_print(const uint8_t *journal, size_t room, size_t end, ui
  */
 esk_answer esk_journal_replay(esk_settings *settings, const uint8_t *journal, size_t room, size_t end,
                               const uint8_t *designator, size_t designator_length);
+
+/* ---- the derived equivalent gust --------------------------------------------------------------------------------- */
+
+/*
+ * Some operators send an aircraft's vertical acceleration and no gust. The gust is worked out from it by the formula of
+ * the AAA specification, section 2.2.4, with the constants that its table has for the type of aircraft. The lines of the
+ * table are numbered here, from 0, in its order:
+ *
+ *    0  A300B4          9  A340-300       18  B747-200       27  B777-200
+ *    1  A310           10  B727           19  B747-300       28  B777-300
+ *    2  A318           11  B737-200       20  B747-400       29  BAC111-200
+ *    3  A319           12  B737-300       21  B747SP         30  BAC111-475
+ *    4  A320-200       13  B737-400       22  B757-200       31  DC10-30
+ *    5  A321           14  B737-500       23  B757-300       32  Electra
+ *    6  A330-200       15  B737-600       24  B767-200       33  Fokker-100
+ *    7  A330-300       16  B737-700       25  B767-300       34  KingAir 100
+ *    8  A340-200       17  B737-800       26  B767-400       35  L1011-500
+ *
+ * A figure of a report, esk_observation's gust, is in the same tenths of a metre a second.
+ */
+
+/* The answer of esk_gust. 8 bytes, no padding. The place of a refusal is always 0, so there is none. */
+typedef struct esk_gust_answer {
+    int32_t gust;     /* tenths of a metre a second, 0 to 799; 0 on refusal */
+    uint8_t code;     /* 0 or 5 */
+    uint8_t spare[3]; /* 0 */
+} esk_gust_answer;
+
+/*
+ * The gust that an aircraft of a row of the table met.
+ *   height        in feet, -1000 to 50000
+ *   mass          in kilograms, 1 to 500000
+ *   acceleration  its greatest distance from 1 g, up or down, in thousandths of g, 0 to 5000
+ *   speed         calibrated airspeed in knots, 1 to 500
+ * Whole numbers, every division rounded down, toward minus infinity. No acceleration is a gust of 0.
+ *   5   the row is none of the table's, an input is outside its range, or the gust is below 0 or above 799
+ */
+esk_gust_answer esk_gust(uint32_t row, int32_t height, uint32_t mass, uint32_t acceleration, uint32_t speed);
 
 /* ---- what the library says of itself ---------------------------------------------------------------------------- */
 

@@ -15,6 +15,7 @@ static_assert(std::is_trivially_copyable<esk_report>::value && std::is_standard_
 static_assert(sizeof(esk_settings) == 614 && sizeof(esk_command) == 624 && sizeof(esk_slot) == 8, "as in C");
 static_assert(sizeof(esk_entry) == 32 && std::is_trivially_copyable<esk_entry>::value, "as in C");
 static_assert(sizeof(esk_part) == 16 && std::is_trivially_copyable<esk_part>::value, "as in C");
+static_assert(sizeof(esk_gust_answer) == 8 && std::is_trivially_copyable<esk_gust_answer>::value, "as in C");
 
 static const uint8_t *at(std::string_view text) { return reinterpret_cast<const uint8_t *>(text.data()); }
 
@@ -134,6 +135,13 @@ static void journal()
     HOLD(esk_journal_check(bytes.data(), bytes.size(), end - 1).code == ESK_JOURNAL);
 }
 
+// An answer of eight bytes by value.
+static void gust()
+{
+    HOLD(esk_gust(4, 10000, 54321, 1303, 101).gust == 396 && esk_gust(4, 10000, 54321, 1303, 101).code == ESK_ACCEPTED);
+    HOLD(esk_gust(36, 10000, 54321, 1303, 101).gust == 0 && esk_gust(36, 10000, 54321, 1303, 101).code == ESK_RANGE);
+}
+
 int main()
 {
     packed();
@@ -142,6 +150,7 @@ int main()
     configuration();
     board();
     journal();
+    gust();
     HOLD(esk_version() == std::string_view{ESK_VERSION});
     printf("test_cpp: %lu checks passed\n", checks);
     return 0;
