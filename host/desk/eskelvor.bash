@@ -26,6 +26,7 @@ _eskelvor_options() {
     config) echo '--wait' ;;
     decide) echo "$asked $text" ;;
     why) echo "$asked $text --board --aircraft" ;;
+    gust) echo '--type --height --mass --acceleration --speed --csv --list' ;;
     board) echo "--wait --to --journal $text" ;;
     journal) echo "--wait --at $text" ;;
     help) echo '--list' ;;
@@ -45,6 +46,12 @@ _eskelvor_values() {
     --reporting-box | --report | --inhibiting-box | --inhibit | --selected-for-ascent | --selected-for-descent | \
         --inhibited-for-ascent | --inhibited-for-descent | --hours) echo 'none' ;;
     --phase) echo 'ascent level descent' ;;
+    --type)
+        echo 'A300B4 A310 A318 A319 A320-200 A321 A330-200 A330-300 A340-200 A340-300'
+        echo 'B727 B737-200 B737-300 B737-400 B737-500 B737-600 B737-700 B737-800 B747-200 B747-300'
+        echo 'B747-400 B747SP B757-200 B757-300 B767-200 B767-300 B767-400 B777-200 B777-300 BAC111-200'
+        echo 'BAC111-475 DC10-30 Electra Fokker-100 KingAir-100 L1011-500'
+        ;;
     --fields)
         echo 'file report offset departure arrival designator observation kind kind_in_words latitude_change_minutes'
         echo 'longitude_change_minutes time_since_seconds latitude_minutes latitude_degrees lat longitude_minutes'
@@ -55,7 +62,7 @@ _eskelvor_values() {
     esac
 }
 
-_eskelvor_subcommands='report check explain section compose join commute apply config decide why packed board journal night help'
+_eskelvor_subcommands='report check explain section compose join commute apply config decide why packed gust board journal night help'
 
 _eskelvor() {
     local current=${COMP_WORDS[COMP_CWORD]} before=${COMP_WORDS[COMP_CWORD - 1]} subcommand='' at words lead=''
