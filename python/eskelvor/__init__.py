@@ -7,7 +7,7 @@
 Reports: ``reports``, ``read_report``, ``write_report``, ``check_report``. Commands: ``read_command``, ``write_command``,
 ``check_command``, ``command_fields``, ``section``, ``join``, ``commute``. An aircraft's configuration: ``Configuration``, with
 ``apply``, ``decide`` and ``explain``. What waits for aircraft out of coverage: ``Board``. What was taken for them: ``Journal``. One
-figure: ``read_packed``, ``write_packed``.
+figure: ``read_packed``, ``write_packed``. A gust out of an acceleration: ``gust``.
 
 Every verdict is one call's of the library. A refusal is raised as a ``Refusal``, with code, place and words; nothing that
 was lent has then changed. The library is the file that ``ESKELVOR_LIBRARY`` names, else the one beside this module, else the
@@ -38,6 +38,7 @@ from ._commands import (
     write_command,
 )
 from ._configuration import Configuration, Decision, Explanation, Phase, Reason, Settings, minutes
+from ._gust import GUST_TYPES, gust
 from ._journal import Entry, Journal
 from ._packed import read_packed, write_packed
 from ._refusals import (
@@ -79,6 +80,7 @@ __all__ = [
     "FieldsDisagree",
     "Fix",
     "Flags",
+    "GUST_TYPES",
     "Hours",
     "JOURNAL_BYTES",
     "Journal",
@@ -109,6 +111,7 @@ __all__ = [
     "check_report",
     "command_fields",
     "commute",
+    "gust",
     "join",
     "library_version",
     "minutes",

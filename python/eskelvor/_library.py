@@ -11,7 +11,7 @@ from pathlib import Path
 from typing import Dict, List, Optional, Tuple, Type, Union
 
 #: The version of eskelvor.h that this module is written for: the first number must be the library's, the second not above.
-HEADER_VERSION = (4, 2)
+HEADER_VERSION = (4, 3)
 SONAME = "libeskelvor.so.%d" % HEADER_VERSION[0]
 ENVIRONMENT = "ESKELVOR_LIBRARY"
 
@@ -207,6 +207,10 @@ class Part(ctypes.Structure):
     _fields_ = [("place", _size), ("length", _u32), ("code", _u8), ("spare", _u8 * 3)]
 
 
+class GustAnswer(ctypes.Structure):
+    _fields_ = [("gust", _i32), ("code", _u8), ("spare", _u8), ("spare_on", _u16)]
+
+
 #: Every record of the header by its name there.
 RECORDS: Dict[str, Type[ctypes.Structure]] = {
     "esk_answer": Answer,
@@ -236,6 +240,7 @@ RECORDS: Dict[str, Type[ctypes.Structure]] = {
     "esk_slot": Slot,
     "esk_entry": RawEntry,
     "esk_part": Part,
+    "esk_gust_answer": GustAnswer,
 }
 
 # ---- calls -------------------------------------------------------------------------------------------------------------
@@ -274,6 +279,7 @@ CALLS: Dict[str, Tuple[object, List[object]]] = {
     "esk_journal_drop": (Answer, [*_journal, _size]),
     "esk_journal_print": (Answer, [*_journal, _room, _size]),
     "esk_journal_replay": (Answer, [_settings, *_journal, _bytes, _size]),
+    "esk_gust": (GustAnswer, [_u32, _i32, _u32, _u32, _u32]),
     "esk_words": (ctypes.c_char_p, [ctypes.c_uint]),
     "esk_reason_words": (ctypes.c_char_p, [ctypes.c_uint]),
     "esk_version": (ctypes.c_char_p, []),
