@@ -73,6 +73,11 @@ offers packed ''
 out_is read write
 offers help bo
 out_is board
+offers gust --type King
+out_is KingAir-100
+offers gust --type ''
+eskelvor gust --list | tr ' ' - >"$scratch/want"
+same_words "$scratch/want"
 offers report --fields lat,lo
 out_is lat,longitude_change_minutes lat,longitude_minutes lat,longitude_degrees lat,lon
 offers report three
