@@ -50,10 +50,11 @@ class Readme(Case):
         ran = subprocess.run([sys.executable, "-c", found[0]], cwd=ROOT, stdout=subprocess.PIPE, check=True)
         said = ran.stdout.decode().splitlines()
         self.assertEqual(said[0], "-37.416666666666664 20140 -27.5")
-        self.assertEqual(said[-5:], [
+        self.assertEqual(said[-6:], [
             "the hour is in the hours of silence",
             "5 22 a number outside its range",
             "b'AWR049999199000000000/' b'AWR049999199000000000/'",
             "0 AU0137 b'AWR049999099000000000/'",
             "False",
+            "396",
         ])
