@@ -1,5 +1,5 @@
 //! The second program, written from the text of documents 01 and 02 alone, and from the header's words where these say
-//! more: packed figures and reports; commands and one section of them, the configuration, the decision and its reason,
+//! more: packed figures, reports and gusts; commands and one section of them, the configuration, the decision and its reason,
 //! joining, whether the order counts, the board and the journal.
 
 pub mod allowed;
@@ -8,6 +8,7 @@ pub mod command;
 pub mod commute;
 pub mod config;
 pub mod decide;
+pub mod gust;
 pub mod join;
 pub mod journal;
 pub mod packed;

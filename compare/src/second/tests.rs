@@ -5,6 +5,7 @@ mod commands;
 mod commutes;
 mod decisions;
 mod forms;
+mod gusts;
 mod joins;
 mod journals;
 mod parts;
