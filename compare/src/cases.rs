@@ -7,6 +7,7 @@ pub mod commute;
 pub mod config;
 pub mod decide;
 pub mod explain;
+pub mod gust;
 pub mod join;
 pub mod journal;
 pub mod report;

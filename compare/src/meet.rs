@@ -16,6 +16,14 @@ pub fn packed(answer: Result<Option<i32>, Refusal>) -> ours::Packed {
     }
 }
 
+/// What esk_gust ought to answer; its refusals are all at place 0.
+pub fn gust(gust: Result<i32, Refusal>) -> ours::GustAnswer {
+    match gust {
+        Ok(gust) => ours::GustAnswer { gust, ..Default::default() },
+        Err(Refusal { code, .. }) => ours::GustAnswer { code, ..Default::default() },
+    }
+}
+
 /// What a call that checks or writes ought to answer; a check has the length 0.
 pub fn answer(answer: Result<usize, Refusal>) -> ours::Answer {
     match answer {

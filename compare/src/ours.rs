@@ -32,6 +32,14 @@ pub struct Packed {
 
 #[repr(C)]
 #[derive(Clone, Copy, Debug, Default, PartialEq, Eq)]
+pub struct GustAnswer {
+    pub gust: i32,
+    pub code: u8,
+    pub spare: [u8; 3],
+}
+
+#[repr(C)]
+#[derive(Clone, Copy, Debug, Default, PartialEq, Eq)]
 pub struct Observation {
     pub latitude: Figure,
     pub longitude: Figure,
@@ -72,6 +80,7 @@ const _: () = {
     assert!(size_of::<Figure>() == 8 && offset_of!(Figure, given) == 4);
     assert!(size_of::<Packed>() == 8 && offset_of!(Packed, place) == 4);
     assert!(offset_of!(Packed, code) == 6 && offset_of!(Packed, given) == 7);
+    assert!(size_of::<GustAnswer>() == 8 && offset_of!(GustAnswer, code) == 4);
     assert!(size_of::<Observation>() == 76 && offset_of!(Observation, vapour) == 64);
     assert!(offset_of!(Observation, longitude) == 8 && offset_of!(Observation, time) == 16);
     assert!(offset_of!(Observation, altitude) == 24 && offset_of!(Observation, temperature) == 32);
@@ -93,6 +102,7 @@ unsafe impl Plain for u64 {}
 unsafe impl Plain for Answer {}
 unsafe impl Plain for Figure {}
 unsafe impl Plain for Packed {}
+unsafe impl Plain for GustAnswer {}
 unsafe impl Plain for Report {}
 unsafe impl Plain for ReportGot {}
 

@@ -17,6 +17,7 @@
 //!     journal-check BUFFER END                      journal-last BUFFER END
 //!     journal-add BUFFER END DESIGNATOR TEXT        journal-drop BUFFER END COUNT
 //!     journal-print BUFFER END ROOM                 journal-replay BUFFER END DESIGNATOR
+//!     gust ROW HEIGHT MASS ACCELERATION SPEED
 //!
 //! It runs in the repository's root, and asks the proved calls through host/tool (`make compare ARGS=..`); each group has
 //! its own program in host/test that makes its calls.
@@ -29,6 +30,7 @@ mod configs;
 mod decisions;
 mod explanations;
 mod forms;
+mod gusts;
 mod joins;
 mod journals;
 mod one;
@@ -43,12 +45,12 @@ use run::{Options, Run};
 use std::process::exit;
 
 const USAGE: &str = "compare [--seed N] [--long] [--groups GROUP,.. | --only FAMILY] | compare case WORDS
-groups: report, command, section, config, decide, explain, join, commute, board, journal, all";
+groups: report, command, section, config, decide, explain, join, commute, board, journal, gust, all";
 
 type Group = (&'static str, fn(&mut Run));
 
 /// Each group and its families.
-const GROUPS: [Group; 10] = [
+const GROUPS: [Group; 11] = [
     ("report", |run| {
         packed::families(run);
         reports::families(run);
@@ -67,6 +69,7 @@ const GROUPS: [Group; 10] = [
     ("commute", commutes::families),
     ("board", boards::families),
     ("journal", journals::families),
+    ("gust", gusts::families),
 ];
 
 /// The groups whose calls the archive has.
@@ -82,6 +85,7 @@ fn standing() -> Vec<String> {
         ("commute", cfg!(feature = "commute")),
         ("board", cfg!(feature = "board")),
         ("journal", cfg!(feature = "journal")),
+        ("gust", cfg!(feature = "gust")),
     ];
     groups.iter().filter(|(_, stands)| *stands).map(|(name, _)| name.to_string()).collect()
 }

@@ -1,8 +1,9 @@
 //! One case from the command line, as a mismatch prints it.
 
 use crate::run;
-use desk_compare::cases::{board, command, commute, config, decide, explain, join, journal, report, section};
+use desk_compare::cases::{board, command, commute, config, decide, explain, gust, join, journal, report, section};
 use desk_compare::ours::{self, of_bytes, Plain};
+use desk_compare::second::gust::Felt;
 
 /// Runs the case and gives the exit status, or says what is wrong with the words. `@FILE` stands for words in a file.
 pub fn case(words: &[String]) -> Result<i32, String> {
@@ -23,6 +24,7 @@ pub fn case(words: &[String]) -> Result<i32, String> {
         Some(&"commute") => run::one(commute_case(&words)?),
         Some(&("board-check" | "board-add" | "board-take")) => run::one(board_case(&words)?),
         Some(word) if word.starts_with("journal-") => run::one(journal_case(&words)?),
+        Some(&"gust") => run::one(gust_case(&words)?),
         _ => no_such_case(),
     }
 }
@@ -136,6 +138,21 @@ fn journal_case(words: &[&str]) -> Result<journal::Case, String> {
     };
     let event = journal::Event::Ask { end: parse(end)?, call };
     Ok(journal::Case { buffer: bytes_up_to(1 << 20, buffer)?, events: vec![event] })
+}
+
+fn gust_case(words: &[&str]) -> Result<gust::Case, String> {
+    match words {
+        ["gust", row, height, mass, acceleration, speed] => {
+            let felt = Felt {
+                height: parse(height)?,
+                mass: parse(mass)?,
+                acceleration: parse(acceleration)?,
+                speed: parse(speed)?,
+            };
+            Ok(gust::Case { row: parse(row)?, felt })
+        }
+        _ => no_such_case(),
+    }
 }
 
 fn parse<T: std::str::FromStr>(word: &str) -> Result<T, String> {
