@@ -1,4 +1,4 @@
-/* Targets of what comes down: packed figures and reports. */
+/* Targets of what comes down: packed figures, reports, and the gusts of raw acceleration. */
 #include "harness.h"
 
 /* The input is the field. */
@@ -58,11 +58,23 @@ static void report_write(input from)
     give_back("out", out);
 }
 
+/* Row, height, mass, acceleration, speed. */
+static void gust(input from)
+{
+    uint32_t row = take_word(&from);
+    int32_t height = (int32_t)take_word(&from);
+    uint32_t mass = take_word(&from), acceleration = take_word(&from), speed = take_word(&from);
+    esk_gust_answer ours = esk_gust(row, height, mass, acceleration, speed);
+    esk_gust_answer second = second_gust(row, height, mass, acceleration, speed);
+    hold("answer", &ours, &second, sizeof ours);
+}
+
 const target downlink_targets[] = {
     {"esk_packed_read", "answer field", packed_read},
     {"esk_packed_write", "answer out", packed_write},
     {"esk_report_check", "answer text", report_check},
     {"esk_report_read", "answer report text", report_read},
     {"esk_report_write", "answer out", report_write},
+    {"esk_gust", "answer", gust},
     {NULL, NULL, NULL},
 };

@@ -4,7 +4,8 @@
 mod uplink;
 
 use desk_compare::meet;
-use desk_compare::ours::{Answer, Figure, Packed, Report, ReportGot};
+use desk_compare::ours::{Answer, Figure, GustAnswer, Packed, Report, ReportGot};
+use desk_compare::second::gust::{gust, Felt};
 use desk_compare::second::{packed, report, write};
 use std::slice;
 
@@ -65,4 +66,9 @@ pub unsafe extern "C" fn second_report_read(text: *const u8, length: usize) -> R
 #[no_mangle]
 pub unsafe extern "C" fn second_report_write(report: Report, out: *mut u8, room: usize) -> Answer {
     meet::answer(write::write(&meet::raw_record(&report), lent_mut(out, room)))
+}
+
+#[no_mangle]
+pub extern "C" fn second_gust(row: u32, height: i32, mass: u32, acceleration: u32, speed: u32) -> GustAnswer {
+    meet::gust(gust(row, &Felt { height, mass, acceleration, speed }))
 }

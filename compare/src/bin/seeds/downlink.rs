@@ -1,4 +1,4 @@
-//! Seeds of packed figures and reports.
+//! Seeds of packed figures, reports and gusts.
 
 use desk_compare::figures::{PACKED, REPORT};
 use desk_compare::make::{figure_of_digits, forms, record_of, text};
@@ -39,4 +39,12 @@ pub fn report_write(random: &mut Random, index: usize) -> Vec<u8> {
         forms::other(random, &mut record, &forms::formed());
     }
     [&[220], bytes_of(&record)].concat()
+}
+
+/// Row, height, mass, acceleration, speed: of three rows apart, with numbers such as are felt; and a row that is none.
+pub fn gust(random: &mut Random, index: usize) -> Vec<u8> {
+    let row = if index == 11 { 36 } else { 3 * index as i32 };
+    let mass = random.between(2, 200) * 1000;
+    let numbers = [row, random.between(-1000, 50_000), mass, random.between(0, 300), random.between(100, 350)];
+    numbers.map(i32::to_le_bytes).concat()
 }
