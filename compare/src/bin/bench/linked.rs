@@ -2,7 +2,7 @@
 
 pub mod uplink;
 
-use desk_compare::ours::{Answer, Figure, Packed, Report, ReportGot};
+use desk_compare::ours::{Answer, Figure, GustAnswer, Packed, Report, ReportGot};
 
 extern "C" {
     fn esk_packed_read(field: *const u8, length: usize) -> Packed;
@@ -10,6 +10,7 @@ extern "C" {
     fn esk_report_check(text: *const u8, length: usize) -> Answer;
     fn esk_report_read(text: *const u8, length: usize) -> ReportGot;
     fn esk_report_write(report: Report, out: *mut u8, room: usize) -> Answer;
+    fn esk_gust(row: u32, height: i32, mass: u32, acceleration: u32, speed: u32) -> GustAnswer;
 }
 
 // Each call is lent a slice's own bytes and its own length, and the header says that it keeps nothing. An empty slice's
@@ -38,4 +39,9 @@ pub fn report_read(text: &[u8]) -> ReportGot {
 #[inline(always)]
 pub fn report_write(report: Report, out: &mut [u8]) -> Answer {
     unsafe { esk_report_write(report, out.as_mut_ptr(), out.len()) }
+}
+
+#[inline(always)]
+pub fn gust(row: u32, height: i32, mass: u32, acceleration: u32, speed: u32) -> GustAnswer {
+    unsafe { esk_gust(row, height, mass, acceleration, speed) }
 }

@@ -18,6 +18,8 @@ mod decisions;
 #[cfg(linked)]
 mod growth;
 #[cfg(linked)]
+mod gusts;
+#[cfg(linked)]
 mod joins;
 #[cfg(linked)]
 mod journals;
@@ -41,6 +43,7 @@ fn main() {
     }
     let bench = measure::Bench::start(word);
     reports::rows(&bench);
+    gusts::rows(&bench);
     commands::rows(&bench);
     sections::rows(&bench);
     configs::rows(&bench);
