@@ -13,6 +13,9 @@ from eskelvor import _library
 from known import ROOT, Case
 
 LIBRARY = Path(os.environ[_library.ENVIRONMENT]).resolve()
+MAJOR, MINOR = _library.HEADER_VERSION
+NOW = "%d.%d.0" % (MAJOR, MINOR)
+OLDER = "%d.%d.9" % ((MAJOR, MINOR - 1) if MINOR else (MAJOR - 1, 9))
 
 STUB = """
 #include <stddef.h>
@@ -25,9 +28,9 @@ SIZES = """
 #include <stddef.h>
 #include <string.h>
 #define ONE(name, size) if (strcmp(record, name) == 0) return size;
-const char *esk_version(void) { return "4.3.0"; }
+const char *esk_version(void) { return "NOW"; }
 size_t esk_size_of(const char *record) { %s return %d; }
-"""
+""".replace("NOW", NOW)
 
 
 class Finding(Case):
@@ -118,26 +121,26 @@ class Refusing(Case):
 
     def test_versions(self) -> None:
         versions: Dict[str, str] = {
-            "older": "4.2.9", "before": "3.3.0", "newer": "5.0.0", "oldest": "2.9.0", "none": "", "words": "three",
-            "short": "4",
+            "older": OLDER, "before": "%d.9.0" % (MAJOR - 1), "newer": "%d.0.0" % (MAJOR + 1), "oldest": "2.9.0",
+            "none": "", "words": "three", "short": str(MAJOR),
         }
         for name, version in versions.items():
             library = self.built(name, STUB % (version, 16) + self.calls())
-            self.refuses("is version %s; this module is for 4.3" % version, library)
+            self.refuses("is version %s; this module is for %d.%d" % (version, MAJOR, MINOR), library)
 
     def test_without_a_version(self) -> None:
         self.refuses("has no esk_version", self.built("before", "int esk_apply;"))
 
     def test_without_a_call(self) -> None:
-        self.refuses("has no esk_packed_read", self.built("calls", STUB % ("4.3.0", 16)))
+        self.refuses("has no esk_packed_read", self.built("calls", STUB % (NOW, 16)))
         for call in (name for name in _library.CALLS if name.startswith(("esk_journal_", "esk_section", "esk_commute", "esk_gust"))):
             others = self.calls().replace("void %s(void) {}\n" % call, "")
-            self.refuses("has no " + call, self.built(call, STUB % ("4.3.0", 16) + others))
+            self.refuses("has no " + call, self.built(call, STUB % (NOW, 16) + others))
 
     def test_other_sizes(self) -> None:
-        first = self.built("first", STUB % ("4.9.1", 24) + self.calls())
+        first = self.built("first", STUB % ("%d.%d.1" % (MAJOR, MINOR + 1), 24) + self.calls())
         self.refuses("esk_answer has 24 bytes there and 16 here", first)
-        second = self.built("second", STUB % ("4.3.0", 16) + self.calls())
+        second = self.built("second", STUB % (NOW, 16) + self.calls())
         self.refuses("esk_figure has 0 bytes there and 8 here", second)
         for size in (0, 24, 40):
             third = self.built("third%d" % size, SIZES % (self.sizes("esk_gust_answer"), size) + self.calls())
