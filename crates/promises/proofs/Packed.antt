@@ -2,25 +2,26 @@
 use mathlib.Core.Path.{_≡_, refl, sym, ap, subst, _∙_}
 use mathlib.Core.Logic.{_⊎_, inl, inr}
 use mathlib.Core.Bool.{Bool, true, false, cond, _&&_}
-use mathlib.Core.List.{List, _++_}
-use Prim.Native.Nat.{ℕ, suc, _-_, _≤_, _<_}
+use mathlib.Core.List.{List, [], _∷_, _++_}
+use Prim.Native.Nat.{ℕ, suc, _+_, _-_, _≤_, _<_}
 use native.Mathlib.Omega.{arith}
 use lib.Dec.{leb, ltb, eqb}
 use lib.IntN.{pos}
-use lib.ListN.{length, take, drop, replicate, length-replicate}
+use lib.ListN.{length, take, drop, replicate, length-append, length-replicate}
 use lib.Seq.{take-at, drop-at}
 use lib.Signed.{mag}
 use borrow.Author.Tests.{le-leb, leb-true, lt-ltb, ltb-true, eq-eqb, ne-eqb, eqb-true}
+use Rattle.text.specs.Bytes.{isOneOf, allOneOf}
 use Rattle.text.proofs.Cases.{by-test, by-eq, both-left, both-right}
-use Rattle.packed.specs.Packed.{widthOk, allSolidi, trim, allDigits, number, figureOf as figureFrom, holds, fault, spelt, halfOf, fitting, fieldOf, writeCode, written as writtenOver, readPacked}
-use Rattle.packed.specs.Words.{span}
+use Rattle.packed.specs.Packed.{worthOf, widthOk, allSolidi, trim, allDigits, number, figureOf as figureFrom, holds, fault, spelt, halfOf, fitting, fieldOf, writeCode, written as writtenOver, readPacked}
+use Rattle.packed.specs.Words.{span, digitBytes, indexIn, Digits}
 use Rattle.packed.specs.declared.Figure.{Figure}
 use Rattle.packed.specs.declared.Figure.the-variants.{Given, Missing}
 use Rattle.packed.specs.declared.Packed.{Packed}
 use Rattle.packed.specs.declared.Packed.the-variants.{Is, Refused}
 use Rattle.packed.proofs.Fault.{none-agrees, agreeing, agreeing-length, agreeing-take, agreeing-free, four-inside}
-use Rattle.packed.proofs.RoundTrip.{field-length, solidi-all, read-solidi, read-back, write-back}
-use Rattle.packed.proofs.Words.{half-is, figure-read, six-read}
+use Rattle.packed.proofs.RoundTrip.{field-length, solidi-all, solidi-back, read-solidi, read-back, write-back}
+use Rattle.packed.proofs.Words.{worth-is, half-is, figure-read, six-read}
 use Rattle.observation.proofs.Codes.{some, OfPacked, packed-coded}
 use Rattle.caller.specs.Figures.{hostFigure, figureOf, isFigure, writeFigureCode, figureOver}
 use Rattle.caller.specs.declared.HostFigure.{HostFigure}
@@ -86,6 +87,56 @@ unfolding readPacked
 is-one f n =
     by-test (widthOk (length f)) (λ (t : widthOk (length f) ≡ true). absurd (n (is-width (length f) t)))
     (λ (t : widthOk (length f) ≡ false). rw t)
+
+-- ---- Which fields are 4
+
+-- a field is its leading spaces and the rest
+spaces-first : (f : List ℕ) → (n : ℕ) × (f ≡ replicate n 32 ++ trim f)
+unfolding trim
+spaces-first [] = (0, refl)
+spaces-first (b ∷ bs) =
+    by-test (eqb b 32)
+    (λ (t : eqb b 32 ≡ true).
+    let r = spaces-first bs in
+    let e = eqb-true b 32 t in
+    (suc (r .0), rw (t, e) (ap (λ (l : List ℕ). 32 ∷ l) (r .1))))
+    (λ (t : eqb b 32 ≡ false). (0, rw t))
+
+-- a byte that is worth less than 40 is one of the digits
+one-of : (xs : List ℕ) (b : ℕ) → indexIn xs b < length xs → isOneOf xs b ≡ true
+unfolding isOneOf indexIn
+one-of [] b h = absurd (omega arith)
+one-of (x ∷ xs) b h =
+    by-test (eqb b x) (λ (t : eqb b x ≡ true). rw t)
+    (λ (t : eqb b x ≡ false). rw t (one-of xs b (let l = rw t at h in omega arith)))
+
+digits-are : (ds : List ℕ) → allDigits ds ≡ true → allOneOf digitBytes ds ≡ true
+unfolding allDigits allOneOf
+digits-are [] e = refl
+digits-are (b ∷ ds) e =
+    let l = ltb-true (worthOf b) 40 (both-left (ltb (worthOf b) 40) (allDigits ds) e) in
+    rw (one-of digitBytes b (rw (worth-is b) at l)) (digits-are ds (both-right (ltb (worthOf b) 40) (allDigits ds) e))
+
+other-four : (f : List ℕ) → Width (length f) → ¬ (f ≡ replicate (length f) 47)
+    → ((n : ℕ) (ds : List ℕ) → Digits n ds → f ≡ replicate n 32 ++ ds → ⊥) → read f .code ≡ 4
+unfolding readPacked
+other-four f k solid spelt-so =
+    by-test (allSolidi f)
+    (λ (s : allSolidi f ≡ true). absurd (solid (sym (solidi-back f s))))
+    (λ (s : allSolidi f ≡ false).
+    by-test (ltb 0 (length (trim f)) && allDigits (trim f))
+    (λ (t : (ltb 0 (length (trim f)) && allDigits (trim f)) ≡ true).
+    let r = spaces-first f in
+    let n = r .0 in
+    let some = ltb-true 0 (length (trim f)) (both-left (ltb 0 (length (trim f))) (allDigits (trim f)) t) in
+    let long : length f ≡ n + length (trim f) =
+    ap length (r .1) ∙ length-append (replicate n 32) (trim f) ∙ ap (λ (m : ℕ). m + length (trim f)) (length-replicate {A = ℕ} n 32) in
+    let few = k .few in
+    absurd
+    (spelt-so n (trim f)
+    (record { some = omega arith; few = omega (arith, long); digit = digits-are (trim f) (both-right (ltb 0 (length (trim f))) (allDigits (trim f)) t) })
+    (r .1)))
+    (λ (t : (ltb 0 (length (trim f)) && allDigits (trim f)) ≡ false). rw (width-is (length f) k, s, t)))
 
 -- ---- Where code 4 points
 
@@ -222,6 +273,7 @@ packed-promises =
       missing = missing-read;
       missing-only = missing-only;
       one = λ f. (one-is f, is-one f);
+      other = other-four;
       four = four-is;
       read-write = read-write;
       write-read = write-read;

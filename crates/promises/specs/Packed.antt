@@ -58,6 +58,9 @@ pub record PackedPromises : Type 0 where
   pub missing-only : (f : List ℕ) → read f .code ≡ 0 → read f .given ≡ 0 → f ≡ replicate (length f) 47
   -- code 1
   pub one : (f : List ℕ) → (read f .code ≡ 1) ↔ (¬ Width (length f))
+  -- any other field of one to five bytes is 4: neither wholly solidi nor spaces and then at least one digit
+  pub other : (f : List ℕ) → Width (length f) → ¬ (f ≡ replicate (length f) 47)
+      → ((n : ℕ) (ds : List ℕ) → Digits n ds → f ≡ replicate n 32 ++ ds → ⊥) → read f .code ≡ 4
   -- code 4 points to "the first byte, left to right, up to and with which no field of that width free of code 4 could begin"
   pub four : (f : List ℕ) → read f .code ≡ 4
       → (read f .place < length f)
