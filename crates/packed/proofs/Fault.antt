@@ -100,7 +100,7 @@ module _ (test : ℕ → Bool) where
 -- ---- spaces and digits
 
 -- digits behind spaces, at least one
-abbrev run : List ℕ → Bool
+abbrev pub run : List ℕ → Bool
 run f = ltb 0 (length (trim f)) && allDigits (trim f)
 
 run-space : (b : ℕ) (bs : List ℕ) → eqb b 32 ≡ true → run (b ∷ bs) ≡ run bs
@@ -197,7 +197,7 @@ unfolding every
 solidi zero = refl
 solidi (suc n) = solidi n
 
-behind-inside : (f : List ℕ) → 0 < length f → run f ≡ false → faultBehind f < length f
+pub behind-inside : (f : List ℕ) → 0 < length f → run f ≡ false → faultBehind f < length f
 unfolding faultBehind
 behind-inside f h e =
     let l = trim-length f in
@@ -209,6 +209,15 @@ behind-inside f h e =
     let n : ahead isDigit (trim f) ≡ length (trim f) → ⊥ = λ (y : ahead isDigit (trim f) ≡ length (trim f)).
     impossible (sym (rw (lt-ltb 0 (length (trim f)) (omega (arith, some)), digits-every (trim f)) (ahead-every isDigit (trim f) y)) ∙ e) in
     rw z (omega (arith, n)))
+
+pub behind-whole : (f : List ℕ) → run f ≡ true → faultBehind f ≡ length f
+unfolding faultBehind
+behind-whole f e =
+    let l = trim-length f in
+    let some = ltb-true 0 (length (trim f)) (both-left (ltb 0 (length (trim f))) (allDigits (trim f)) e) in
+    let all = both-right (ltb 0 (length (trim f))) (allDigits (trim f)) e in
+    let a = every-ahead isDigit (trim f) (sym (digits-every (trim f)) ∙ all) in
+    rw (ne-eqb (length (trim f)) 0 (omega arith)) (omega arith)
 
 behind-some : (f : List ℕ) (j : ℕ) → j < faultBehind f → run (take (suc j) f ++ replicate (length f - suc j) 48) ≡ true
 behind-some [] j h = let z = fault-none in absurd (omega arith)
@@ -281,20 +290,10 @@ solidi-free f q w s e = no-refusal (rw (w, solidi-every f ∙ s) at e)
 digits-free : (f : List ℕ) (q : ℕ) → run f ≡ true → readPacked f ≡ Refused 4 q → ⊥
 digits-free f q t e = impossible (sym t ∙ four-is f q e .digits)
 
--- what the solidi ahead say
-pub solidi-whole : (f : List ℕ) → ahead isSolidus f ≡ length f → allSolidi f ≡ true
-solidi-whole f e = solidi-every f ∙ ahead-every isSolidus f e
-
-pub solidi-part : (f : List ℕ) → (ahead isSolidus f ≡ length f → ⊥) → allSolidi f ≡ false
-solidi-part f n =
-    by-test (allSolidi f)
-    (λ (t : allSolidi f ≡ true). absurd (n (every-ahead isSolidus f (sym (solidi-every f) ∙ t))))
-    (λ (t : allSolidi f ≡ false). t)
-
 -- ---- the place is the one that document 02 says
 
 -- a field that begins with a solidus has no digits behind spaces
-solidus-run : (g : List ℕ) → 0 < ahead isSolidus g → run g ≡ false
+pub solidus-run : (g : List ℕ) → 0 < ahead isSolidus g → run g ≡ false
 unfolding ahead every
 solidus-run [] h = absurd (omega arith)
 solidus-run (b ∷ bs) h =

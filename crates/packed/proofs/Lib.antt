@@ -4,6 +4,7 @@ pub mod Decoding
 pub mod Digits
 pub mod Fault
 pub mod Put
+mod Reading
 pub mod Refusal
 pub mod RoundTrip
 pub mod Scan

@@ -1,23 +1,19 @@
 -- Steps of the reader's loops: the whole field is as what is left of it.
-use mathlib.Core.Path.{_≡_, refl, sym, _∙_}
+use mathlib.Core.Path.{_≡_, refl}
 use mathlib.Core.Bool.{Bool, true, false, _&&_}
 use mathlib.Core.List.{List, [], _∷_}
 use Prim.Native.Nat.{ℕ, zero, suc, _+_, _-_, _*_, _^_, _≤_, _<_}
 use native.Mathlib.Omega.{arith}
 use native.Mathlib.Numerals.{add-one}
-use lib.Dec.{ltb, lit<}
+use lib.Dec.{ltb, eqb, lit<}
 use lib.ListN.{length, getD, take, drop, length-drop, drop-of-length-le}
 use lib.Seq.{drop-cons, take-all}
-use borrow.Author.Tests.{lt-ltb, le-ltb, eq-eqb, ne-eqb}
+use borrow.Author.Tests.{eq-eqb, ne-eqb, ltb-true, eqb-true}
 use native.Mathlib.Nat.{add-zero, pow-suc, pow-le-pow-right}
 use lib.Arith.{digits-lt}
-use borrow.Author.Tests.{ltb-true, eqb-true, le-leb}
-use lib.Dec.{eqb}
-use Rattle.text.proofs.Cases.{by-test, both-left, both-right}
-use Rattle.packed.specs.Packed.{trim, allSolidi, allDigits, worthOf, number, readPacked, spelt, halfOf, ahead}
-use Rattle.packed.specs.Inner.{numberOf, otherField}
+use Rattle.text.proofs.Cases.{both-left, both-right}
+use Rattle.packed.specs.Packed.{trim, allSolidi, allDigits, worthOf, number, halfOf, ahead}
 use Rattle.packed.proofs.Digits.{solidus-none}
-use Rattle.packed.specs.declared.read.Number.the-variants.{Whole, Other}
 
 pub next : (l : List ℕ) (i : ℕ) → i < length l → drop i l ≡ getD l i 0 ∷ drop (i + 1) l
 next l i h = rw (add-one, drop-cons l i 0)
@@ -36,37 +32,9 @@ pub trim-end : (l : List ℕ) (i : ℕ) → length l ≤ i → trim (drop i l) �
 unfolding trim
 trim-end l i h = rw (drop-of-length-le l h)
 
-pub solidi-step : (l : List ℕ) (i : ℕ) → i < length l → getD l i 0 ≡ 47 → allSolidi (drop i l) ≡ allSolidi (drop (i + 1) l)
-unfolding allSolidi
-solidi-step l i h e = rw (next l i h, eq-eqb (getD l i 0) 47 e)
-
-pub solidi-stop : (l : List ℕ) (i : ℕ) → i < length l → (getD l i 0 ≡ 47 → ⊥) → allSolidi (drop i l) ≡ false
-unfolding allSolidi
-solidi-stop l i h e = rw (next l i h, ne-eqb (getD l i 0) 47 e)
-
 pub solidi-end : (l : List ℕ) (i : ℕ) → length l ≤ i → allSolidi (drop i l) ≡ true
 unfolding allSolidi
 solidi-end l i h = rw (drop-of-length-le l h)
-
-pub digits-step : (l : List ℕ) (i : ℕ) → i < length l → worthOf (getD l i 0) < 40 → allDigits (drop i l) ≡ allDigits (drop (i + 1) l)
-unfolding allDigits
-digits-step l i h e = rw (next l i h, lt-ltb (worthOf (getD l i 0)) 40 e)
-
-pub digits-stop : (l : List ℕ) (i : ℕ) → i < length l → 40 ≤ worthOf (getD l i 0) → allDigits (drop i l) ≡ false
-unfolding allDigits
-digits-stop l i h e = rw (next l i h, le-ltb (worthOf (getD l i 0)) 40 e)
-
-pub digits-end : (l : List ℕ) (i : ℕ) → length l ≤ i → allDigits (drop i l) ≡ true
-unfolding allDigits
-digits-end l i h = rw (drop-of-length-le l h)
-
-pub number-step : (l : List ℕ) (i n : ℕ) → i < length l → number n (drop i l) ≡ number (n * 40 + worthOf (getD l i 0)) (drop (i + 1) l)
-unfolding number
-number-step l i n h = rw (next l i h)
-
-pub number-end : (l : List ℕ) (i n : ℕ) → length l ≤ i → number n (drop i l) ≡ n
-unfolding number
-number-end l i n h = rw (drop-of-length-le l h)
 
 -- ---- what a run of digits is worth
 
@@ -80,17 +48,6 @@ number-lt (b ∷ bs) n j h e =
     rw k
     (number-lt bs (n * 40 + worthOf b) (suc j) (rw (pow-suc 40 j) (digits-lt h d)) (both-right (ltb (worthOf b) 40) (allDigits bs) e))
 
--- ---- the reader's answer, from what its scans found
-
-whole-is : {m n : ℕ} → Whole m ≡ Whole n → m ≡ n
-whole-is e = cc
-
-other-whole : {n : ℕ} → Other ≡ Whole n → ⊥
-other-whole e = let z : _≡_ {A = ℕ} 0 1 = cc in absurd (omega arith)
-
-true-false : true ≡ false → ⊥
-true-false e = let z : _≡_ {A = ℕ} 0 1 = cc in absurd (omega arith)
-
 and-false : (t : Bool) → (t && false) ≡ false
 and-false true = refl
 and-false false = refl
@@ -102,36 +59,6 @@ solidi-none [] e = refl
 solidi-none (b ∷ bs) e =
     let s : b ≡ 47 = eqb-true b 47 (both-left (eqb b 47) (allSolidi bs) e) in
     rw (s, solidus-none) (and-false (ltb 0 (suc (length bs))))
-
--- a run of digits behind spaces is read as it is spelt
-pub read-digits : (f : List ℕ) (n : ℕ) → 1 ≤ length f → length f ≤ 5 → numberOf (trim f) ≡ Whole n
-    → readPacked f ≡ spelt n (length (trim f))
-unfolding readPacked numberOf
-read-digits f n a b e =
-    by-test (ltb 0 (length (trim f)) && allDigits (trim f))
-    (λ (t : (ltb 0 (length (trim f)) && allDigits (trim f)) ≡ true).
-    let v : number 0 (trim f) ≡ n = whole-is (rw t at e) in
-    by-test (allSolidi f)
-    (λ (s : allSolidi f ≡ true). absurd (true-false (sym t ∙ solidi-none f s)))
-    (λ (s : allSolidi f ≡ false). rw (le-leb 1 (length f) a, le-leb (length f) 5 b, s, t, v)))
-    (λ (t : (ltb 0 (length (trim f)) && allDigits (trim f)) ≡ false). absurd (other-whole (rw t at e)))
-
--- anything else is missing or refused
-pub read-other : (f : List ℕ) → 1 ≤ length f → length f ≤ 5 → numberOf (trim f) ≡ Other → readPacked f ≡ otherField f
-unfolding readPacked numberOf otherField
-read-other f a b e =
-    by-test (ltb 0 (length (trim f)) && allDigits (trim f))
-    (λ (t : (ltb 0 (length (trim f)) && allDigits (trim f)) ≡ true). absurd (other-whole (sym (rw t at e))))
-    (λ (t : (ltb 0 (length (trim f)) && allDigits (trim f)) ≡ false). rw (le-leb 1 (length f) a, le-leb (length f) 5 b, t))
-
--- what the whole number says of its digits
-pub whole-digits : (ds : List ℕ) (n : ℕ) → numberOf ds ≡ Whole n → (allDigits ds ≡ true) × (number 0 ds ≡ n) × (0 < length ds)
-unfolding numberOf
-whole-digits ds n e =
-    by-test (ltb 0 (length ds) && allDigits ds)
-    (λ (t : (ltb 0 (length ds) && allDigits ds) ≡ true).
-    (both-right (ltb 0 (length ds)) (allDigits ds) t, whole-is (rw t at e), ltb-true 0 (length ds) (both-left (ltb 0 (length ds)) (allDigits ds) t)))
-    (λ (t : (ltb 0 (length ds) && allDigits ds) ≡ false). absurd (other-whole (rw t at e)))
 
 -- bytes that are such, from a place on
 pub ahead-step : (test : ℕ → Bool) (l : List ℕ) (i : ℕ) → i < length l → test (getD l i 0) ≡ true

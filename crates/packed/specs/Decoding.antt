@@ -1,7 +1,7 @@
 -- A field as it is decoded: what reading gives, but for the code and place of a refusal.
 use mathlib.Core.Bool.{Bool, true, false, cond, _&&_}
 use mathlib.Core.List.{List, [], _∷_}
-use Prim.Native.Nat.{ℕ, _+_, _*_, _/_, _^_, _≤_, _<_}
+use Prim.Native.Nat.{ℕ, _+_, _-_, _*_, _/_, _^_}
 use lib.Dec.{eqb, ltb, leb}
 use lib.IntN.{ℤ, pos, subℕ}
 use lib.Signed.{mag}
@@ -12,7 +12,6 @@ use Rattle.packed.specs.declared.Figure.the-variants.{Given, Missing}
 use Rattle.packed.specs.declared.Packed.{Packed}
 use Rattle.packed.specs.declared.Packed.the-variants.{Is, Refused}
 use Rattle.packed.specs.declared.Decoded.{Decoded}
-use Rattle.packed.specs.declared.decode.Seen.{Seen}
 
 -- what reading gives, whatever the code and place of a refusal
 abbrev pub uncoded : Packed → Packed
@@ -29,9 +28,24 @@ figureIn d = cond (d .missing) Missing (Given (d .figure))
 
 -- ---- The bytes from the left: each digit is added at its place, and a leading space is worth nothing
 
--- before a byte that stands alone
-abbrev pub alone : Seen
-alone = record { leading = true; fine = true; solidi = true; sum = 0; first = 1; unit = 1 }
+-- what the bytes are so far
+pub record Seen : Type 0 where
+  -- spaces alone
+  pub leading : Bool
+  -- leading spaces and digits alone
+  pub fine : Bool
+  -- solidi alone
+  pub solidi : Bool
+  -- what the digits add up to, each at its place
+  pub sum : ℕ
+  -- what one is worth at the first digit's place, which is the next one where there is none yet
+  pub first : ℕ
+  -- and at the next byte's
+  pub unit : ℕ
+
+-- before the first of w bytes
+abbrev pub startOf : ℕ → Seen
+startOf w = record { leading = true; fine = true; solidi = true; sum = 0; first = 40 ^ (w - 1); unit = 40 ^ (w - 1) }
 
 -- what a byte adds: a leading space nothing, any other its worth
 abbrev pub addsOf : Bool → ℕ → ℕ
@@ -48,26 +62,13 @@ stepOf s b =
       unit = s .unit / 40;
     }
 
--- the first byte of more than one: where it is no digit the size tells, below
-unfoldable pub topOf : ℕ → ℕ → Seen
-topOf unit b =
-    record {
-      leading = eqb b 32;
-      fine = true;
-      solidi = eqb b 47;
-      sum = cond (eqb b 32) 0 (worthOf b * unit);
-      first = cond (eqb b 32) (unit / 40) unit;
-      unit = unit / 40;
-    }
-
--- the last: digits of which the first is worth n at its place span -20·n to 20·n - 1, and one digit fewer half of n
+-- the last, which is no leading space: digits of which the first is worth n at its place span -20·n to 20·n - 1, and one digit
+-- fewer half of n
 unfoldable pub finishOf : Seen → ℕ → Decoded
 finishOf s b =
     record {
       missing = s .solidi && eqb b 47;
-      given =
-          ((ltb (worthOf b) 40 && s .fine) && leb (s .first / 2) (mag (subℕ (s .sum + worthOf b) (20 * s .first))))
-          && ltb (mag (subℕ (s .sum + worthOf b) (20 * s .first))) (20 * s .first);
+      given = (ltb (worthOf b) 40 && s .fine) && leb (s .first / 2) (mag (subℕ (s .sum + worthOf b) (20 * s .first)));
       figure = subℕ (s .sum + worthOf b) (20 * s .first);
     }
 
@@ -81,15 +82,5 @@ restOf s [] = noneDecoded
 restOf s (b ∷ []) = finishOf s b
 restOf s (b ∷ c ∷ bs) = restOf (stepOf s b) (c ∷ bs)
 
-unfoldable pub bytesOf : List ℕ → Decoded
-bytesOf [] = noneDecoded
-bytesOf (b ∷ []) = finishOf alone b
-bytesOf (b ∷ c ∷ bs) = restOf (topOf (40 ^ length (c ∷ bs)) b) (c ∷ bs)
-
 unfoldable pub decoded : List ℕ → Decoded
-decoded f = cond (widthOk (length f)) (bytesOf f) noneDecoded
-
--- ---- No sum of five worths is large
-
-abbrev pub Roomy : Seen → Type 0
-Roomy s = (s .sum + 270 * s .unit < 2000000000) × (s .unit ≤ 2560000) × (s .first ≤ 2560000)
+decoded f = cond (widthOk (length f)) (restOf (startOf (length f)) f) noneDecoded

@@ -4,20 +4,13 @@ use mathlib.Core.List.{List}
 use Prim.Native.Nat.{ℕ, _+_, _%_}
 use lib.Dec.{ltb}
 use lib.ListN.{length}
-use Rattle.packed.specs.Packed.{digitOf, number, allDigits, allSolidi, fault}
-use Rattle.packed.specs.declared.Figure.the-variants.{Missing}
+use Rattle.packed.specs.Packed.{digitOf, trim, allDigits, fault}
 use Rattle.packed.specs.declared.Packed.{Packed}
-use Rattle.packed.specs.declared.Packed.the-variants.{Is, Refused}
-use Rattle.packed.specs.declared.read.Number.{Number}
-use Rattle.packed.specs.declared.read.Number.the-variants.{Whole, Other}
+use Rattle.packed.specs.declared.Packed.the-variants.{Refused}
 
--- a run of digits, at least one, as the number that it spells
-unfoldable pub numberOf : List ℕ → Number
-numberOf ds = cond (ltb 0 (length ds) && allDigits ds) (Whole (number 0 ds)) Other
-
--- a field that is no run of digits behind spaces
-unfoldable pub otherField : List ℕ → Packed
-otherField f = cond (allSolidi f) (Is Missing) (Refused 4 (fault f))
+-- how a field is refused that is neither missing nor a figure: digits behind spaces are more than hold it
+unfoldable pub refusedField : List ℕ → Packed
+refusedField f = cond (ltb 0 (length (trim f)) && allDigits (trim f)) (Refused 6 0) (Refused 4 (fault f))
 
 -- the last digit of n: one that stands alone counts from half a digit on
 unfoldable pub lastDigit : ℕ → Bool → ℕ

@@ -1,31 +1,14 @@
 // Reading a packed field.
 use crate::Figure;
 use crate::Packed;
-use crate::sign::less;
-use crate::sign::size;
+use crate::decode::decode;
 use crate::table::worth;
 use crate::table::worth_table;
 ghost use mathlib.Core.Path.{_≡_};
-ghost use Prim.Native.Nat.{_≤_, _<_, _^_};
+ghost use Prim.Native.Nat.{_≤_};
 ghost use lib.ListN.{length, drop};
-ghost use Rattle.packed.specs.Packed.{
-  worths,
-  readPacked,
-  spelt,
-  trim,
-  halfOf,
-  isSolidus,
-  isDigit,
-  ahead,
-  faultBehind,
-};
-ghost use Rattle.packed.specs.Inner.{numberOf, otherField};
-
-// A run of digits as the number that it spells, or that it is no such run.
-enum Number {
-    Whole(u32),
-    Other,
-}
+ghost use Rattle.packed.specs.Packed.{worths, readPacked, trim, isSolidus, isDigit, ahead, faultBehind};
+ghost use Rattle.packed.specs.Inner.{refusedField};
 
 // Where the field goes on behind its leading spaces.
 fn behind_spaces(f: &[u8]) -> usize
@@ -39,33 +22,6 @@ fn behind_spaces(f: &[u8]) -> usize
         i += 1;
     }
     i
-}
-
-fn wide(b: u8) -> u32
-    ensures { λ r. ⌜ r ≡ b ⌝ }
-{
-    b as u32
-}
-
-fn number_of(t: &[u8; 256], s: &[u8]) -> Number
-    requires { ⌜ now t ≡ worths ⌝ }
-    requires { ⌜ length (now s) ≤ 5 ⌝ }
-    ensures { λ r. ⌜ r ≡ numberOf (now (s .entry)) ⌝ }
-{
-    if s.len() < 1 {
-        return Number::Other;
-    }
-    let mut n: u32 = 0;
-    let mut i = 0;
-    while i < s.len() {
-        let d = worth(t, s[i]);
-        if 40 <= d {
-            return Number::Other;
-        }
-        n = n * 40 + wide(d);
-        i += 1;
-    }
-    Number::Whole(n)
 }
 
 // How many solidi the field begins with.
@@ -97,35 +53,8 @@ fn digits_ahead(t: &[u8; 256], f: &[u8]) -> usize
     i
 }
 
-// k digits span -half(k) to half(k) - 1.
-pub fn half(k: usize) -> u32
-    requires { ⌜ k ≤ 5 ⌝ }
-    ensures { λ r. ⌜ r ≡ halfOf k ⌝ }
-{
-    match k {
-        0 => 0,
-        1 => 20,
-        2 => 800,
-        3 => 32000,
-        4 => 1280000,
-        _ => 51200000,
-    }
-}
-
-// Fewer digits that hold the figure too are its one spelling, so more are refused.
-fn figure_of(n: u32, k: usize) -> Packed
-    requires { ⌜ (1 ≤ k) × (k ≤ 5) ⌝ }
-    requires { ⌜ n < 2 ^ 31 ⌝ }
-    ensures { λ r. ⌜ r ≡ spelt n k ⌝ }
-{
-    let x = less(n, half(k));
-    if size(x) < half(k - 1) {
-        return Packed::Refused(6, 0);
-    }
-    Packed::Is(Figure::Given(x))
-}
-
-// Where a field of neither solidi nor digits goes wrong behind its spaces; at the last of them where there is nothing else.
+// Where a field that begins with no solidus goes wrong behind its spaces: at the last of them where there is nothing else, and
+// nowhere, which is its width, where all else are digits.
 fn fault_behind(t: &[u8; 256], f: &[u8]) -> usize
     requires { ⌜ now t ≡ worths ⌝ }
     requires { ⌜ (1 ≤ length (now f)) × (length (now f) ≤ 5) ⌝ }
@@ -139,20 +68,22 @@ fn fault_behind(t: &[u8; 256], f: &[u8]) -> usize
     from + digits_ahead(t, &f[from..])
 }
 
-// What a field is that is no run of digits behind spaces: missing, where it is wholly solidi.
-fn other(t: &[u8; 256], f: &[u8]) -> Packed
+// The code and place of a field that is neither missing nor a figure: only such a field is looked at again. Digits behind spaces
+// that are no figure are more than hold it.
+fn refused(t: &[u8; 256], f: &[u8]) -> Packed
     requires { ⌜ now t ≡ worths ⌝ }
     requires { ⌜ (1 ≤ length (now f)) × (length (now f) ≤ 5) ⌝ }
-    ensures { λ r. ⌜ r ≡ otherField (now (f .entry)) ⌝ }
+    ensures { λ r. ⌜ r ≡ refusedField (now (f .entry)) ⌝ }
 {
     let solidi = solidi_ahead(f);
-    if solidi == f.len() {
-        return Packed::Is(Figure::Missing);
-    }
     if 0 < solidi {
         return Packed::Refused(4, solidi);
     }
-    Packed::Refused(4, fault_behind(t, f))
+    let place = fault_behind(t, f);
+    if place < f.len() {
+        return Packed::Refused(4, place);
+    }
+    Packed::Refused(6, 0)
 }
 
 pub fn read(t: &[u8; 256], f: &[u8]) -> Packed
@@ -166,12 +97,14 @@ pub fn read(t: &[u8; 256], f: &[u8]) -> Packed
     if 5 < w {
         return Packed::Refused(1, 0);
     }
-    let from = behind_spaces(f);
-    let run = number_of(t, &f[from..]);
-    match run {
-        Number::Whole(n) => figure_of(n, w - from),
-        Number::Other => other(t, f),
+    let d = decode(t, f);
+    if d.missing {
+        return Packed::Is(Figure::Missing);
     }
+    if d.given {
+        return Packed::Is(Figure::Given(d.figure));
+    }
+    refused(t, f)
 }
 
 // A field that stands alone: the table is built for it.

@@ -1,6 +1,6 @@
 // Writing a packed field.
 use crate::Figure;
-use crate::read::half;
+use crate::decode::half;
 use crate::sign::plus;
 use crate::sign::size;
 use crate::table::digit;

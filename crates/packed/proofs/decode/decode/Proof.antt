@@ -1,181 +1,181 @@
-use borrow.Author.Needs.{needs}
+use borrow.Author.Needs.{needs, sfits-of}
 use Rattle.packed.proofs.decode.decode.Statement.{statement}
 use Rattle.packed.proofs.decode.decode.Tie as tie
-use mathlib.Core.Path.{_∙_}
-use Rattle.packed.specs.Decoding.{restOf, bytesOf, decoded}
-use Rattle.packed.proofs.Decoding.{at-width, no-width}
+use mathlib.Core.Path.{_≡_, refl, sym, _∙_}
+use mathlib.Core.Bool.{_&&_}
+use Prim.Native.Nat.{_+_, _-_, _*_, _/_, _^_, _≤_, _<_}
+use native.Mathlib.Omega.{arith}
+use native.Mathlib.Nat.{mul-le-mul-right, pow-le-pow-right}
+use mir.Facts.{toZ-ofZ}
+use mir.Syntax.{w32}
+use lib.Dec.{eqb, lit<}
+use lib.ListN.{length, getD, drop}
+use Rattle.packed.specs.Decoding.{stepOf, finishOf, restOf, decoded}
+use Rattle.packed.proofs.Bounds.{cond-le}
+use Rattle.packed.proofs.Decoding.{seen, unit-at, in-width, too-short, too-long, turn, ended}
 
-shared-slice-read-top : tie.Need-shared-slice-read-top
-shared-slice-read-top c = search needs
+-- what is seen so far leads to the same as the whole, and no sum of five worths is large
+abbrev Inv-loop : tie.InvT-loop
+Inv-loop t f w last leading₀ fine₀ solidi₀ sum₀ first₀ unit₀ i₀ leading fine solidi sum first unit i =
+    (i ≤ last)
+    × (sum + 270 * unit < 2000000000) × (unit ≤ 2560000) × (first ≤ 2560000)
+    × (decoded f ≡ restOf (seen leading fine solidi sum first unit) (drop i f))
 
-top-requires : tie.Need-top-requires
-top-requires c κs = search needs
+abbrev μ-loop : tie.MeasureT-loop
+μ-loop t f w last leading₀ fine₀ solidi₀ sum₀ first₀ unit₀ i₀ leading fine solidi sum first unit i = last - i
 
-shared-slice-read-finish : tie.Need-shared-slice-read-finish
-shared-slice-read-finish c = search needs
+-- what a byte adds is a byte
+adds : (c : tie.After-either Inv-loop μ-loop) → c .either .result ≤ 255
+adds c =
+    let l = c .before .before .before .before .before .loop in
+    let x : c .before .before .worth .result < 256 = search needs in
+    let e = cond-le (l .leading && eqb (getD (c .before .before .before .before .before .before .before .before .before .before .args .f .now) (l .i) 0) 32) 0 (c .before .wide .result) 255 (omega arith) (omega (arith, c .before .wide .ensures)) in
+    omega (arith, c .either .ensures, e)
 
-finish-requires : tie.Need-finish-requires
-finish-requires c κs = search needs
-
-returns : tie.Need-returns
-unfolding decoded bytesOf restOf
-returns c =
-    c .finish .ensures
-    ∙ rw (c .before .before .top .ensures .0) (at-width (c .before .before .before .before .before .before .args .f .now) 2 (c .before .before .before .before .if1 .taken))
-
-shared-slice-read-top-2 : tie.Need-shared-slice-read-top-2
-shared-slice-read-top-2 c = search needs
-
-top-requires-2 : tie.Need-top-requires-2
-top-requires-2 c κs = search needs
-
-shared-slice-read-step : tie.Need-shared-slice-read-step
-shared-slice-read-step c = search needs
-
-step-requires : tie.Need-step-requires
-step-requires c κs = search needs
-
-shared-slice-read-finish-2 : tie.Need-shared-slice-read-finish-2
-shared-slice-read-finish-2 c = search needs
-
-finish-requires-2 : tie.Need-finish-requires-2
-finish-requires-2 c κs = search needs
-
-returns-2 : tie.Need-returns-2
-unfolding decoded bytesOf restOf
-returns-2 c =
-    c .finish2 .ensures
-    ∙ rw (c .before .before .step .ensures .0, c .before .before .before .before .top2 .ensures .0) (at-width (c .before .before .before .before .before .before .before .before .before .args .f .now) 3 (c .before .before .before .before .before .before .if2 .taken))
-
-shared-slice-read-top-3 : tie.Need-shared-slice-read-top-3
-shared-slice-read-top-3 c = search needs
-
-top-requires-3 : tie.Need-top-requires-3
-top-requires-3 c κs = search needs
-
-shared-slice-read-step-2 : tie.Need-shared-slice-read-step-2
-shared-slice-read-step-2 c = search needs
-
-step-requires-2 : tie.Need-step-requires-2
-step-requires-2 c κs = search needs
-
-shared-slice-read-step-3 : tie.Need-shared-slice-read-step-3
-shared-slice-read-step-3 c = search needs
-
-step-requires-3 : tie.Need-step-requires-3
-step-requires-3 c κs = search needs
-
-shared-slice-read-step-4 : tie.Need-shared-slice-read-step-4
-shared-slice-read-step-4 c = search needs
-
-step-requires-4 : tie.Need-step-requires-4
-step-requires-4 c κs = search needs
-
-shared-slice-read-finish-3 : tie.Need-shared-slice-read-finish-3
-shared-slice-read-finish-3 c = search needs
-
-finish-requires-3 : tie.Need-finish-requires-3
-finish-requires-3 c κs = search needs
-
-returns-3 : tie.Need-returns-3
-unfolding decoded bytesOf restOf
-returns-3 c =
-    c .finish3 .ensures
-    ∙ rw (c .before .before .step4 .ensures .0, c .before .before .before .before .step3 .ensures .0, c .before .before .before .before .before .before .step2 .ensures .0, c .before .before .before .before .before .before .before .before .top3 .ensures .0) (at-width (c .before .before .before .before .before .before .before .before .before .before .before .before .before .before .args .f .now) 5 (c .before .before .before .before .before .before .before .before .before .before .if3 .taken))
-
-shared-slice-read-top-4 : tie.Need-shared-slice-read-top-4
-shared-slice-read-top-4 c = search needs
-
-top-requires-4 : tie.Need-top-requires-4
-top-requires-4 c κs = search needs
-
-shared-slice-read-step-5 : tie.Need-shared-slice-read-step-5
-shared-slice-read-step-5 c = search needs
-
-step-requires-5 : tie.Need-step-requires-5
-step-requires-5 c κs = search needs
-
-shared-slice-read-step-6 : tie.Need-shared-slice-read-step-6
-shared-slice-read-step-6 c = search needs
-
-step-requires-6 : tie.Need-step-requires-6
-step-requires-6 c κs = search needs
-
-shared-slice-read-finish-4 : tie.Need-shared-slice-read-finish-4
-shared-slice-read-finish-4 c = search needs
-
-finish-requires-4 : tie.Need-finish-requires-4
-finish-requires-4 c κs = search needs
-
-returns-4 : tie.Need-returns-4
-unfolding decoded bytesOf restOf
-returns-4 c =
-    c .finish4 .ensures
-    ∙ rw (c .before .before .step6 .ensures .0, c .before .before .before .before .step5 .ensures .0, c .before .before .before .before .before .before .top4 .ensures .0) (at-width (c .before .before .before .before .before .before .before .before .before .before .before .before .before .args .f .now) 4 (c .before .before .before .before .before .before .before .before .if4 .taken))
-
-start-requires : tie.Need-start-requires
-start-requires c κs = search needs
-
-shared-slice-read-finish-5 : tie.Need-shared-slice-read-finish-5
-shared-slice-read-finish-5 c = search needs
-
-finish-requires-5 : tie.Need-finish-requires-5
-finish-requires-5 c κs = search needs
-
-returns-5 : tie.Need-returns-5
-unfolding decoded bytesOf restOf
-returns-5 c =
-    c .finish5 .ensures
-    ∙ rw (c .before .before .start .ensures .0) (at-width (c .before .before .before .before .before .before .before .before .before .args .f .now) 1 (c .before .before .before .if5 .taken))
-
-none-requires : tie.Need-none-requires
+none-requires : tie.Need-none-requires Inv-loop μ-loop
 none-requires c κs = search needs
 
-returns-6 : tie.Need-returns-6
-returns-6 c =
+returns : tie.Need-returns Inv-loop μ-loop
+returns c = c .none .ensures ∙ too-short _ (c .before .if1 .taken)
+
+none-requires-2 : tie.Need-none-requires-2 Inv-loop μ-loop
+none-requires-2 c κs = search needs
+
+returns-2 : tie.Need-returns-2 Inv-loop μ-loop
+returns-2 c = c .none2 .ensures ∙ too-long _ (c .before .before .if1 .left) (c .before .if2 .taken)
+
+half-requires : tie.Need-half-requires Inv-loop μ-loop
+half-requires c κs = search needs
+
+loop-holds : tie.Need-loop-holds Inv-loop μ-loop
+loop-holds c =
+    let b = c .before .before .before .before in
+    let f = b .args .f .now in
+    let w = length f in
+    let a : 1 ≤ w = c .before .before .if1 .left in
+    let m : w ≤ 5 = c .before .if2 .left in
+    let u : c .half .result / 20 ≡ 40 ^ (w - 1) = rw (c .half .ensures) (unit-at w a) in
+    let p = pow-le-pow-right {n = 40} (lit< tt) {i = w - 1} {j = 4} (omega arith) in
+    (omega arith, omega (arith, u, p), omega (arith, u, p), omega (arith, u, p), rw u (in-width f a m))
+
+shared-slice-read-b : tie.Need-shared-slice-read-b Inv-loop μ-loop
+shared-slice-read-b c = search needs
+
+worth-requires : tie.Need-worth-requires Inv-loop μ-loop
+worth-requires c κs = search needs
+
+wide-requires : tie.Need-wide-requires Inv-loop μ-loop
+wide-requires c κs = search needs
+
+either-requires : tie.Need-either-requires Inv-loop μ-loop
+either-requires c κs = search needs
+
+mul-sum : tie.Need-mul-sum Inv-loop μ-loop
+mul-sum c =
+    let l = c .before .before .before .before .before .loop in
+    record { fits = omega (arith, l .inv, mul-le-mul-right (l .unit) (adds c)) }
+
+add-sum : tie.Need-add-sum Inv-loop μ-loop
+add-sum c =
+    let l = c .before .before .before .before .before .loop in
+    record { fits = omega (arith, l .inv, mul-le-mul-right (l .unit) (adds c)) }
+
+either-requires-2 : tie.Need-either-requires-2 Inv-loop μ-loop
+either-requires-2 c κs = search needs
+
+add-i : tie.Need-add-i Inv-loop μ-loop
+add-i c = search needs
+
+loop-less : tie.Need-loop-less Inv-loop μ-loop
+loop-less c = omega arith
+
+loop-again : tie.Need-loop-again Inv-loop μ-loop
+unfolding stepOf
+loop-again c =
     let e = c .before in
-    c .none .ensures
-    ∙ no-width (e .before .before .before .before .before .before .args .f .now) (e .if5 .left) (e .before .before .before .before .if1 .left) (e .before .before .before .if2 .left) (e .before .if4 .left) (e .before .before .if3 .left)
+    let p = e .before .before .before .before .before in
+    let l = p .loop in
+    let f = p .before .before .before .before .before .args .f .now in
+    let m = mul-le-mul-right (l .unit) (adds e) in
+    let g = cond-le (l .leading && eqb (getD f (l .i) 0) 32) (l .unit / 40) (l .first) 2560000 (omega (arith, l .inv)) (l .inv .3) in (
+      omega arith,
+      omega (arith, l .inv, m),
+      omega (arith, l .inv),
+      omega (arith, c .either2 .ensures, g),
+      rw (c .either2 .ensures, e .either .ensures, e .before .wide .ensures, e .before .before .worth .ensures)
+          (l .inv .4 ∙ turn (seen (l .leading) (l .fine) (l .solidi) (l .sum) (l .first) (l .unit)) f (l .i) (omega arith)),
+    )
+
+shared-slice-read-b-2 : tie.Need-shared-slice-read-b-2 Inv-loop μ-loop
+shared-slice-read-b-2 c = search needs
+
+worth-requires-2 : tie.Need-worth-requires-2 Inv-loop μ-loop
+worth-requires-2 c κs = search needs
+
+wide-requires-2 : tie.Need-wide-requires-2 Inv-loop μ-loop
+wide-requires-2 c κs = search needs
+
+less-requires : tie.Need-less-requires Inv-loop μ-loop
+less-requires c κs =
+    let x : c .before .worth2 .result < 256 = search needs in
+    let l = c .before .before .before .before .loop in
+    (omega (arith, l .inv, c .wide2 .ensures), omega (arith, l .inv))
+
+add-less : tie.Need-add-less Inv-loop μ-loop
+add-less c = record { fits = omega (arith, less-requires c tt .0) }
+
+mul-less : tie.Need-mul-less Inv-loop μ-loop
+mul-less c = record { fits = omega (arith, c .before .before .before .before .loop .inv) }
+
+size-requires : tie.Need-size-requires Inv-loop μ-loop
+size-requires c κs = search needs
+
+returns-3 : tie.Need-returns-3 Inv-loop μ-loop
+unfolding finishOf
+returns-3 c =
+    let l = c .before in
+    let p = l .before .before .before .before .before in
+    let s = p .loop in
+    let f = p .before .before .before .before .before .args .f .now in
+    let st = seen (s .leading) (s .fine) (s .solidi) (s .sum) (s .first) (s .unit) in
+    let k : s .i ≡ length f - 1 = omega (arith, s .inv, p .before .before .before .if1 .left) in
+    let d : decoded f ≡ finishOf st (getD f (length f - 1) 0) = s .inv .4 ∙ rw k (ended st f (length f - 1) (omega (arith, p .before .before .before .if1 .left))) in
+    rw (
+      c .size .ensures,
+      toZ-ofZ {w = w32} (sfits-of (l .less .ok)),
+      l .less .ensures,
+      l .before .wide2 .ensures,
+      l .before .before .worth2 .ensures,
+    )
+    (sym d)
 
 pub decode-spec : {M : Type 1} → statement M
 decode-spec =
     tie.close
     (tie.spec
-    shared-slice-read-top
-    top-requires
-    shared-slice-read-finish
-    finish-requires
-    returns
-    shared-slice-read-top-2
-    top-requires-2
-    shared-slice-read-step
-    step-requires
-    shared-slice-read-finish-2
-    finish-requires-2
-    returns-2
-    shared-slice-read-top-3
-    top-requires-3
-    shared-slice-read-step-2
-    step-requires-2
-    shared-slice-read-step-3
-    step-requires-3
-    shared-slice-read-step-4
-    step-requires-4
-    shared-slice-read-finish-3
-    finish-requires-3
-    returns-3
-    shared-slice-read-top-4
-    top-requires-4
-    shared-slice-read-step-5
-    step-requires-5
-    shared-slice-read-step-6
-    step-requires-6
-    shared-slice-read-finish-4
-    finish-requires-4
-    returns-4
-    start-requires
-    shared-slice-read-finish-5
-    finish-requires-5
-    returns-5
+    Inv-loop
+    μ-loop
     none-requires
-    returns-6)
+    returns
+    none-requires-2
+    returns-2
+    half-requires
+    loop-holds
+    shared-slice-read-b
+    worth-requires
+    wide-requires
+    either-requires
+    mul-sum
+    add-sum
+    either-requires-2
+    add-i
+    loop-less
+    loop-again
+    shared-slice-read-b-2
+    worth-requires-2
+    wide-requires-2
+    add-less
+    mul-less
+    less-requires
+    size-requires
+    returns-3)

@@ -1,5 +1,5 @@
-use Rattle.packed.proofs.read.half.Statement.{statement}
-use Rattle.packed.proofs.read.half.Tie as tie
+use Rattle.packed.proofs.decode.half.Statement.{statement}
+use Rattle.packed.proofs.decode.half.Tie as tie
 use mathlib.Core.Path.{_≡_}
 use Prim.Native.Nat.{ℕ, _≤_}
 use native.Mathlib.Omega.{arith}
