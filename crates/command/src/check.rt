@@ -153,7 +153,7 @@ fn head_fine(s: &[u8]) -> bool
 }
 
 // The first 22 bytes: all at once, and group by group only where one is wrong.
-pub fn check_head(s: &[u8]) -> Step
+fn head_seen(s: &[u8]) -> Step
     ensures { λ r. ⌜ r ≡ checkHead (now (s .entry)) ⌝ }
 {
     if 22 <= s.len() {
@@ -162,6 +162,15 @@ pub fn check_head(s: &[u8]) -> Step
         }
     }
     head_by_groups(s)
+}
+
+// The same. This is called from several places, so it is not put into each; the slice is taken anew, so that its pointer and length
+// are not read back from the caller's memory at once, which stalls.
+pub fn check_head(s: &[u8]) -> Step
+    ensures { λ r. ⌜ r ≡ checkHead (now (s .entry)) ⌝ }
+{
+    let n = s.len();
+    head_seen(&s[0..n])
 }
 
 // Whether section k is named: E2 stands at byte 13.
