@@ -52,6 +52,8 @@ pub fn is_valid(x: Settings) -> bool
 {
     let flags = x.flags;
     let regions = x.regions;
+    let boxes = are_valid(flags) & regions_fine(regions);
+    // taken out of the record only here, so that less has to be kept while the boxes are looked at
     let airports = x.airports;
-    are_valid(flags) & regions_fine(regions) & airports_fine(airports) & fixed_valid(fixed_of(x))
+    boxes & airports_fine(airports) & fixed_valid(fixed_of(x))
 }

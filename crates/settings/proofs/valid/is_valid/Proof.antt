@@ -26,7 +26,7 @@ unfolding valid
 returns c =
     let fixed = c .before in
     let airports = fixed .before in
-    let regions = airports .before in
+    let regions = airports .before .before in
     let flags = regions .before in
     four (flags .are-valid .result) (regions .regions-fine .result) (airports .airports-fine .result) (c .fixed-valid .result)
     ∙ rw (sections-are _, c .fixed-valid .ensures, fixed .fixed-of .ensures, airports .airports-fine .ensures 0, regions .regions-fine .ensures 0, flags .are-valid .ensures)
