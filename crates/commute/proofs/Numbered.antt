@@ -20,7 +20,7 @@ each-of P [] e k o = let z : _≡_ {A = Bool} false true = o in let w : _≡_ {A
 each-of P (j ∷ ks) e k o =
     by-test (eqb k j) (λ (t : eqb k j ≡ true). rw (eqb-true k j t) (e .0)) (λ (t : eqb k j ≡ false). each-of P ks (e .1) k (rw t at o))
 
-one-more : (j k : ℕ) (ks : List ℕ) → isOneOf ks k ≡ true → isOneOf (j ∷ ks) k ≡ true
+pub one-more : (j k : ℕ) (ks : List ℕ) → isOneOf ks k ≡ true → isOneOf (j ∷ ks) k ≡ true
 one-more j k ks o = by-test (eqb k j) (λ (t : eqb k j ≡ true). rw t) (λ (t : eqb k j ≡ false). rw t o)
 
 -- and the other way round

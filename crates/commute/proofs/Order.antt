@@ -88,7 +88,7 @@ later-earlier (a ∷ x) [] = refl
 later-earlier x (b ∷ y) = refl
 
 -- a flag's byte is `0` at the least
-flag-least : (b : ℕ) → isFlag b ≡ true → 48 ≤ b
+pub flag-least : (b : ℕ) → isFlag b ≡ true → 48 ≤ b
 flag-least b f =
     by-test (eqb b 48)
     (λ (p : eqb b 48 ≡ true). omega (arith, eqb-true b 48 p))
