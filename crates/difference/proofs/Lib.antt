@@ -1,0 +1,4 @@
+pub mod Answer
+pub mod Equal
+pub mod Filling
+pub mod Marks
