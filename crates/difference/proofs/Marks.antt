@@ -42,7 +42,7 @@ mark-at g k lo hi =
     let back : k - 2 + 2 ≡ k = omega arith in
     at (λ (i : ℕ). g (i + 2)) 8 (k - 2) (omega arith) ∙ ap g back
 
-own-is : (k : ℕ) (t : Bool) → 1 ≤ k → eqb (cond t k 0) k ≡ t
+pub own-is : (k : ℕ) (t : Bool) → 1 ≤ k → eqb (cond t k 0) k ≡ t
 own-is k true h = eq-eqb k k refl
 own-is k false h = ne-eqb 0 k (λ (e : 0 ≡ k). omega arith)
 
@@ -50,7 +50,7 @@ some-is : (k : ℕ) (t : Bool) → 1 ≤ k → not (eqb (cond t k 0) 0) ≡ t
 some-is k true h = rw (ne-eqb k 0 (λ (e : k ≡ 0). omega arith))
 some-is k false h = refl
 
-set-is : (v : ℕ) (t : Bool) → v ≤ 1 → not (eqb (cond t v 9) 9) ≡ t
+pub set-is : (v : ℕ) (t : Bool) → v ≤ 1 → not (eqb (cond t v 9) 9) ≡ t
 set-is v true h = rw (ne-eqb v 9 (λ (e : v ≡ 9). omega arith))
 set-is v false h = refl
 
@@ -121,7 +121,7 @@ module _ (a b : Settings) where
   abbrev pub marks : List ℕ
   marks = map (λ (k : ℕ). cond (sectionDiffers a b k) k 0) numbers
 
-  abbrev heldTo : ℕ → List Content
+  abbrev pub heldTo : ℕ → List Content
   heldTo k = cond (sectionDiffers a b k) (contentsOf b k) []
 
   -- section k is named just where it differs

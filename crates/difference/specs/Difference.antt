@@ -9,9 +9,10 @@ use Rattle.section.specs.Layout.{numbers}
 use Rattle.settings.specs.Settings.{contentsOf, settingsFrom}
 use Rattle.settings.specs.Valid.{valid}
 use Rattle.settings.specs.declared.Settings.{Settings}
+use Rattle.command.specs.Text.{isNamed}
 use Rattle.command.specs.Record.{commandText}
 use Rattle.command.specs.declared.Command.{Command}
-use Rattle.commute.specs.Commute.{flagNumbers}
+use Rattle.commute.specs.Commute.{sets, flagOf, flagNumbers}
 use Rattle.difference.specs.Same.{sameContents}
 use Rattle.difference.specs.declared.Listed.{Listed}
 use Rattle.difference.specs.declared.Differing.{Differing}
@@ -42,6 +43,10 @@ those test (j ∷ js) = cond (test j) (j ∷ those test js) (those test js)
 
 unfoldable pub differing : Settings → Settings → List ℕ
 differing a b = those (byItem (flagDiffers a b) (sectionDiffers a b)) items
+
+-- whether a command's text sets an item
+abbrev pub setBy : List ℕ → ℕ → Bool
+setBy s = byItem (λ (i : ℕ). sets (flagOf s i)) (isNamed s)
 
 -- ---- "the command that makes the first into the second and names exactly the listed items. Its downlink digit is 0"
 
