@@ -1,5 +1,6 @@
 pub mod Commands
 pub mod Decisions
+pub mod Differences
 pub mod Gusts
 pub mod Joins
 pub mod Journal

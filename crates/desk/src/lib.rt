@@ -5,6 +5,7 @@ mod command_calls;
 mod commute_calls;
 mod config_calls;
 mod decide_calls;
+mod difference_calls;
 mod gust_calls;
 mod join_calls;
 mod journal_calls;
@@ -91,6 +92,15 @@ pub struct HostCommute {
     pub sections: u8,
     pub spare: u8,
     pub rest: u16,
+}
+
+// The answer of what differs between two configurations: how many flags and sections, and which. Flags are 1 to 7, a section is 10 and
+// its number; entries from the count on are 0, all in a refusal.
+#[repr(C)]
+pub struct HostDiffering {
+    pub answer: Answer,
+    pub count: u8,
+    pub items: [u8; 15],
 }
 
 // The answer of a step from the end of a journal: where an entry starts, where its text does and how long that is. `given` is 0

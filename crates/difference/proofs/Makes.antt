@@ -2,11 +2,11 @@
 -- does so sets all of that; and of those that set no more and ask for no downlink it is the only one.
 use mathlib.Core.Path.{_≡_, refl, sym, ap, _∙_}
 use mathlib.Core.Logic.{_↔_}
-use mathlib.Core.Bool.{Bool, true, false, cond, not}
+use mathlib.Core.Bool.{Bool, true, false, cond, _&&_, not}
 use mathlib.Core.List.{List, [], _∷_, map}
 use Prim.Native.Nat.{ℕ, zero, suc, _+_, _-_, _≤_, _<_}
 use native.Mathlib.Omega.{arith}
-use lib.Dec.{eqb}
+use lib.Dec.{leb, eqb}
 use lib.ListN.{length, getD, replicate}
 use borrow.Author.Tests.{eqb-true, eq-eqb, ne-eqb, not-true, not-false}
 use Rattle.text.specs.Parts.{part}
@@ -24,7 +24,7 @@ use Rattle.settings.specs.declared.ByPhase.{ByPhase}
 use Rattle.settings.specs.declared.Regions.{Regions}
 use Rattle.settings.specs.declared.Settings.{Settings}
 use Rattle.settings.proofs.Pieces.{seven}
-use Rattle.command.specs.Text.{isNamed, checkCommand}
+use Rattle.command.specs.Text.{isNamed, longest, checkCommand}
 use Rattle.command.specs.Sections.{heldIn}
 use Rattle.command.specs.Record.{flagsOf, commandOf, commandText}
 use Rattle.command.specs.declared.Command.{Command}
@@ -34,7 +34,7 @@ use Rattle.command.proofs.Parts.{present, bodyOf, holds, partsOf, flagTests}
 use Rattle.command.proofs.Accepted.{Accepted, accepted, sound, spelt, flag-byte, held-own, named-present}
 use Rattle.command_write.specs.Filled.{Filled}
 use Rattle.command_write.proofs.ReadBack.{read-held}
-use Rattle.command_write.proofs.RoundTrip.{write-read}
+use Rattle.command_write.proofs.RoundTrip.{write-read, written-short}
 use Rattle.config.specs.Config.{newFlag, newFlags, applyTo}
 use Rattle.config.proofs.Apply.{settings-own, settings-same, new-length, flag-after, section-after, applies-nothing}
 use Rattle.config.proofs.Seven.{new-seven}
@@ -46,7 +46,7 @@ use Rattle.commute.proofs.Numbered.{each-of, numbered, of-number, each-number}
 use Rattle.commute.proofs.Order.{flag-least}
 use Rattle.commute.proofs.Same.{named-some, held-bytes}
 use Rattle.difference.specs.Same.{sameContents}
-use Rattle.difference.specs.Difference.{flagDiffers, sectionDiffers, items, byItem, those, differing, setBy, between}
+use Rattle.difference.specs.Difference.{flagDiffers, sectionDiffers, items, byItem, those, differing, setBy, between, difference}
 use Rattle.difference.proofs.Equal.{same-contents}
 use Rattle.difference.proofs.List.{each-item, flag-item, section-item, by-flag, by-section, those-none, none-pass, those-fewer}
 use Rattle.difference.proofs.Marks.{flagsTo, heldTo, valid-flag, flag-at, held-back, between-allowed}
@@ -302,6 +302,10 @@ module _ (a b : Settings) where
       pub text-fine : checkCommand text ≡ Fine
       text-fine = text-back .0
 
+      -- and no longer than the longest
+      pub text-short : length text ≤ longest
+      text-short = written-short (between a b) between-full (between-allowed a b ok)
+
       flags-to : flagsOf text ≡ flagsTo a b
       unfolding commandOf between settingsFrom
       flags-to = flags-read (commandOf text) (between a b) (text-back .1)
@@ -401,3 +405,14 @@ module _ (a b : Settings) where
               (text-digit ∙ sym no-change-digit),
           λ e. equal-none (sym (no-change-acts a) ∙ ap (applyTo a) (sym e) ∙ makes l),
         )
+
+-- the length that is answered is no more than the longest command's
+pub answer-short : (a b : Settings) (room : ℕ) → Filled (holding b) → difference a b room .length ≤ longest
+unfolding difference
+answer-short a b room full =
+    by-test (valid a && valid b)
+    (λ ok.
+    by-test (leb (length (text a b)) room)
+    (λ t. rw (ok, t) (text-short a b (both-right (valid a) (valid b) ok) full))
+    (λ t. rw (ok, t) (omega arith)))
+    (λ no. rw no (omega arith))
