@@ -54,7 +54,7 @@ kept-both g a b v x y =
     kept-is (kept g a) b (ap valid e ∙ applies-valid g a v x) y ∙ ap (λ (h : Settings). applyTo h b) e
 
 -- a byte that is not `9` sets a flag
-set-is : (f : ℕ) → (sets f ≡ true) ↔ (¬ (f ≡ 57))
+pub set-is : (f : ℕ) → (sets f ≡ true) ↔ (¬ (f ≡ 57))
 set-is f = (λ m. eqb-false f 57 (not-true (eqb f 57) m), λ n. ap not (ne-eqb f 57 n))
 
 -- what a named section holds stands at its place

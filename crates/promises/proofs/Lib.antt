@@ -8,6 +8,7 @@ pub mod Commute
 pub mod Configuration
 pub mod Dateline
 pub mod Decision
+pub mod Difference
 pub mod Explain
 pub mod Gust
 mod InRun
