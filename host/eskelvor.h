@@ -37,8 +37,9 @@
  * libeskelvor.so.4.
  * 4.1.0: esk_section, and esk_part_of over its answer.
  * 4.2.0: esk_commute.
- * 4.3.0: esk_gust. */
-#define ESK_VERSION "4.3.0"
+ * 4.3.0: esk_gust.
+ * 4.4.0: esk_difference. */
+#define ESK_VERSION "4.4.0"
 
 #ifdef __cplusplus
 extern "C" {
@@ -510,6 +511,24 @@ typedef struct esk_applied {
  * and then the refusals of esk_command_check, with their places.
  */
 esk_applied esk_apply(esk_settings *settings, const uint8_t *text, size_t length);
+
+/* The answer of esk_difference. 32 bytes, no padding. On refusal every member but the answer is 0. */
+typedef struct esk_differing {
+    esk_answer answer; /* length: of the command */
+    uint8_t count;     /* how many flags and sections differ, 0 to 15 */
+    uint8_t items[15]; /* those that do, each once, in the order of the command: flags 1 to 7, then 10 + k for section k,
+                          12 to 19; from count on 0 */
+} esk_differing;
+
+/*
+ * What differs between two configurations, and the command that makes the first into the second, written at the start of
+ * `out`. It sets the flags and names the sections that are listed, and no other, to what the second has; no accepted command
+ * that does the same sets fewer. Its downlink digit is 0. Where nothing differs it is the command that changes nothing. Both
+ * configurations are lent for reading, are never NULL and may be the same; `out`, `room` bytes, is lent for writing.
+ *   12  one of the two is not valid; place 0
+ *   2   room below the command's length, at most ESK_COMMAND_BYTES; place 0
+ */
+esk_differing esk_difference(const esk_settings *first, const esk_settings *second, uint8_t *out, size_t room);
 
 /* ---- whether to report ------------------------------------------------------------------------------------------ */
 

@@ -67,6 +67,11 @@ static void commands()
     HOLD(order.code == ESK_ACCEPTED && order.yes == 0 && order.flags == 0 && order.sections == 1 << (4 - 2));
     order = esk_commute(at(second), second.size(), at(both), both.size());
     HOLD(order.code == ESK_ACCEPTED && order.yes == 1 && order.flags == 0 && order.sections == 0);
+    esk_settings reset = esk_reset(), changed = reset;
+    HOLD(esk_apply(&changed, at(second), second.size()).code == ESK_ACCEPTED);
+    const esk_differing apart = esk_difference(&reset, &changed, out.data(), out.size());
+    HOLD(apart.answer.code == ESK_ACCEPTED && text_in(out, apart.answer.length) == "AWR049199999000400009/300/2301/"sv);
+    HOLD(apart.count == 3 && apart.items[0] == 2 && apart.items[1] == 14 && apart.items[2] == 19 && apart.items[3] == 0);
     const esk_command_got got = esk_command_read(at(both), both.size());
     HOLD(got.answer.code == ESK_ACCEPTED && got.command.settings.hours.start == 23 && got.command.named[7] == 9);
     a = esk_command_write(&got.command, out.data(), out.size());

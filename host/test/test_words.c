@@ -93,6 +93,7 @@ static void sizes(void)
     SIZE(esk_command);
     SIZE(esk_command_got);
     SIZE(esk_applied);
+    SIZE(esk_differing);
     SIZE(esk_decided);
     SIZE(esk_explained);
     SIZE(esk_slot);
@@ -103,7 +104,7 @@ static void sizes(void)
     /* as the header's comments say them */
     HOLD(esk_size_of("esk_report") == 624 && esk_size_of("esk_settings") == 614 && esk_size_of("esk_slot") == 8);
     HOLD(esk_size_of("esk_entry") == 32 && esk_size_of("esk_part") == 16 && esk_size_of("esk_commute_answer") == 16);
-    HOLD(esk_size_of("esk_gust_answer") == 8);
+    HOLD(esk_size_of("esk_gust_answer") == 8 && esk_size_of("esk_differing") == 32);
     HOLD(esk_size_of(NULL) == 0 && esk_size_of("") == 0 && esk_size_of("report") == 0);
     HOLD(esk_size_of("esk_answe") == 0 && esk_size_of("esk_answers") == 0 && esk_size_of("ESK_ANSWER") == 0);
 }
