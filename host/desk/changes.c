@@ -6,67 +6,59 @@
 
 #include <stdio.h>
 
-static int say_changed_flags(const esk_settings *old, const esk_settings *now)
+/* What differs is the proved call's to say: both are valid, and there is room for any command. */
+static esk_differing changed(const esk_settings *old, const esk_settings *now)
 {
-    int changes = 0;
-    for (int i = 0; i < FLAGS; i++)
-        if (old->flags[i] != now->flags[i]) {
-            printf("flag %s: was %d, is %d, %s\n", flag_names[i], old->flags[i], now->flags[i],
-                   flag_in_words(i, now->flags[i]));
-            changes++;
-        }
-    return changes;
+    uint8_t text[ESK_COMMAND_BYTES];
+    return esk_difference(old, now, text, sizeof text);
 }
 
-static int say_changed_sections(const esk_settings *old, const esk_settings *now)
+static void say_changed_flag(const esk_settings *old, const esk_settings *now, int i)
 {
-    int changes = 0;
-    for (int k = 2; k <= 9; k++)
-        if (!same_section(old, now, k)) {
-            printf("section %d: %s\n  was\n", k, section_title(k));
-            say_section(old, k, "    ");
-            puts("  is");
-            say_section(now, k, "    ");
-            changes++;
-        }
-    return changes;
+    printf("flag %s: was %d, is %d, %s\n", flag_names[i], old->flags[i], now->flags[i], flag_in_words(i, now->flags[i]));
 }
 
-static void json_changed_flags(const esk_settings *old, const esk_settings *now)
+static void say_changed_section(const esk_settings *old, const esk_settings *now, int k)
 {
-    for (int i = 0; i < FLAGS; i++)
-        if (old->flags[i] != now->flags[i]) {
-            json_object(NULL);
-            json_word("flag", flag_names[i]);
-            json_number("was", old->flags[i]);
-            json_number("is", now->flags[i]);
-            json_close();
-        }
+    printf("section %d: %s\n  was\n", k, section_title(k));
+    say_section(old, k, "    ");
+    puts("  is");
+    say_section(now, k, "    ");
 }
 
-static void json_changed_sections(const esk_settings *old, const esk_settings *now)
+static void json_changed(const esk_settings *old, const esk_settings *now, int item)
 {
-    for (int k = 2; k <= 9; k++)
-        if (!same_section(old, now, k)) {
-            json_object(NULL);
-            json_number("section", k);
-            json_section("was", old, k);
-            json_section("is", now, k);
-            json_close();
-        }
+    json_object(NULL);
+    if (is_flag(item)) {
+        json_word("flag", flag_names[flag_of(item)]);
+        json_number("was", old->flags[flag_of(item)]);
+        json_number("is", now->flags[flag_of(item)]);
+    } else {
+        json_number("section", section_of(item));
+        json_section("was", old, section_of(item));
+        json_section("is", now, section_of(item));
+    }
+    json_close();
 }
 
 void say_changes(const esk_settings *old, const esk_settings *now)
 {
-    if (say_changed_flags(old, now) + say_changed_sections(old, now) == 0)
+    esk_differing d = changed(old, now);
+    for (int i = 0; i < d.count; i++)
+        if (is_flag(d.items[i]))
+            say_changed_flag(old, now, flag_of(d.items[i]));
+        else
+            say_changed_section(old, now, section_of(d.items[i]));
+    if (d.count == 0)
         puts("nothing changed");
 }
 
 void json_changes(const esk_settings *old, const esk_settings *now)
 {
+    esk_differing d = changed(old, now);
     json_list("changes");
-    json_changed_flags(old, now);
-    json_changed_sections(old, now);
+    for (int i = 0; i < d.count; i++)
+        json_changed(old, now, d.items[i]);
     json_close();
 }
 

@@ -4,6 +4,11 @@
 
 #include "eskelvor.h"
 
+/* An item of esk_difference's list: a flag, from 0, or a section. */
+static inline int is_flag(int item) { return item <= 7; }
+static inline int flag_of(int item) { return item - 1; }
+static inline int section_of(int item) { return item - 10; }
+
 /* Each flag and section that is another, with what it was and is; or that nothing changed. */
 void say_changes(const esk_settings *old, const esk_settings *now);
 

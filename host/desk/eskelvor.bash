@@ -24,6 +24,7 @@ _eskelvor_options() {
         ;;
     apply) echo "--config -c --out -o --wait $text" ;;
     config) echo '--wait' ;;
+    diff) echo '--exit-code' ;;
     decide) echo "$asked $text" ;;
     why) echo "$asked $text --board --aircraft" ;;
     gust) echo '--type --height --mass --acceleration --speed --csv --list' ;;
@@ -62,7 +63,7 @@ _eskelvor_values() {
     esac
 }
 
-_eskelvor_subcommands='report check explain section compose join commute apply config decide why packed gust board journal night help'
+_eskelvor_subcommands='report check explain section compose join commute apply config diff decide why packed gust board journal night help'
 
 _eskelvor() {
     local current=${COMP_WORDS[COMP_CWORD]} before=${COMP_WORDS[COMP_CWORD - 1]} subcommand='' at words lead=''

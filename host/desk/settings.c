@@ -44,88 +44,93 @@ const char *section_title(int k)
 }
 
 /* `none` says what an empty list means. */
-static void say_boxes(const char *what, const esk_boxes *boxes, const char *none, const char *indent)
+static void write_boxes(FILE *to, const char *what, const esk_boxes *boxes, const char *none, const char *indent)
 {
-    printf("%s%s:%s\n", indent, what, boxes->count == 0 ? none : "");
+    fprintf(to, "%s%s:%s\n", indent, what, boxes->count == 0 ? none : "");
     for (int i = 0; i < boxes->count; i++) {
         char box[BOX_ROOM];
         name_box(&boxes->regions[i], BOX_IN_WORDS, box);
-        printf("%s  %2d. %s\n", indent, i + 1, box);
+        fprintf(to, "%s  %2d. %s\n", indent, i + 1, box);
     }
 }
 
-static void say_airfields(const char *what, const esk_airfields *list, const char *none, const char *indent)
+static void write_airfields(FILE *to, const char *what, const esk_airfields *list, const char *none, const char *indent)
 {
-    printf("%s%s:", indent, what);
+    fprintf(to, "%s%s:", indent, what);
     for (int i = 0; i < list->count; i++)
-        printf(" %.4s", (const char *)list->names + 4 * i);
-    puts(list->count == 0 ? none : "");
+        fprintf(to, " %.4s", (const char *)list->names + 4 * i);
+    fprintf(to, "%s\n", list->count == 0 ? none : "");
 }
 
-static void say_airports(const esk_airports *a, const char *indent)
+static void write_airports(FILE *to, const esk_airports *a, const char *indent)
 {
-    say_airfields("selected for ascent", &a->selected.ascent, " none, so every airfield", indent);
-    say_airfields("selected for descent", &a->selected.descent, " none, so every airfield", indent);
-    say_airfields("inhibited for ascent", &a->inhibited.ascent, " none", indent);
-    say_airfields("inhibited for descent", &a->inhibited.descent, " none", indent);
-    printf("%sroutine reports instead of a scheme: %s\n", indent, a->routine ? "yes" : "no");
+    write_airfields(to, "selected for ascent", &a->selected.ascent, " none, so every airfield", indent);
+    write_airfields(to, "selected for descent", &a->selected.descent, " none, so every airfield", indent);
+    write_airfields(to, "inhibited for ascent", &a->inhibited.ascent, " none", indent);
+    write_airfields(to, "inhibited for descent", &a->inhibited.descent, " none", indent);
+    fprintf(to, "%sroutine reports instead of a scheme: %s\n", indent, a->routine ? "yes" : "no");
 }
 
-static void say_mode(unsigned mode, const char *indent)
+static void write_mode(FILE *to, unsigned mode, const char *indent)
 {
-    printf("%smode %u: samples by %s\n", indent, mode, mode ? "time" : "pressure level");
+    fprintf(to, "%smode %u: samples by %s\n", indent, mode, mode ? "time" : "pressure level");
 }
 
 /* What both schemes end with. */
-static void say_levels(const char *phase, unsigned top, unsigned list, unsigned timer, const char *indent)
+static void write_levels(FILE *to, const char *phase, unsigned top, unsigned list, unsigned timer, const char *indent)
 {
-    printf("%stop of the %s: %u feet\n", indent, phase, 100 * top);
-    printf("%slist of pressure levels: %u\n", indent, list);
-    printf("%stimer for level stretches: %s\n", indent, timer ? "on" : "off");
+    fprintf(to, "%stop of the %s: %u feet\n", indent, phase, 100 * top);
+    fprintf(to, "%slist of pressure levels: %u\n", indent, list);
+    fprintf(to, "%stimer for level stretches: %s\n", indent, timer ? "on" : "off");
 }
 
-static void say_ascent(const esk_ascent *a, const char *indent)
+static void write_ascent(FILE *to, const esk_ascent *a, const char *indent)
 {
-    say_mode(a->mode, indent);
-    printf("%sseries 1: every %d seconds, for %d seconds\n", indent, a->interval1, a->duration);
-    printf("%sseries 2: every %d seconds, until %d seconds in all\n", indent, a->interval2, 10 * a->total);
-    say_levels("ascent", a->top, a->list, a->timer, indent);
+    write_mode(to, a->mode, indent);
+    fprintf(to, "%sseries 1: every %d seconds, for %d seconds\n", indent, a->interval1, a->duration);
+    fprintf(to, "%sseries 2: every %d seconds, until %d seconds in all\n", indent, a->interval2, 10 * a->total);
+    write_levels(to, "ascent", a->top, a->list, a->timer, indent);
 }
 
-static void say_descent(const esk_descent *d, const char *indent)
+static void write_descent(FILE *to, const esk_descent *d, const char *indent)
 {
-    say_mode(d->mode, indent);
-    printf("%sseries: every %d seconds\n", indent, d->interval);
-    say_levels("descent", d->top, d->list, d->timer, indent);
+    write_mode(to, d->mode, indent);
+    fprintf(to, "%sseries: every %d seconds\n", indent, d->interval);
+    write_levels(to, "descent", d->top, d->list, d->timer, indent);
 }
 
-static void say_hours(const esk_hours *h, const char *indent)
+static void write_hours(FILE *to, const esk_hours *h, const char *indent)
 {
     if (h->start == h->end)
-        printf("%snone: both are %02d\n", indent, h->start);
+        fprintf(to, "%snone: both are %02d\n", indent, h->start);
     else
-        printf("%sfrom %02d:00 up to %02d:00%s\n", indent, h->start, h->end,
+        fprintf(to, "%sfrom %02d:00 up to %02d:00%s\n", indent, h->start, h->end,
                h->start > h->end ? ", over midnight" : "");
+}
+
+void write_section(FILE *to, const esk_settings *s, int k, const char *indent)
+{
+    switch (k) {
+    case 2:
+        write_boxes(to, "reporting boxes", &s->regions.reporting, " none, so everywhere", indent);
+        write_boxes(to, "inhibiting boxes", &s->regions.inhibiting, " none", indent);
+        break;
+    case 3: write_airports(to, &s->airports, indent); break;
+    case 4:
+        fprintf(to, "%sa report every %d minutes\n", indent, s->enroute.interval);
+        fprintf(to, "%sreports of the maximum wind: %s\n", indent, s->enroute.wind ? "yes" : "no");
+        break;
+    case 5: write_ascent(to, &s->ascent, indent); break;
+    case 6: fprintf(to, "%s%s\n", indent, s->routine6 ? "yes" : "no"); break;
+    case 7: write_descent(to, &s->descent, indent); break;
+    case 8: fprintf(to, "%s%s\n", indent, s->routine8 ? "yes" : "no"); break;
+    case 9: write_hours(to, &s->hours, indent); break;
+    }
 }
 
 void say_section(const esk_settings *s, int k, const char *indent)
 {
-    switch (k) {
-    case 2:
-        say_boxes("reporting boxes", &s->regions.reporting, " none, so everywhere", indent);
-        say_boxes("inhibiting boxes", &s->regions.inhibiting, " none", indent);
-        break;
-    case 3: say_airports(&s->airports, indent); break;
-    case 4:
-        printf("%sa report every %d minutes\n", indent, s->enroute.interval);
-        printf("%sreports of the maximum wind: %s\n", indent, s->enroute.wind ? "yes" : "no");
-        break;
-    case 5: say_ascent(&s->ascent, indent); break;
-    case 6: printf("%s%s\n", indent, s->routine6 ? "yes" : "no"); break;
-    case 7: say_descent(&s->descent, indent); break;
-    case 8: printf("%s%s\n", indent, s->routine8 ? "yes" : "no"); break;
-    case 9: say_hours(&s->hours, indent); break;
-    }
+    write_section(stdout, s, k, indent);
 }
 
 static void say_flags(const esk_command *c)
@@ -148,19 +153,4 @@ void say_command(const esk_command *c)
         }
     if (sections == 0)
         puts("no section is named");
-}
-
-int same_section(const esk_settings *one, const esk_settings *other, int k)
-{
-    switch (k) {
-    case 2: return memcmp(&one->regions, &other->regions, sizeof one->regions) == 0;
-    case 3: return memcmp(&one->airports, &other->airports, sizeof one->airports) == 0;
-    case 4: return memcmp(&one->enroute, &other->enroute, sizeof one->enroute) == 0;
-    case 5: return memcmp(&one->ascent, &other->ascent, sizeof one->ascent) == 0;
-    case 6: return one->routine6 == other->routine6;
-    case 7: return memcmp(&one->descent, &other->descent, sizeof one->descent) == 0;
-    case 8: return one->routine8 == other->routine8;
-    case 9: return memcmp(&one->hours, &other->hours, sizeof one->hours) == 0;
-    default: return 1;
-    }
 }

@@ -4,6 +4,8 @@
 
 #include "eskelvor.h"
 
+#include <stdio.h>
+
 enum { FLAGS = 7 };
 
 extern const char *const flag_names[FLAGS];
@@ -12,15 +14,13 @@ extern const char *const flag_names[FLAGS];
 const char *flag_in_words(int flag, uint8_t value);
 const char *downlink_in_words(uint8_t digit);
 
-/* What section k (2 to 9, not 7) is about, and all it says, each line behind `indent`. */
+/* What section k (2 to 9) is about, and all it says, each line behind `indent`: to a stream, or to standard output. */
 const char *section_title(int k);
+void write_section(FILE *to, const esk_settings *s, int k, const char *indent);
 void say_section(const esk_settings *s, int k, const char *indent);
 
 /* All that a command says. */
 void say_command(const esk_command *c);
-
-/* Whether section k is the same in both. */
-int same_section(const esk_settings *one, const esk_settings *other, int k);
 
 /* The same as JSON: an object with this key. */
 void json_flags(const char *key, const esk_settings *s);

@@ -19,6 +19,8 @@ explain @
 join @
 commute @
 apply -c @
+diff @ reset
+diff reset @
 apply @
 decide --phase level --lat 0 --lon 0 --hour 0 -c @
 why --phase level --lat 0 --lon 0 --hour 0 -c @

@@ -5,7 +5,7 @@
 answers 0 'the program says what there is' --help
 out_has 'usage: eskelvor SUBCOMMAND' 'Exit status: 0 accepted, 1 refused, 2 usage or files'
 err_is
-for name in report check explain section compose join commute apply config decide why packed board journal night help; do
+for name in report check explain section compose join commute apply config diff decide why packed board journal night help; do
     out_has "  $name "
     answers 0 "help on $name" "$name" --help
     out_has "usage: eskelvor $name" '--json'
@@ -33,7 +33,7 @@ answers 2 'a value that is not wanted' check --text=yes AWR049999999000000000/
 err_is 'eskelvor: --text=yes: this option takes no value'
 answers 2 'behind -- there are no options: this is a file' check -- --json
 err_has 'eskelvor: --json: cannot open: No such file or directory'
-for name in check explain section compose join commute config decide why packed board journal; do
+for name in check explain section compose join commute config diff decide why packed board journal; do
     answers 2 "$name without a word" "$name"
     answers 2 "$name without a word, for a machine" --json "$name"
     json_has "subcommand=$name" status=2
