@@ -6,7 +6,7 @@
 
 Reports: ``reports``, ``read_report``, ``write_report``, ``check_report``. Commands: ``read_command``, ``write_command``,
 ``check_command``, ``command_fields``, ``section``, ``join``, ``commute``. An aircraft's configuration: ``Configuration``, with
-``apply``, ``decide`` and ``explain``. What waits for aircraft out of coverage: ``Board``. What was taken for them: ``Journal``. One
+``apply``, ``difference``, ``decide`` and ``explain``. What waits for aircraft out of coverage: ``Board``. What was taken for them: ``Journal``. One
 figure: ``read_packed``, ``write_packed``. A gust out of an acceleration: ``gust``.
 
 Every verdict is one call's of the library. A refusal is raised as a ``Refusal``, with code, place and words; nothing that
@@ -37,7 +37,7 @@ from ._commands import (
     section,
     write_command,
 )
-from ._configuration import Configuration, Decision, Explanation, Phase, Reason, Settings, minutes
+from ._configuration import Configuration, Decision, Difference, Explanation, Phase, Reason, Settings, minutes
 from ._gust import GUST_TYPES, gust
 from ._journal import Entry, Journal
 from ._packed import read_packed, write_packed
@@ -74,6 +74,7 @@ __all__ = [
     "ConfigurationNotValid",
     "Decision",
     "DescentScheme",
+    "Difference",
     "Entry",
     "Explanation",
     "Field",

@@ -5,7 +5,7 @@ from enum import IntEnum
 from typing import NamedTuple, Optional, Tuple
 
 from . import _commands as commands
-from ._library import RawSettings, Text, as_bytes, i32, lib, u8
+from ._library import RawSettings, Text, as_bytes, i32, lib, room, u8
 from ._commands import Airports, AscentScheme, DescentScheme, Flags, Hours, LevelFlight, Regions
 from ._refusals import refuse
 
@@ -53,6 +53,15 @@ class Explanation(NamedTuple):
     reason: Reason
     number: int
     words: str
+
+
+class Difference(NamedTuple):
+    """The flags and sections in which two configurations differ, in the order of the command, and the command that makes the
+    first into the second. It sets these and nothing else; no command that does the same sets fewer."""
+
+    flags: Tuple[str, ...]
+    sections: Tuple[int, ...]
+    command: bytes
 
 
 @dataclass(frozen=True)
@@ -138,6 +147,25 @@ class Configuration:
         applied = lib.esk_apply(self._raw, data, len(data))
         refuse(applied.code, applied.place)
         return applied.downlink
+
+    def difference(self, other: "Configuration") -> Difference:
+        """What differs in another one, and the command that makes this one into that.
+
+        >>> changed = Configuration()
+        >>> changed.apply("AWR049199999100400009/300/2301/")
+        1
+        >>> Configuration().difference(changed)
+        Difference(flags=('inhibit_hours',), sections=(4, 9), command=b'AWR049199999000400009/300/2301/')
+        """
+        out = room()
+        found = lib.esk_difference(self._raw, other._raw, out, len(out))
+        refuse(found.answer.code, found.answer.place)
+        items = found.items[: found.count]
+        return Difference(
+            tuple(name for i, name in enumerate(Flags._fields) if i + 1 in items),
+            tuple(item - 10 for item in items if item > 10),
+            out.raw[: found.answer.length],
+        )
 
     def decide(self, phase: int, latitude: int, longitude: int, hour: int, airfield: Text = "0000") -> Decision:
         """Whether the aircraft reports: in a phase, at a position in minutes, in an hour, at an airfield.

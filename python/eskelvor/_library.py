@@ -159,6 +159,10 @@ class Applied(ctypes.Structure):
     _fields_ = [("place", _size), ("code", _u8), ("downlink", _u8), ("spare", _u16), ("spare_on", _u32)]
 
 
+class Differing(ctypes.Structure):
+    _fields_ = [("answer", Answer), ("count", _u8), ("items", _u8 * 15)]
+
+
 class Decided(ctypes.Structure):
     _fields_ = [("place", _size), ("code", _u8), ("decision", _u8), ("spare", _u16), ("spare_on", _u32)]
 
@@ -234,6 +238,7 @@ RECORDS: Dict[str, Type[ctypes.Structure]] = {
     "esk_command": RawCommand,
     "esk_command_got": CommandGot,
     "esk_applied": Applied,
+    "esk_differing": Differing,
     "esk_decided": Decided,
     "esk_explained": Explained,
     "esk_commute_answer": CommuteAnswer,
@@ -266,6 +271,7 @@ CALLS: Dict[str, Tuple[object, List[object]]] = {
     "esk_reset": (RawSettings, []),
     "esk_settings_valid": (Answer, [_settings]),
     "esk_apply": (Applied, [_settings, _bytes, _size]),
+    "esk_difference": (Differing, [_settings, _settings, _room, _size]),
     "esk_decide": (Decided, _asked),
     "esk_explain": (Explained, _asked),
     "esk_join": (Answer, [_bytes, _size, _bytes, _size, _room, _size]),

@@ -168,6 +168,45 @@ class Orders(Case):
         self.refused(5, 22, lambda: commute(FIRST, head(4) + b"611/"), text=2, kind=eskelvor.OutOfRange)
 
 
+class Differences(Case):
+    def held(self, *texts: bytes) -> Configuration:
+        configuration = Configuration()
+        for text in texts:
+            configuration.apply(text)
+        return configuration
+
+    def test_known(self) -> None:
+        reset, changed = Configuration(), self.held(SECOND)
+        self.assertEqual(reset.difference(reset), eskelvor.Difference((), (), eskelvor.NO_CHANGE))
+        self.assertEqual(reset.difference(changed), (("inhibit_hours",), (4, 9), b"AWR049199999000400009/300/2301/"))
+        self.assertEqual(changed.difference(reset), (("inhibit_hours",), (4, 9), b"AWR049099999000400009/071/0000/"))
+        every = ("amdar", "inhibit_hours", "regions", "airports", "ascent", "enroute", "descent")
+        self.assertEqual(reset.difference(self.held(b"AWR040111000000000000/")).flags, every)
+        for k, one in {2: b"000110N10S010W010E/", 3: b"000000001/", 4: b"150/", 6: b"0/", 8: b"0/", 9: b"0001/"}.items():
+            self.assertEqual(reset.difference(self.held(head(k) + one)), ((), (k,), head(k) + one))
+
+    def test_the_law(self) -> None:
+        """The command makes the one into the other, asks for nothing, and sets what differs: the settings say what that is."""
+        texts = [FIRST, SECOND, BOTH, LONGEST, eskelvor.NO_CHANGE, head(7) + b"004020011/", b"AWR040111000000000000/"]
+        for one in texts:
+            for other in texts:
+                first, second = self.held(one), self.held(other)
+                found = first.difference(second)
+                made = first.copy()
+                self.assertEqual(made.apply(found.command), 0)
+                self.assertEqual(made, second)
+                self.assertEqual(found.command == eskelvor.NO_CHANGE, first == second)
+                had, has = first.settings.flags, second.settings.flags
+                self.assertEqual(found.flags, tuple(n for n, a, b in zip(Flags._fields, had, has) if a != b))
+                self.assertEqual(found.sections, tuple(k for k in range(2, 10) if section(k, found.command)))
+
+    def test_both_stay(self) -> None:
+        first, second = self.held(FIRST), self.held(LONGEST)
+        before = first.copy(), second.copy()
+        first.difference(second)
+        self.assertEqual((first, second), before)
+
+
 class Configurations(Case):
     def test_after_reset(self) -> None:
         settings = Configuration().settings
