@@ -8,6 +8,7 @@ pub mod command;
 pub mod commute;
 pub mod config;
 pub mod decide;
+pub mod difference;
 pub mod gust;
 pub mod join;
 pub mod journal;

@@ -4,6 +4,7 @@ mod boards;
 mod commands;
 mod commutes;
 mod decisions;
+mod differences;
 mod forms;
 mod gusts;
 mod joins;
