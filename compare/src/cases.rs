@@ -6,6 +6,7 @@ pub mod command;
 pub mod commute;
 pub mod config;
 pub mod decide;
+pub mod difference;
 pub mod explain;
 pub mod gust;
 pub mod join;

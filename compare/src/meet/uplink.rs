@@ -7,6 +7,7 @@ use crate::ours::Answer;
 use crate::second::board::Slot;
 use crate::second::commute::Clash;
 use crate::second::decide::{Cause, Decision, Why};
+use crate::second::difference::Difference;
 use crate::second::join::Fault;
 use crate::second::journal::{Entry, NAME};
 use crate::second::settings::*;
@@ -35,6 +36,16 @@ pub fn applied(applied: Result<u8, Refusal>) -> ours::Applied {
         Ok(downlink) => ours::Applied { downlink, ..Default::default() },
         Err(Refusal { code, place }) => ours::Applied { code, place: place as usize, ..Default::default() },
     }
+}
+
+/// What esk_difference ought to answer.
+pub fn differing(differing: Result<(Difference, usize), Refusal>) -> ours::Differing {
+    let mut items = [0; 15];
+    if let Ok((of, _)) = &differing {
+        items.iter_mut().zip(of.items()).for_each(|(to, item)| *to = item);
+    }
+    let count = items.iter().filter(|item| **item != 0).count() as u8;
+    ours::Differing { answer: answer(differing.map(|(_, length)| length)), count, items }
 }
 
 /// What esk_decide ought to answer.

@@ -143,6 +143,14 @@ pub struct Applied {
 
 #[repr(C)]
 #[derive(Clone, Copy, Debug, Default, PartialEq, Eq)]
+pub struct Differing {
+    pub answer: Answer,
+    pub count: u8,
+    pub items: [u8; 15],
+}
+
+#[repr(C)]
+#[derive(Clone, Copy, Debug, Default, PartialEq, Eq)]
 pub struct Decided {
     pub place: usize,
     pub code: u8,
@@ -209,6 +217,7 @@ const _: () = {
     assert!(size_of::<CommandGot>() == 640 && offset_of!(CommandGot, command) == 16);
     assert!(size_of::<Part>() == 16 && offset_of!(Part, length) == 8 && offset_of!(Part, code) == 12);
     assert!(size_of::<Applied>() == 16 && offset_of!(Applied, downlink) == 9);
+    assert!(size_of::<Differing>() == 32 && offset_of!(Differing, count) == 16 && offset_of!(Differing, items) == 17);
     assert!(size_of::<Decided>() == 16 && offset_of!(Decided, code) == 8 && offset_of!(Decided, decision) == 9);
     assert!(size_of::<Explained>() == 16 && offset_of!(Explained, code) == 8 && offset_of!(Explained, decision) == 9);
     assert!(offset_of!(Explained, reason) == 10 && offset_of!(Explained, number) == 11);
@@ -225,6 +234,7 @@ unsafe impl Plain for Command {}
 unsafe impl Plain for CommandGot {}
 unsafe impl Plain for Part {}
 unsafe impl Plain for Applied {}
+unsafe impl Plain for Differing {}
 unsafe impl Plain for Decided {}
 unsafe impl Plain for Explained {}
 unsafe impl Plain for CommuteAnswer {}

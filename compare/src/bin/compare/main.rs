@@ -9,6 +9,7 @@
 //!     command HEX                                   command-record HEX ROOM
 //!     section NUMBER TEXT
 //!     reset                                         apply SETTINGS TEXT
+//!     difference SETTINGS SETTINGS ROOM
 //!     decide SETTINGS PHASE LATITUDE LONGITUDE HOUR AIRFIELD
 //!     explain, as decide
 //!     join FIRST SECOND ROOM                        commute FIRST SECOND SETTINGS
@@ -28,6 +29,7 @@ mod commands;
 mod commutes;
 mod configs;
 mod decisions;
+mod differences;
 mod explanations;
 mod forms;
 mod gusts;
@@ -62,7 +64,10 @@ const GROUPS: [Group; 11] = [
         command_records::families(run);
     }),
     ("section", sections::families),
-    ("config", configs::families),
+    ("config", |run| {
+        configs::families(run);
+        differences::families(run);
+    }),
     ("decide", decisions::families),
     ("explain", explanations::families),
     ("join", joins::families),

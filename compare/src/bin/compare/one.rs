@@ -18,6 +18,7 @@ pub fn case(words: &[String]) -> Result<i32, String> {
         Some(&("command" | "command-record")) => run::one(command_case(&words)?),
         Some(&"section") => run::one(section_case(&words)?),
         Some(&("reset" | "apply")) => run::one(config_case(&words)?),
+        Some(&"difference") => run::one(difference_case(&words)?),
         Some(&"decide") => run::one(decide_case(&words[1..])?),
         Some(&"explain") => run::one(explain::Case::from(decide_case(&words[1..])?)),
         Some(&"join") => run::one(join_case(&words)?),
@@ -67,6 +68,16 @@ fn config_case(words: &[&str]) -> Result<config::Case, String> {
         ["apply", settings, text] => config::Case::Apply { settings: plain(settings)?, text: bytes(text)? },
         _ => return no_such_case(),
     })
+}
+
+fn difference_case(words: &[&str]) -> Result<desk_compare::cases::difference::Case, String> {
+    match words {
+        ["difference", first, second, at] => {
+            let settings = Box::new([*plain(first)?, *plain(second)?]);
+            Ok(desk_compare::cases::difference::Case { settings, room: room(at)? })
+        }
+        _ => no_such_case(),
+    }
 }
 
 fn decide_case(words: &[&str]) -> Result<decide::Case, String> {
