@@ -25,6 +25,7 @@ esk_part second_section(uint8_t number, const uint8_t *text, size_t length);
 esk_settings second_reset(void);
 esk_answer second_settings_valid(esk_settings settings);
 esk_applied second_apply(esk_settings *settings, const uint8_t *text, size_t length);
+esk_differing second_difference(esk_settings first, esk_settings second, uint8_t *out, size_t room);
 esk_decided second_decide(esk_settings settings, uint8_t phase, int32_t latitude, int32_t longitude, uint8_t hour,
                           const uint8_t *airfield, size_t length);
 esk_explained second_explain(esk_settings settings, uint8_t phase, int32_t latitude, int32_t longitude, uint8_t hour,

@@ -99,6 +99,29 @@ static void apply(input from)
     give_back("text", text);
 }
 
+/* Room, both configurations. Where it is accepted, our own apply of what was written must make the first into the second. */
+static void difference(input from)
+{
+    lent out = command_room(&from);
+    esk_settings one, other;
+    take_into(&from, &one, sizeof one);
+    take_into(&from, &other, sizeof other);
+    lent first = lend(&one, sizeof one), second = lend(&other, sizeof other);
+    esk_differing ours = esk_difference((const esk_settings *)first.ours, (const esk_settings *)second.ours, out.ours,
+                                        out.length);
+    esk_differing theirs = second_difference(one, other, out.second, out.length);
+    hold("answer", &ours.answer, &theirs.answer, sizeof ours.answer);
+    hold("count", &ours.count, &theirs.count, sizeof ours.count);
+    hold("items", ours.items, theirs.items, sizeof ours.items);
+    if (ours.answer.code == ESK_ACCEPTED) {
+        esk_apply(&one, out.ours, ours.answer.length);
+        hold("made", &one, &other, sizeof one);
+    }
+    give_back("first", first);
+    give_back("second", second);
+    give_back("out", out);
+}
+
 /* Configuration, phase, hour, latitude, longitude, airfield. */
 static void decide(input from)
 {
@@ -192,6 +215,7 @@ const target uplink_targets[] = {
     {"esk_reset", "settings", reset},
     {"esk_settings_valid", "answer settings", settings_valid},
     {"esk_apply", "answer settings text", apply},
+    {"esk_difference", "answer count items made first second out", difference},
     {"esk_decide", "answer settings airfield", decide},
     {"esk_explain", "answer decided reason settings airfield", explain},
     {"esk_join", "answer first second out", join},

@@ -4,10 +4,11 @@
 use super::{lent, lent_mut};
 use desk_compare::meet::{self, uplink as meet_up};
 use desk_compare::ours::uplink::{
-    Applied, Command, CommandGot, CommuteAnswer, Decided, Entry, Explained, Part, Settings, Slot,
+    Applied, Command, CommandGot, CommuteAnswer, Decided, Differing, Entry, Explained, Part, Settings, Slot,
 };
 use desk_compare::ours::Answer;
 use desk_compare::second::decide::Question;
+use desk_compare::second::difference::difference;
 use desk_compare::second::{board, command, commute, config, decide, join, journal, part, spell};
 
 /// # Safety
@@ -56,6 +57,14 @@ pub unsafe extern "C" fn second_apply(settings: *mut Settings, text: *const u8, 
     let answer = meet_up::applied(config::apply(&mut held, lent(text, length)));
     *settings = meet_up::configuration(&held);
     answer
+}
+
+/// # Safety
+/// As above.
+#[no_mangle]
+pub unsafe extern "C" fn second_difference(first: Settings, second: Settings, out: *mut u8, room: usize) -> Differing {
+    let [first, second] = [first, second].map(|of| meet_up::meant_settings(&of));
+    meet_up::differing(difference(&first, &second, lent_mut(out, room)))
 }
 
 /// # Safety

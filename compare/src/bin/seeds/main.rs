@@ -15,7 +15,7 @@ const COUNT: usize = 12;
 /// One input of a call; `index` runs through the forms that differ most.
 type Maker = fn(&mut Random, usize) -> Vec<u8>;
 
-const CALLS: [(&str, Maker); 25] = [
+const CALLS: [(&str, Maker); 26] = [
     ("esk_packed_read", downlink::packed_read),
     ("esk_packed_write", downlink::packed_write),
     ("esk_report_check", downlink::report_text),
@@ -29,6 +29,7 @@ const CALLS: [(&str, Maker); 25] = [
     ("esk_reset", |_, index| vec![index as u8]),
     ("esk_settings_valid", uplink::settings),
     ("esk_apply", uplink::apply),
+    ("esk_difference", uplink::difference),
     ("esk_decide", uplink::decide),
     ("esk_join", uplink::join),
     ("esk_commute", uplink::commute),

@@ -3,8 +3,8 @@
 use desk_compare::figures::{JOIN, NO_CHANGE};
 use desk_compare::make::uplink::{airfield, command_of, configuration_of, short_command, text, Lists};
 use desk_compare::meet::uplink as meet;
-use desk_compare::ours::bytes_of;
 use desk_compare::ours::uplink::Slot;
+use desk_compare::ours::{bytes_of, of_bytes};
 use desk_compare::random::Random;
 use desk_compare::second::config;
 use desk_compare::second::settings::{Command, MOST};
@@ -54,6 +54,20 @@ pub fn settings(random: &mut Random, index: usize) -> Vec<u8> {
 /// Configuration, text.
 pub fn apply(random: &mut Random, index: usize) -> Vec<u8> {
     [settings(random, index), command_text(random, index)].concat()
+}
+
+/// Room, both configurations: the same, one that a command made of the other, and any two.
+pub fn difference(random: &mut Random, index: usize) -> Vec<u8> {
+    let first = settings(random, index);
+    let mut second = first.clone();
+    if index < 9 {
+        let mut held = meet::meant_settings(&of_bytes(&second));
+        config::apply(&mut held, &command_text(random, index)).expect("a valid configuration and an accepted text");
+        second = bytes_of(&meet::configuration(&held)).to_vec();
+    } else if index < 11 {
+        second = settings(random, index + 1);
+    }
+    [&short(MOST)[..], &first, &second].concat()
 }
 
 /// Configuration, phase, hour, latitude, longitude, airfield.
