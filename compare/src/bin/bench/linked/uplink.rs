@@ -1,7 +1,7 @@
 //! The calls of what goes up.
 
 use desk_compare::ours::uplink::{
-    Applied, Command, CommandGot, CommuteAnswer, Decided, Entry, Explained, Part, Settings, Slot,
+    Applied, Command, CommandGot, CommuteAnswer, Decided, Differing, Entry, Explained, Part, Settings, Slot,
 };
 use desk_compare::ours::Answer;
 
@@ -13,6 +13,7 @@ extern "C" {
     fn esk_reset() -> Settings;
     fn esk_settings_valid(settings: *const Settings) -> Answer;
     fn esk_apply(settings: *mut Settings, text: *const u8, length: usize) -> Applied;
+    fn esk_difference(first: *const Settings, second: *const Settings, out: *mut u8, room: usize) -> Differing;
     fn esk_decide(
         settings: *const Settings,
         phase: u8,
@@ -120,6 +121,11 @@ pub fn apply(settings: &mut Settings, text: &[u8]) -> Applied {
 }
 
 /// Phase, hour; latitude, longitude.
+#[inline(always)]
+pub fn difference(first: &Settings, second: &Settings, out: &mut [u8]) -> Differing {
+    unsafe { esk_difference(first, second, out.as_mut_ptr(), out.len()) }
+}
+
 #[inline(always)]
 pub fn decide(settings: &Settings, [phase, hour]: [u8; 2], [north, east]: [i32; 2], airfield: &[u8]) -> Decided {
     unsafe { esk_decide(settings, phase, north, east, hour, airfield.as_ptr(), airfield.len()) }
