@@ -12,19 +12,30 @@ use Rattle.text.specs.Bytes.{bytes}
 use Rattle.text.specs.Over.{over}
 use Rattle.text.specs.declared.Seen.the-variants.{Fine}
 use Rattle.text.proofs.Cases.{by-test, both-left, both-right}
-use Rattle.settings.specs.Valid.{valid}
+use Rattle.text.specs.Equal.{sameBytes}
+use Rattle.field.specs.Decimal.{allDigits, valueFrom, digitsBefore}
+use Rattle.field.specs.Fields.{checkDigits, checkDelimiter}
+use Rattle.lists.specs.Lists.{boxesAt, airfieldsAt}
+use Rattle.section.specs.Layout.{layoutOf, tableOf, checkItems, itemsSize}
+use Rattle.section.specs.Contents.{contentsAt, contentsText}
+use Rattle.settings.specs.Settings.{contentsOf, fixedHold, settingsFrom, regionsFrom, airportsFrom, enrouteFrom, ascentFrom, hoursFrom}
+use Rattle.settings.specs.Valid.{valid, reset}
 use Rattle.settings.specs.declared.Settings.{Settings}
-use Rattle.command.specs.Text.{isNamed, checkCommand}
-use Rattle.command.specs.Sections.{isOneOf}
+use Rattle.command.specs.Text.{isNamed, checkEach, checkAwr04, checkHead, checkFrom, checkCommand}
+use Rattle.command.specs.Record.{sectionText, sectionsText, commandText}
+use Rattle.command.specs.Sections.{isOneOf, placeFrom}
 use Rattle.command.proofs.Accepted.{accepted}
-use Rattle.config.specs.Config.{applyTo}
+use Rattle.config.specs.Config.{newFlags, applyTo, kept}
+use Rattle.config.proofs.Valid.{applies-valid, reset-valid}
 use Rattle.config.proofs.Kept.{applied-zero, applied-digit}
 use Rattle.join.specs.Join.{noChange}
 use Rattle.commute.specs.Commute.{sets, flagOf}
 use Rattle.commute.proofs.Numbered.{each-of}
-use Rattle.difference.specs.Difference.{flagDiffers, sectionDiffers, items, byItem, those, differing, setBy, answered, difference, leftBy}
+use Rattle.difference.specs.Difference.{flagDiffers, sectionDiffers, items, byItem, those, differing, setBy, between, answered, difference, leftBy}
+use Rattle.difference.specs.Same.{sameRegions, sameContents}
 use Rattle.difference.proofs.List.{each-item, flag-item, section-item, by-flag, by-section, items-rise, those-same, those-most, those-rise, rising-at, at-one, one-at, those-are}
 use Rattle.difference.proofs.Makes.{flag-differs, section-differs, sets-flag, names-section, sets-fewest, same-text, text, text-digit, text-names, text-sets, text-fine, makes, none-equal, none-no-change}
+use Rattle.desk.specs.Numbers.{accepted as numbered}
 use Rattle.desk.specs.Differences.{differenceNumbers}
 use Rattle.desk.specs.declared.HostDiffering.{HostDiffering}
 use Rattle.promises.specs.BoardRuns.{IsAccepted}
@@ -248,6 +259,36 @@ module _ (a b : Settings) (out : List ℕ) where
             command = rw answer-is (command-of a b first second va vb (length (text a b)));
           }
 
+-- ---- A printed pair
+
+abbrev sent : List ℕ
+sent = bytes "AWR040999999200000009/2301/"
+
+sent-fine : checkCommand sent ≡ Fine
+unfolding checkCommand checkHead checkAwr04 sameBytes checkEach checkDelimiter checkFrom layoutOf tableOf checkItems checkDigits allDigits valueFrom
+sent-fine = refl
+
+abbrev made : Settings
+made = applyTo reset sent
+
+printed-list : differing reset made ≡ 1 ∷ 19 ∷ []
+unfolding differing those reset applyTo settingsFrom contentsOf fixedHold regionsFrom airportsFrom enrouteFrom ascentFrom hoursFrom newFlags sameContents sameRegions sameBytes contentsAt layoutOf tableOf itemsSize placeFrom boxesAt airfieldsAt valueFrom
+printed-list = refl
+
+printed-text : text reset made ≡ bytes "AWR040999999000000009/2301/"
+unfolding commandText between sectionsText sectionText contentsText digitsBefore reset applyTo settingsFrom contentsOf fixedHold regionsFrom airportsFrom enrouteFrom ascentFrom hoursFrom newFlags sameContents sameRegions sameBytes contentsAt layoutOf tableOf itemsSize placeFrom boxesAt airfieldsAt valueFrom
+printed-text = refl
+
+printed : (out : List ℕ) → 27 ≤ length out
+    → (differenceAnswer reset (kept reset sent) out ≡ record { answer = numbered 27; count = 2; items = 1 ∷ 19 ∷ replicate 13 0 })
+    × (leftBy reset (kept reset sent) out ≡ bytes "AWR040999999000000009/2301/" ++ drop 27 out)
+printed out h =
+    let x = kept-is reset sent reset-valid sent-fine in
+    let ok : (valid reset && valid made) ≡ true = rw reset-valid (applies-valid reset sent reset-valid sent-fine) in
+    let room : length (text reset made) ≤ length out = rw printed-text h in
+    rw x
+    (answer-is reset made out ok room ∙ rw (printed-list, printed-text), buffer-is reset made out ok room ∙ rw printed-text)
+
 pub difference-promises : DifferencePromises
 difference-promises =
     record {
@@ -264,4 +305,5 @@ difference-promises =
             written = λ out h. written a b out ok h first second;
             two = λ out h. two a b out ok h;
           };
+      printed = printed;
     }

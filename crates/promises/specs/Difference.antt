@@ -2,11 +2,12 @@
 use mathlib.Core.Path.{_≡_}
 use mathlib.Core.Logic.{_↔_, _⊎_}
 use mathlib.Core.Bool.{true}
-use mathlib.Core.List.{List, _++_}
+use mathlib.Core.List.{List, _∷_, _++_}
 use Prim.Native.Nat.{ℕ, _+_, _<_, _≤_}
 use lib.ListN.{length, getD, drop, replicate}
 use Rattle.text.specs.Bytes.{bytes}
 use Rattle.settings.specs.Settings.{contentsOf}
+use Rattle.settings.specs.Valid.{reset}
 use Rattle.settings.specs.declared.Settings.{Settings}
 use Rattle.command.specs.Text.{isNamed}
 use Rattle.command_write.specs.Filled.{Filled}
@@ -127,3 +128,8 @@ pub record DifferencePromises : Type 0 where
   pub twelve : (a b : Settings) (out : List ℕ) → ¬ ((check a .code ≡ 0) × (check b .code ≡ 0)) → Refused a b out 12
   -- two valid configurations
   pub answers : (a b : Settings) → Declared a → Declared b → check a .code ≡ 0 → check b .code ≡ 0 → Answers a b
+  -- one pair: after reset, and after a command that also asked for a downlink
+  pub printed : (out : List ℕ) → 27 ≤ length out
+      → let x = kept reset (bytes "AWR040999999200000009/2301/") in
+      (differenceAnswer reset x out ≡ record { answer = accepted 27; count = 2; items = 1 ∷ 19 ∷ replicate 13 0 })
+      × (differenceBuffer reset x out ≡ bytes "AWR040999999000000009/2301/" ++ drop 27 out)
