@@ -1,7 +1,7 @@
 -- The test whether two sections hold the same, against their equality; turn by turn, as the loop goes; and by a section's eight numbers.
 use mathlib.Core.Path.{_≡_, refl, sym, ap, ap₂}
 use mathlib.Core.Logic.{_↔_}
-use mathlib.Core.Bool.{Bool, true, false, _&&_, and-assoc, and-true}
+use mathlib.Core.Bool.{Bool, true, _&&_, and-assoc, and-true}
 use mathlib.Core.List.{List, [], _∷_}
 use Prim.Native.Nat.{ℕ, suc, _+_, _≤_, _<_}
 use native.Mathlib.Omega.{arith}

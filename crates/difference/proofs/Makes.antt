@@ -3,8 +3,8 @@
 use mathlib.Core.Path.{_≡_, refl, sym, ap, _∙_}
 use mathlib.Core.Logic.{_↔_}
 use mathlib.Core.Bool.{Bool, true, false, cond, _&&_, not}
-use mathlib.Core.List.{List, [], _∷_, map}
-use Prim.Native.Nat.{ℕ, zero, suc, _+_, _-_, _≤_, _<_}
+use mathlib.Core.List.{List, [], _∷_}
+use Prim.Native.Nat.{ℕ, _+_, _-_, _≤_, _<_}
 use native.Mathlib.Omega.{arith}
 use lib.Dec.{leb, eqb}
 use lib.ListN.{length, getD, replicate}
@@ -12,11 +12,11 @@ use borrow.Author.Tests.{eqb-true, eq-eqb, ne-eqb, not-true, not-false}
 use Rattle.text.specs.Parts.{part}
 use Rattle.text.specs.Table.{values}
 use Rattle.text.specs.declared.Seen.the-variants.{Fine}
-use Rattle.text.proofs.Cases.{by-test, by-eq, both-left, both-right}
+use Rattle.text.proofs.Cases.{by-test, both-left, both-right}
 use Rattle.text.proofs.Table.{agree}
 use Rattle.field.proofs.Local.{part-byte}
 use Rattle.section.specs.Layout.{numbers, layoutOf}
-use Rattle.section.specs.Contents.{Content, contentsAt}
+use Rattle.section.specs.Contents.{contentsAt}
 use Rattle.settings.specs.Settings.{contentsOf, settingsFrom, regionsHold, airportsHold, regionsFrom, airportsFrom}
 use Rattle.settings.specs.Valid.{flagsValid, sectionsValid, valid}
 use Rattle.settings.specs.declared.Airports.{Airports}
@@ -28,7 +28,6 @@ use Rattle.command.specs.Text.{isNamed, longest, checkCommand}
 use Rattle.command.specs.Sections.{heldIn}
 use Rattle.command.specs.Record.{flagsOf, commandOf, commandText}
 use Rattle.command.specs.declared.Command.{Command}
-use Rattle.command.proofs.Each.{Each}
 use Rattle.command.proofs.Head.{passes-length}
 use Rattle.command.proofs.Parts.{present, bodyOf, holds, partsOf, flagTests}
 use Rattle.command.proofs.Accepted.{Accepted, accepted, sound, spelt, flag-byte, held-own, named-present}
@@ -36,12 +35,12 @@ use Rattle.command_write.specs.Filled.{Filled}
 use Rattle.command_write.proofs.ReadBack.{read-held}
 use Rattle.command_write.proofs.RoundTrip.{write-read, written-short}
 use Rattle.config.specs.Config.{newFlag, newFlags, applyTo}
-use Rattle.config.proofs.Apply.{settings-own, settings-same, new-length, flag-after, section-after, applies-nothing}
+use Rattle.config.proofs.Apply.{settings-own, settings-same, flag-after, section-after, applies-nothing}
 use Rattle.config.proofs.Seven.{new-seven}
 use Rattle.join.specs.Join.{noChange}
 use Rattle.join.proofs.Laws.{no-change-fine}
 use Rattle.join.proofs.Parts.{text-alike}
-use Rattle.commute.specs.Commute.{sets, flagOf, flagNumbers}
+use Rattle.commute.specs.Commute.{sets, flagOf}
 use Rattle.commute.proofs.Numbered.{each-of, numbered, of-number, each-number}
 use Rattle.commute.proofs.Order.{flag-least}
 use Rattle.commute.proofs.Same.{named-some, held-bytes}
@@ -49,7 +48,7 @@ use Rattle.difference.specs.Same.{sameContents}
 use Rattle.difference.specs.Difference.{flagDiffers, sectionDiffers, items, byItem, those, differing, setBy, between, difference}
 use Rattle.difference.proofs.Equal.{same-contents}
 use Rattle.difference.proofs.List.{each-item, flag-item, section-item, by-flag, by-section, those-none, none-pass, those-fewer}
-use Rattle.difference.proofs.Marks.{flagsTo, heldTo, valid-flag, flag-at, held-back, between-allowed}
+use Rattle.difference.proofs.Marks.{flagsTo, valid-flag, flag-at, held-back, between-allowed}
 
 -- ---- Differing, as a test and as a fact
 

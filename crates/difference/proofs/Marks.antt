@@ -1,16 +1,16 @@
 -- The command's record: what it sets is what differs, and it is within its limits where the second configuration is valid.
 use mathlib.Core.Path.{_≡_, refl, sym, ap, _∙_}
-use mathlib.Core.Bool.{Bool, true, false, cond, _&&_, _||_, not}
+use mathlib.Core.Bool.{Bool, true, false, cond, _||_, not}
 use mathlib.Core.List.{List, [], _∷_, map}
 use Prim.Native.Nat.{ℕ, zero, suc, _+_, _-_, _≤_, _<_}
 use native.Mathlib.Omega.{arith}
-use lib.Dec.{leb, ltb, eqb}
+use lib.Dec.{leb, eqb}
 use lib.ListN.{getD}
 use borrow.Author.Tests.{eq-eqb, ne-eqb, lt-ltb, le-ltb, le-leb, leb-true}
 use Rattle.text.specs.Checks.{isFine}
 use Rattle.text.specs.Table.{values}
 use Rattle.text.specs.declared.Seen.the-variants.{Fine}
-use Rattle.text.proofs.Cases.{by-test, by-lt, both-left, both-right}
+use Rattle.text.proofs.Cases.{by-lt, both-left, both-right}
 use Rattle.text.proofs.Checks.{fine-is}
 use Rattle.text.proofs.Table.{at}
 use Rattle.section.specs.Layout.{numbers, layoutOf, tableOf, isEmpty}

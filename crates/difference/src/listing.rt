@@ -3,7 +3,6 @@ use crate::Listed;
 ghost use mathlib.Core.Path.{_≡_};
 ghost use mathlib.Core.List.{[]};
 ghost use Prim.Native.Nat.{_<_};
-ghost use Rattle.text.specs.Table.{values};
 ghost use Rattle.difference.specs.Difference.{listing};
 ghost use Rattle.difference.specs.Inner.{itemAt, setAt, setItems};
 

@@ -5,7 +5,6 @@ use mathlib.Core.Bool.{Bool, true, false, _&&_}
 use mathlib.Core.List.{List, [], _∷_, _++_}
 use Prim.Native.Nat.{ℕ, zero, suc, _+_, _-_, _<_, _≤_}
 use native.Mathlib.Omega.{arith}
-use lib.Dec.{leb}
 use lib.ListN.{length, getD, drop, replicate, length-append, length-replicate, List·getD-append}
 use borrow.Author.Tests.{le-leb, lt-leb}
 use Rattle.text.specs.Bytes.{bytes}
@@ -38,9 +37,7 @@ use Rattle.difference.proofs.Makes.{flag-differs, section-differs, sets-flag, n
 use Rattle.desk.specs.Numbers.{accepted as numbered}
 use Rattle.desk.specs.Differences.{differenceNumbers}
 use Rattle.desk.specs.declared.HostDiffering.{HostDiffering}
-use Rattle.promises.specs.BoardRuns.{IsAccepted}
-use Rattle.promises.specs.Configuration.{check}
-use Rattle.promises.specs.Difference.{differenceAnswer, Declared, IsListed, ListOf, Makes, SetsFlag, SetsSection, CommandOf, Written, Refused, Answers, DifferencePromises}
+use Rattle.promises.specs.Difference.{differenceAnswer, Declared, IsListed, ListOf, Makes, SetsFlag, SetsSection, CommandOf, Written, Refused, DifferencePromises}
 use Rattle.promises.proofs.Codes.{accepted-fine, fine-accepted}
 use Rattle.promises.proofs.Commute.{set-is}
 use Rattle.promises.proofs.Configuration.{valid-zero, zero-valid}

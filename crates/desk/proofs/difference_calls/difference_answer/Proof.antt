@@ -6,7 +6,6 @@ use mathlib.Core.Path.{sym, ap, _∙_, refl}
 use lib.ListN.{length, length-map}
 use denote.Ref.{now}
 use Rattle.command_write.specs.Filled.{Filled}
-use Rattle.difference.specs.declared.Differing.{Differing}
 use Rattle.difference.proofs.Makes.{holding, answer-short}
 use Rattle.desk.specs.Differences.{differenceNumbers}
 

@@ -2,7 +2,6 @@
 use borrow.Author.Needs.{needs}
 use Rattle.difference.proofs.between.command_between.Statement.{statement}
 use Rattle.difference.proofs.between.command_between.Tie as tie
-use mathlib.Core.Path.{_∙_}
 use Rattle.difference.specs.Difference.{between}
 use Rattle.difference.proofs.Marks.{settings-marked}
 

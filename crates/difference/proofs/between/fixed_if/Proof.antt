@@ -2,7 +2,7 @@
 use borrow.Author.Needs.{needs}
 use Rattle.difference.proofs.between.fixed_if.Statement.{statement}
 use Rattle.difference.proofs.between.fixed_if.Tie as tie
-use mathlib.Core.Path.{refl, ap, _∙_}
+use mathlib.Core.Path.{ap, _∙_}
 use mathlib.Core.List.{List, map}
 use Prim.Native.Nat.{ℕ}
 use Rattle.section.specs.Layout.{tableOf}

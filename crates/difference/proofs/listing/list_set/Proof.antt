@@ -1,11 +1,10 @@
 -- `difference::listing::list_set` meets its contract. The loop's invariant: the items so far, and those that are left.
 use Rattle.difference.proofs.listing.list_set.Statement.{statement}
 use Rattle.difference.proofs.listing.list_set.Tie as tie
-use mathlib.Core.Path.{_≡_, refl, sym, _∙_}
-use Prim.Native.Nat.{_≤_, _-_}
+use mathlib.Core.Path.{sym, _∙_}
+use Prim.Native.Nat.{_-_}
 use native.Mathlib.Omega.{arith}
 use mathlib.Core.Logic.{⊎-elim}
-use borrow.Author.Needs.{needs}
 use Rattle.difference.proofs.Filling.{Filling, fill-start, fill-more, fill-pass, fill-end}
 
 abbrev Inv-loop : tie.InvT-loop
