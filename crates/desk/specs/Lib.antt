@@ -10,4 +10,5 @@ pub mod Outcomes
 pub mod Parts
 pub mod Reports
 pub mod Steps
+pub mod Tracks
 pub mod Waiting

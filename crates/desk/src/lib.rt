@@ -12,9 +12,11 @@ mod journal_calls;
 mod packed_calls;
 mod report_calls;
 mod section_calls;
+mod track_calls;
 
 use caller::HostReport;
 use command::Command;
+use track::HostPoint;
 
 // The answer of a call that checks or writes.
 #[repr(C)]
@@ -40,6 +42,15 @@ pub struct PackedAnswer {
 pub struct ReportAnswer {
     pub answer: Answer,
     pub report: HostReport,
+}
+
+// The answer of following a report: a point for each present observation; those from the count on are all 0.
+#[repr(C)]
+pub struct HostTrack {
+    pub answer: Answer,
+    pub count: u32,
+    pub spare: u32,
+    pub points: [HostPoint; 8],
 }
 
 // The answer of reading a command.

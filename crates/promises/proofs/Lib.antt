@@ -22,5 +22,6 @@ pub mod Report
 mod Sections
 mod Sevens
 mod Takings
+pub mod Track
 mod Waiting
 mod Waits

@@ -39,7 +39,7 @@ pub fine-zero : (x : Seen) (n : ℕ) → Coded x → writeNumbers x n .code ≡ 
 fine-zero Fine n c e = refl
 fine-zero (Bad code place) n c e = let l = ltb-true 0 code (c .coded) in let z : code ≡ 0 = e in absurd (omega arith)
 
-check-fine : (s : List ℕ) → check s .code ≡ 0 → checkText s ≡ Fine
+pub check-fine : (s : List ℕ) → check s .code ≡ 0 → checkText s ≡ Fine
 check-fine s e = go (checkText s) (text-coded s) e
   where
     go : (x : Seen) → Coded x → checkNumbers x .code ≡ 0 → x ≡ Fine
@@ -59,7 +59,7 @@ one-answer s = go (checkText s)
     go Fine = refl
     go (Bad code place) = refl
 
-read-is : (s : List ℕ) → checkText s ≡ Fine → read s .report ≡ hostReport (reportOf s)
+pub read-is : (s : List ℕ) → checkText s ≡ Fine → read s .report ≡ hostReport (reportOf s)
 unfolding reportNumbers readReport
 read-is s e = rw e
 

@@ -15,4 +15,5 @@ pub mod Packed
 pub mod Part
 pub mod Report
 pub mod Sections
+pub mod Track
 pub mod Zero
