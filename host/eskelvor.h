@@ -38,8 +38,9 @@
  * 4.1.0: esk_section, and esk_part_of over its answer.
  * 4.2.0: esk_commute.
  * 4.3.0: esk_gust.
- * 4.4.0: esk_difference. */
-#define ESK_VERSION "4.4.0"
+ * 4.4.0: esk_difference.
+ * 4.5.0: esk_report_track. */
+#define ESK_VERSION "4.5.0"
 
 #ifdef __cplusplus
 extern "C" {
@@ -238,6 +239,32 @@ esk_answer esk_report_check(const uint8_t *text, size_t length);
 
 /* Reads a report. The text is lent for reading. Its answer, codes and places, is that of esk_report_check. */
 esk_report_got esk_report_read(const uint8_t *text, size_t length);
+
+/* Where and when an observation was made, in absolute figures. 24 bytes, no padding. A figure is missing where the report
+ * does not tell it. */
+typedef struct esk_point {
+    esk_figure latitude;  /* minutes, north positive: -5400 to 5400 */
+    esk_figure longitude; /* minutes, east positive: -10800 to 10800 */
+    esk_figure seconds;   /* from the beginning of the month of the first observation on: 0 to 2902392 */
+} esk_point;
+
+/* The answer of esk_report_track. 216 bytes, no padding. On refusal every member but the answer is 0. */
+typedef struct esk_track {
+    esk_answer answer;
+    uint32_t count;      /* of points, one for each present observation: 1 to 8 */
+    uint32_t spare;      /* 0 */
+    esk_point points[8]; /* in the order of the observations; from count on every byte is 0 */
+} esk_track;
+
+/*
+ * The positions and times of a report's observations: those of the first, and each change added to the figure of the point
+ * before. The text is lent for reading. A figure is known where it is given in every observation up to this one; from the
+ * first that lacks it on it is missing, whatever follows. So it is with a latitude from the first sum outside -5400 to 5400
+ * on. A longitude above 10800 loses 21600 and one below -10800 gains it; both of these are kept as they are. Seconds run on
+ * past the month's end. A present observation of which nothing is known has a point all the same; an absent one has none.
+ * The answer, codes and places, is that of esk_report_check.
+ */
+esk_track esk_report_track(const uint8_t *text, size_t length);
 
 /*
  * Writes a report at the start of `out`, which is lent for writing, `room` bytes; on success length is 220. The record

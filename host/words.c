@@ -62,6 +62,7 @@ size_t esk_size_of(const char *record)
         size_t size;
     } records[] = {
         RECORD(esk_answer),   RECORD(esk_figure),     RECORD(esk_packed),   RECORD(esk_observation),
+        RECORD(esk_point),    RECORD(esk_track),
         RECORD(esk_report),   RECORD(esk_report_got), RECORD(esk_edge),     RECORD(esk_region),
         RECORD(esk_boxes),    RECORD(esk_airfields),  RECORD(esk_regions),  RECORD(esk_by_phase),
         RECORD(esk_airports), RECORD(esk_enroute),    RECORD(esk_ascent),   RECORD(esk_descent),

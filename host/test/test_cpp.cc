@@ -54,6 +54,9 @@ static void reports()
     HOLD(is_written(&out, "", 0));
     got = esk_report_read(at(text), text.size() - 1);
     HOLD(got.answer.code == ESK_LENGTH && got.report.first.kind == 0);
+    const esk_track track = esk_report_track(at(text), text.size());
+    HOLD(track.answer.code == ESK_ACCEPTED && track.count == 8 && track.points[0].longitude.number == 8636);
+    HOLD(track.points[1].longitude.given == 0 && esk_report_track(at(text), text.size() - 1).count == 0);
 }
 
 static void commands()

@@ -78,6 +78,8 @@ static void sizes(void)
     SIZE(esk_observation);
     SIZE(esk_report);
     SIZE(esk_report_got);
+    SIZE(esk_point);
+    SIZE(esk_track);
     SIZE(esk_edge);
     SIZE(esk_region);
     SIZE(esk_boxes);
@@ -105,6 +107,7 @@ static void sizes(void)
     HOLD(esk_size_of("esk_report") == 624 && esk_size_of("esk_settings") == 614 && esk_size_of("esk_slot") == 8);
     HOLD(esk_size_of("esk_entry") == 32 && esk_size_of("esk_part") == 16 && esk_size_of("esk_commute_answer") == 16);
     HOLD(esk_size_of("esk_gust_answer") == 8 && esk_size_of("esk_differing") == 32);
+    HOLD(esk_size_of("esk_point") == 24 && esk_size_of("esk_track") == 216);
     HOLD(esk_size_of(NULL) == 0 && esk_size_of("") == 0 && esk_size_of("report") == 0);
     HOLD(esk_size_of("esk_answe") == 0 && esk_size_of("esk_answers") == 0 && esk_size_of("ESK_ANSWER") == 0);
 }
