@@ -12,6 +12,7 @@ mod journals;
 mod parts;
 mod reasons;
 mod records;
+mod tracks;
 
 use super::record::{Report, BYTES};
 use super::{packed, report, write, Refusal};
