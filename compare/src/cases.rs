@@ -13,6 +13,7 @@ pub mod join;
 pub mod journal;
 pub mod report;
 pub mod section;
+pub mod track;
 
 use crate::asked::Replies;
 use crate::ours::Answer;

@@ -5,6 +5,7 @@ pub mod uplink;
 
 use crate::ours;
 use crate::second::record::{Observation, Report};
+use crate::second::track::{Point, Track};
 use crate::second::{raw, Refusal};
 
 /// What esk_packed_read ought to answer.
@@ -37,6 +38,21 @@ pub fn got(read: &Result<Report, Refusal>) -> ours::ReportGot {
     match read {
         Ok(report) => ours::ReportGot { answer: answer(Ok(0)), report: record(report) },
         Err(refusal) => ours::ReportGot { answer: answer(Err(*refusal)), report: Default::default() },
+    }
+}
+
+/// What esk_report_track ought to answer.
+pub fn track(track: &Result<Track, Refusal>) -> ours::Track {
+    let point = |of: Point| ours::Point {
+        latitude: figure(of.latitude),
+        longitude: figure(of.longitude),
+        seconds: figure(of.seconds),
+    };
+    match track {
+        Ok(Track { points, count }) => {
+            ours::Track { answer: answer(Ok(0)), count: *count as u32, spare: 0, points: points.map(point) }
+        }
+        Err(refusal) => ours::Track { answer: answer(Err(*refusal)), ..Default::default() },
     }
 }
 

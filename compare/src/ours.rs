@@ -73,6 +73,23 @@ pub struct ReportGot {
     pub report: Report,
 }
 
+#[repr(C)]
+#[derive(Clone, Copy, Debug, Default, PartialEq, Eq)]
+pub struct Point {
+    pub latitude: Figure,
+    pub longitude: Figure,
+    pub seconds: Figure,
+}
+
+#[repr(C)]
+#[derive(Clone, Copy, Debug, Default, PartialEq, Eq)]
+pub struct Track {
+    pub answer: Answer,
+    pub count: u32,
+    pub spare: u32,
+    pub points: [Point; 8],
+}
+
 // The header promises sizes without padding; where a size is the sum of its members, so are the offsets.
 const _: () = {
     assert!(size_of::<Answer>() == 16 && offset_of!(Answer, length) == 8);
@@ -91,6 +108,8 @@ const _: () = {
     assert!(offset_of!(Report, designator) == 8 && offset_of!(Report, spare) == 14);
     assert!(offset_of!(Report, first) == 16 && offset_of!(Report, later) == 92);
     assert!(size_of::<ReportGot>() == 640 && offset_of!(ReportGot, report) == 16);
+    assert!(size_of::<Point>() == 24 && offset_of!(Point, longitude) == 8 && offset_of!(Point, seconds) == 16);
+    assert!(size_of::<Track>() == 216 && offset_of!(Track, count) == 16 && offset_of!(Track, points) == 24);
 };
 
 /// A struct of the header, as bytes: all members are numbers, and there is no padding.
@@ -105,6 +124,7 @@ unsafe impl Plain for Packed {}
 unsafe impl Plain for GustAnswer {}
 unsafe impl Plain for Report {}
 unsafe impl Plain for ReportGot {}
+unsafe impl Plain for Track {}
 
 pub fn bytes_of<T: Plain>(of: &T) -> &[u8] {
     unsafe { std::slice::from_raw_parts((of as *const T).cast(), size_of::<T>()) }

@@ -7,6 +7,7 @@
  *   3, length (2), text                             esk_answer of the check, esk_report_got of the read; where both
  *                                                   accept, esk_answer and arena of writing that record
  *   4, esk_report, room (2)                         esk_answer, arena; where it is written, esk_report_got of the text
+ *   5, length (2), text                             esk_answer of the check, esk_track
  */
 #include "answer.h"
 
@@ -41,6 +42,14 @@ static void give_record(const uint8_t *from, size_t room)
     }
 }
 
+static void give_track(const uint8_t *text, size_t length)
+{
+    esk_answer check = esk_report_check(text, length);
+    esk_track track = esk_report_track(text, length);
+    give(&check, sizeof check);
+    give(&track, sizeof track);
+}
+
 static const uint8_t *question(const uint8_t *q)
 {
     string s = string_at(q + 1);
@@ -59,6 +68,10 @@ static const uint8_t *question(const uint8_t *q)
     }
     if (q[0] == 3) {
         give_report(s.bytes, s.length);
+        return s.end;
+    }
+    if (q[0] == 5) {
+        give_track(s.bytes, s.length);
         return s.end;
     }
     give_record(q + 1, number(q + 1 + sizeof(esk_report), 2));

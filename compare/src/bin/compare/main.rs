@@ -6,6 +6,7 @@
 //! compare case WORDS                                one case, in the words of a mismatch; @FILE has them in a file:
 //!     packed-read HEX (- is no byte)                packed-write NUMBER GIVEN WIDTH ROOM
 //!     report HEX                                    record HEX ROOM
+//!     track HEX
 //!     command HEX                                   command-record HEX ROOM
 //!     section NUMBER TEXT
 //!     reset                                         apply SETTINGS TEXT
@@ -42,6 +43,7 @@ mod records;
 mod reports;
 mod run;
 mod sections;
+mod tracks;
 
 use run::{Options, Run};
 use std::process::exit;
@@ -58,6 +60,7 @@ const GROUPS: [Group; 11] = [
         reports::families(run);
         records::families(run);
         forms::families(run);
+        tracks::families(run);
     }),
     ("command", |run| {
         commands::families(run);

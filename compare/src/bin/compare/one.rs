@@ -15,6 +15,7 @@ pub fn case(words: &[String]) -> Result<i32, String> {
     let words: Vec<&str> = words.split_whitespace().collect();
     match words.first() {
         Some(&("packed-read" | "packed-write" | "report" | "record")) => run::one(report_case(&words)?),
+        Some(&"track") => run::one(track_case(&words)?),
         Some(&("command" | "command-record")) => run::one(command_case(&words)?),
         Some(&"section") => run::one(section_case(&words)?),
         Some(&("reset" | "apply")) => run::one(config_case(&words)?),
@@ -45,6 +46,13 @@ fn report_case(words: &[&str]) -> Result<report::Case, String> {
         ["record", record, at] => report::Case::Record { record: plain(record)?, room: room(at)? },
         _ => return no_such_case(),
     })
+}
+
+fn track_case(words: &[&str]) -> Result<desk_compare::cases::track::Case, String> {
+    match words {
+        ["track", text] => Ok(desk_compare::cases::track::Case(bytes(text)?)),
+        _ => no_such_case(),
+    }
 }
 
 fn command_case(words: &[&str]) -> Result<command::Case, String> {

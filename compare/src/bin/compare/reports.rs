@@ -168,7 +168,7 @@ fn winds(text: &Text, queue: &mut Queue) -> Done {
 }
 
 /// One damage. Most leave the length as it is.
-fn damage(random: &mut Random, text: &mut Vec<u8>) {
+pub fn damage(random: &mut Random, text: &mut Vec<u8>) {
     if text.len() != BYTES {
         return;
     }
