@@ -56,9 +56,9 @@ void set_figure(esk_observation *o, int number, esk_figure figure)
     memcpy((char *)o + offsets[number], &figure, sizeof figure);
 }
 
-static esk_figure track_figure(const track *t, int number)
+static esk_figure track_figure(const esk_point *here, int number)
 {
-    return number == 0 ? t->latitude : number == 1 ? t->longitude : t->time;
+    return number == 0 ? here->latitude : number == 1 ? here->longitude : here->seconds;
 }
 
 static void put_bytes(cell *to, const void *bytes, size_t length)
@@ -156,7 +156,7 @@ void fill_cell(cell *to, const column *c, const row *r)
     case FROM_TRACK:
     case FROM_DEGREES: put_figure(to, c, track_figure(&r->here, c->figure)); break;
     case FROM_DAY:
-    case FROM_TIME: put_moment(to, c->from, r->here.time); break;
+    case FROM_TIME: put_moment(to, c->from, r->here.seconds); break;
     case FROM_FIGURE: put_figure(to, c, get_figure(r->o, c->figure)); break;
     default: fill_of_report(to, c->from, r); break;
     }

@@ -39,9 +39,10 @@ typedef struct row {
     unsigned long report;
     unsigned long long offset;
     const esk_report *of;
+    const esk_track *track;
     int number; /* from 1 */
     const esk_observation *o;
-    track here;
+    esk_point here; /* where and when it was made */
 } row;
 
 /* A column's value, as its bytes are written. */

@@ -4,37 +4,7 @@
 
 #include <stdio.h>
 
-enum { POLE = 5400, HALF_ROUND = 10800, DAY = 86400 };
-
-track track_begin(const esk_observation *first)
-{
-    track t = {first->latitude, first->longitude, first->time};
-    return t;
-}
-
-static esk_figure added(esk_figure sum, esk_figure change)
-{
-    esk_figure missing = {0, 0};
-    if (!sum.given || !change.given)
-        return missing;
-    sum.number += change.number;
-    return sum;
-}
-
-track track_on(track t, const esk_observation *later)
-{
-    esk_figure missing = {0, 0};
-    t.latitude = added(t.latitude, later->latitude);
-    t.longitude = added(t.longitude, later->longitude);
-    t.time = added(t.time, later->time);
-    if (t.latitude.number > POLE || t.latitude.number < -POLE)
-        t.latitude = missing;
-    if (t.longitude.number > HALF_ROUND)
-        t.longitude.number -= 2 * HALF_ROUND;
-    if (t.longitude.number < -HALF_ROUND)
-        t.longitude.number += 2 * HALF_ROUND;
-    return t;
-}
+enum { DAY = 86400 };
 
 const char *kind_in_words(char kind)
 {
@@ -93,13 +63,13 @@ static void show_absolute(const char *name, esk_figure minutes, const char *lett
 }
 
 /* The first observation's own position and time. */
-static void show_start(const track *here)
+static void show_start(const esk_point *here)
 {
     show_absolute("latitude", here->latitude, "NS");
     show_absolute("longitude", here->longitude, "EW");
     printf("  %-15s ", "time");
-    if (here->time.given)
-        show_time(here->time);
+    if (here->seconds.given)
+        show_time(here->seconds);
     else
         printf("%10s", "-");
     putchar('\n');
@@ -121,7 +91,7 @@ static void show_change(const char *name, esk_figure change, const char *ways[2]
     putchar('\n');
 }
 
-static void show_changes(const esk_observation *o, const track *here)
+static void show_changes(const esk_observation *o, const esk_point *here)
 {
     static const char *north_south[] = {"north", "south"}, *east_west[] = {"east", "west"};
     show_change("moved", o->latitude, north_south, here->latitude, "NS");
@@ -131,14 +101,14 @@ static void show_changes(const esk_observation *o, const track *here)
         return;
     }
     printf("  %-15s %10ld seconds", "after", (long)o->time.number);
-    if (here->time.given) {
+    if (here->seconds.given) {
         fputs(", on ", stdout);
-        show_time(here->time);
+        show_time(here->seconds);
     }
     putchar('\n');
 }
 
-void show_observation(int number, const esk_observation *o, const track *here)
+void show_observation(int number, const esk_observation *o, const esk_point *here)
 {
     if (number > 1 && !o->present) {
         printf("observation %d: absent\n", number);

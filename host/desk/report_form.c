@@ -30,7 +30,7 @@ static int next(row *r)
     if (r->number > LATER)
         return 0;
     r->o = &r->of->later[r->number - 1];
-    r->here = track_on(r->here, r->o);
+    r->here = r->track->points[r->number];
     r->number++;
     return 1;
 }
@@ -103,7 +103,8 @@ static void count_observations(row r)
 
 void form_report(const report_form *f, const piece *p, const char *file, const esk_report *report)
 {
-    row first = {file, p->number, p->offset, report, 1, &report->first, track_begin(&report->first)};
+    esk_track track = esk_report_track(p->bytes, p->length);
+    row first = {file, p->number, p->offset, report, &track, 1, &report->first, track.points[0]};
     reports++;
     if (f->count)
         count_observations(first);
