@@ -10,6 +10,7 @@ _eskelvor_options() {
     local text='--text --exact' asked='--config -c --phase --lat --lon --hour --airfield'
     case $1 in
     report) echo '--jsonl --csv --fields --count --quiet' ;;
+    track) echo '--csv --geojson --svg' ;;
     check | join) echo "$text" ;;
     explain) echo "$text --options" ;;
     section) echo "$text --words" ;;
@@ -63,7 +64,7 @@ _eskelvor_values() {
     esac
 }
 
-_eskelvor_subcommands='report check explain section compose join commute apply config diff decide why packed gust board journal night help'
+_eskelvor_subcommands='report track check explain section compose join commute apply config diff decide why packed gust board journal night help'
 
 _eskelvor() {
     local current=${COMP_WORDS[COMP_CWORD]} before=${COMP_WORDS[COMP_CWORD - 1]} subcommand='' at words lead=''

@@ -6,7 +6,7 @@
 #include <string.h>
 
 static const subcommand *const subcommands[] = {
-    &report_subcommand,  &check_subcommand,  &explain_subcommand, &section_subcommand,
+    &report_subcommand,  &track_subcommand,  &check_subcommand,   &explain_subcommand, &section_subcommand,
     &compose_subcommand, &join_subcommand,   &commute_subcommand, &apply_subcommand,
     &config_subcommand,  &diff_subcommand,   &decide_subcommand,  &why_subcommand,
     &packed_subcommand,  &gust_subcommand,   &board_subcommand,   &journal_subcommand,

@@ -5,7 +5,7 @@
 answers 0 'the program says what there is' --help
 out_has 'usage: eskelvor SUBCOMMAND' 'Exit status: 0 accepted, 1 refused, 2 usage or files'
 err_is
-for name in report check explain section compose join commute apply config diff decide why packed board journal night help; do
+for name in report track check explain section compose join commute apply config diff decide why packed board journal night help; do
     out_has "  $name "
     answers 0 "help on $name" "$name" --help
     out_has "usage: eskelvor $name" '--json'
