@@ -4,7 +4,7 @@
     >>> eskelvor.join("AWR041999999000400000/151/", "AWR049199999100400009/300/2301/")
     b'AWR041199999100400009/300/2301/'
 
-Reports: ``reports``, ``read_report``, ``write_report``, ``check_report``. Commands: ``read_command``, ``write_command``,
+Reports: ``reports``, ``read_report``, ``write_report``, ``check_report``, ``track``. Commands: ``read_command``, ``write_command``,
 ``check_command``, ``command_fields``, ``section``, ``join``, ``commute``. An aircraft's configuration: ``Configuration``, with
 ``apply``, ``difference``, ``decide`` and ``explain``. What waits for aircraft out of coverage: ``Board``. What was taken for them: ``Journal``. One
 figure: ``read_packed``, ``write_packed``. A gust out of an acceleration: ``gust``.
@@ -58,7 +58,7 @@ from ._refusals import (
     WrongSpelling,
     words_of,
 )
-from ._reports import KINDS, Fix, Observation, Report, check_report, read_report, reports, write_report
+from ._reports import KINDS, Fix, Observation, Report, check_report, read_report, reports, track, write_report
 
 __all__ = [
     "Airports",
@@ -121,6 +121,7 @@ __all__ = [
     "read_report",
     "reports",
     "section",
+    "track",
     "words_of",
     "write_command",
     "write_packed",

@@ -11,7 +11,7 @@ from pathlib import Path
 from typing import Dict, List, Optional, Tuple, Type, Union
 
 #: The version of eskelvor.h that this module is written for: the first number must be the library's, the second not above.
-HEADER_VERSION = (4, 3)
+HEADER_VERSION = (4, 5)
 SONAME = "libeskelvor.so.%d" % HEADER_VERSION[0]
 ENVIRONMENT = "ESKELVOR_LIBRARY"
 
@@ -78,6 +78,14 @@ class RawReport(ctypes.Structure):
 
 class ReportGot(ctypes.Structure):
     _fields_ = [("answer", Answer), ("report", RawReport)]
+
+
+class Point(ctypes.Structure):
+    _fields_ = [("latitude", Figure), ("longitude", Figure), ("seconds", Figure)]
+
+
+class Track(ctypes.Structure):
+    _fields_ = [("answer", Answer), ("count", _u32), ("spare", _u32), ("points", Point * 8)]
 
 
 class Edge(ctypes.Structure):
@@ -223,6 +231,8 @@ RECORDS: Dict[str, Type[ctypes.Structure]] = {
     "esk_observation": RawObservation,
     "esk_report": RawReport,
     "esk_report_got": ReportGot,
+    "esk_point": Point,
+    "esk_track": Track,
     "esk_edge": Edge,
     "esk_region": Region,
     "esk_boxes": RawBoxes,
@@ -263,6 +273,7 @@ CALLS: Dict[str, Tuple[object, List[object]]] = {
     "esk_packed_write": (Answer, [Figure, _size, _room, _size]),
     "esk_report_check": (Answer, [_bytes, _size]),
     "esk_report_read": (ReportGot, [_bytes, _size]),
+    "esk_report_track": (Track, [_bytes, _size]),
     "esk_report_write": (Answer, [RawReport, _room, _size]),
     "esk_command_check": (Answer, [_bytes, _size]),
     "esk_command_read": (CommandGot, [_bytes, _size]),

@@ -6,7 +6,7 @@ from datetime import timedelta
 from os import PathLike
 from typing import BinaryIO, Callable, Iterator, NamedTuple, Optional, Tuple, Union
 
-from ._library import REPORT_BYTES, Figure, RawObservation, RawReport, Text, as_bytes, i32, lib, name_bytes, room
+from ._library import REPORT_BYTES, Figure, Point, RawObservation, RawReport, Text, as_bytes, i32, lib, name_bytes, room
 from ._refusals import Refusal, refuse
 
 #: What an observation's kind stands for.
@@ -30,7 +30,7 @@ _FIGURES = (
     "gust",
     "vapour",
 )
-_POLE, _HALF_ROUND, _DAY = 5400, 10800, 86400
+_DAY = 86400
 
 
 class Fix(NamedTuple):
@@ -47,7 +47,8 @@ class Observation:
     have them in their units.
 
     In the first observation of a report ``latitude``, ``longitude`` and ``time`` are absolute, in a later one they are
-    changes since the one before. ``fix`` is what they add up to, as long as every figure up to there is given.
+    changes since the one before. ``fix`` is what they add up to, as ``track`` has it; in a record that would be refused
+    nothing is known.
     """
 
     kind: str
@@ -129,33 +130,24 @@ class Report:
     observations: Tuple[Observation, ...]
 
     def __post_init__(self) -> None:
-        fixed = []
-        fix = Fix(0, 0, 0)
-        for observation in self.observations:
-            fix = _moved(fix, observation)
-            fixed.append(replace(observation, fix=fix))
-        object.__setattr__(self, "observations", tuple(fixed))
+        _fixed(self, _fixes_of(self))
 
 
 def _scaled(number: Optional[int], per: int) -> Optional[float]:
     return None if number is None else number / per
 
 
-def _sum(known: Optional[int], change: Optional[int]) -> Optional[int]:
-    return None if known is None or change is None else known + change
+def _fixed(report: Report, fixes: Tuple[Fix, ...]) -> None:
+    both = zip(report.observations, fixes)
+    object.__setattr__(report, "observations", tuple(replace(observation, fix=fix) for observation, fix in both))
 
 
-def _moved(fix: Fix, observation: Observation) -> Fix:
-    """The fix after one more observation: beyond a pole a latitude is not known, a longitude goes on from the other side."""
-    latitude = _sum(fix.latitude, observation.latitude)
-    longitude = _sum(fix.longitude, observation.longitude)
-    if latitude is not None and abs(latitude) > _POLE:
-        latitude = None
-    if longitude is not None and longitude > _HALF_ROUND:
-        longitude -= 2 * _HALF_ROUND
-    elif longitude is not None and longitude < -_HALF_ROUND:
-        longitude += 2 * _HALF_ROUND
-    return Fix(latitude, longitude, _sum(fix.time, observation.time))
+def _fixes_of(report: Report) -> Tuple[Fix, ...]:
+    """Where and when the observations of a record were made: what its text says. One that is no report says nothing."""
+    try:
+        return track(write_report(report))
+    except (Refusal, ValueError, TypeError):
+        return (Fix(),) * len(report.observations)
 
 
 # ---- one report --------------------------------------------------------------------------------------------------------
@@ -196,12 +188,34 @@ def read_report(text: Text) -> Report:
     got = lib.esk_report_read(data, len(data))
     refuse(got.answer.code, got.answer.place)
     raw = got.report
-    return Report(
-        departure=_name(raw.departure),
-        arrival=_name(raw.arrival),
-        designator=_name(raw.designator),
-        observations=tuple(_observation(one) for one in (raw.first, *raw.later) if one.present),
-    )
+    report = object.__new__(Report)  # its fixes are the text's own: it is not written to find them
+    for name in ("departure", "arrival", "designator"):
+        object.__setattr__(report, name, _name(getattr(raw, name)))
+    present = tuple(_observation(one) for one in (raw.first, *raw.later) if one.present)
+    object.__setattr__(report, "observations", present)
+    _fixed(report, track(data))
+    return report
+
+
+def track(text: Text) -> Tuple[Fix, ...]:
+    """Where and when each observation of a report was made, the changes added up from the first; absent ones have no fix.
+
+    A figure is known, not None, as long as every observation up to there gives it, and a latitude as long as no sum goes
+    beyond a pole. A longitude goes on from the other side at 180 degrees; time runs on past the month's end.
+
+    >>> east = Observation("R", longitude=15)
+    >>> report = Report("NFFN", "PHNL", "FJ0822", (Observation("R", 0, 10790, 60), east))
+    >>> track(write_report(report))
+    (Fix(latitude=0, longitude=10790, time=60), Fix(latitude=None, longitude=-10795, time=None))
+    """
+    data = as_bytes(text)
+    got = lib.esk_report_track(data, len(data))
+    refuse(got.answer.code, got.answer.place)
+    return tuple(_fix(point) for point in got.points[: got.count])
+
+
+def _fix(point: Point) -> Fix:
+    return Fix(*(one.number if one.given else None for one in (point.latitude, point.longitude, point.seconds)))
 
 
 def write_report(report: Report) -> bytes:

@@ -6,7 +6,7 @@ import random
 from typing import Callable, Dict, List
 
 import eskelvor
-from eskelvor import _commands, _configuration, _gust, _journal, _packed
+from eskelvor import _commands, _configuration, _gust, _journal, _packed, _reports
 from known import BOTH, FIRST, FULL, LONGEST, PRINTED, SECOND, Case
 
 
@@ -97,7 +97,7 @@ class Garbage(Case):
 
     def test_the_examples_of_the_docstrings(self) -> None:
         tried = 0
-        for module in (eskelvor, _commands, _configuration, _gust, _journal, _packed):
+        for module in (eskelvor, _commands, _configuration, _gust, _journal, _packed, _reports):
             result = doctest.testmod(module, extraglobs={"eskelvor": eskelvor})
             self.assertEqual(result.failed, 0, module)
             tried += result.attempted

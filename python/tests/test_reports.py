@@ -77,6 +77,31 @@ class One(Case):
         back = Report("ABCD", "EFGH", "XY0001", (replace(start, longitude=-10799), replace(step, longitude=-2)))
         self.assertEqual(back.observations[1].fix.longitude, 10799)
 
+    def test_tracks(self) -> None:
+        self.assertEqual(eskelvor.track(PRINTED), ((0, 0, 0),))
+        self.assertEqual(eskelvor.track(FULL), ((-2245, 8636, 952375),) + 7 * ((None, None, None),))
+        cases = [
+            ("latitude", (5399, 1, 1, -5), (5399, 5400, None, None)), ("latitude", (-5400, 0, -1, 1), (-5400, -5400, None, None)),
+            ("longitude", (10000, 799, 1, 1), (10000, 10799, 10800, -10799)),
+            ("longitude", (-10000, -800, -1, 0), (-10000, -10800, 10799, 10799)),
+            ("longitude", (10790, 20, -10), (10790, -10790, -10800)), ("time", (2678399, 1, 31999), (2678399, 2678400, 2710399)),
+            ("time", (7, None, 5), (7, None, None)), ("latitude", (None, 1), (None, None)),
+        ]
+        for name, steps, sums in cases:
+            text = write_report(Report("ABCD", "EFGH", "XY0001", tuple(Observation("R", **{name: step}) for step in steps)))
+            fixes = eskelvor.track(text)
+            self.assertEqual(tuple(getattr(fix, name) for fix in fixes), sums)
+            self.assertEqual(fixes, tuple(one.fix for one in read_report(text).observations))
+            self.assertEqual(sum(figure is not None for fix in fixes for figure in fix), sum(one is not None for one in sums))
+        self.refused(1, 0, lambda: eskelvor.track(FULL[:-1]), kind=eskelvor.WrongLength)
+        self.refused(5, 25, lambda: eskelvor.track(PRINTED[:25] + b"NF1" + PRINTED[28:]), kind=eskelvor.OutOfRange)
+
+    def test_no_fix_of_what_is_no_report(self) -> None:
+        outside = Report("ABCD", "EFGH", "XY0001", (Observation("R", 5401, 0, 0), Observation("R", 0, 0, 0)))
+        self.assertEqual([one.fix for one in outside.observations], 2 * [(None, None, None)])
+        self.refused(5, 25, lambda: write_report(outside))
+        self.assertEqual(Report("ABCD", "EFGH", "XY0001", ()).observations, ())
+
     def test_round_trip(self) -> None:
         self.assertEqual(write_report(read_report(FULL)), FULL)
         self.assertEqual(write_report(read_report(bytearray(FULL))), FULL)
