@@ -46,6 +46,21 @@ static void report_read(input from)
     give_back("text", text);
 }
 
+/* The input is the text. Of ours the answer is also held against the check's. */
+static void report_track(input from)
+{
+    lent text = lend_rest(&from);
+    esk_track ours = esk_report_track(text.ours, text.length);
+    esk_track second = second_report_track(text.second, text.length);
+    esk_answer check = esk_report_check(text.ours, text.length);
+    hold("answer", &ours.answer, &second.answer, sizeof ours.answer);
+    hold("check", &ours.answer, &check, sizeof check);
+    hold("count", &ours.count, &second.count, sizeof ours.count);
+    hold("spare", &ours.spare, &second.spare, sizeof ours.spare);
+    hold("points", ours.points, second.points, sizeof ours.points);
+    give_back("text", text);
+}
+
 /* Room, record. */
 static void report_write(input from)
 {
@@ -74,6 +89,7 @@ const target downlink_targets[] = {
     {"esk_packed_write", "answer out", packed_write},
     {"esk_report_check", "answer text", report_check},
     {"esk_report_read", "answer report text", report_read},
+    {"esk_report_track", "answer check count spare points text", report_track},
     {"esk_report_write", "answer out", report_write},
     {"esk_gust", "answer", gust},
     {NULL, NULL, NULL},

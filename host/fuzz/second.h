@@ -12,6 +12,7 @@ esk_answer second_packed_write(esk_figure figure, size_t width, uint8_t *out, si
 
 esk_answer second_report_check(const uint8_t *text, size_t length);
 esk_report_got second_report_read(const uint8_t *text, size_t length);
+esk_track second_report_track(const uint8_t *text, size_t length);
 esk_answer second_report_write(esk_report report, uint8_t *out, size_t room);
 
 esk_gust_answer second_gust(uint32_t row, int32_t height, uint32_t mass, uint32_t acceleration, uint32_t speed);

@@ -64,6 +64,13 @@ pub unsafe extern "C" fn second_report_read(text: *const u8, length: usize) -> R
 /// # Safety
 /// As above.
 #[no_mangle]
+pub unsafe extern "C" fn second_report_track(text: *const u8, length: usize) -> desk_compare::ours::Track {
+    meet::track(&desk_compare::second::track::track(lent(text, length)))
+}
+
+/// # Safety
+/// As above.
+#[no_mangle]
 pub unsafe extern "C" fn second_report_write(report: Report, out: *mut u8, room: usize) -> Answer {
     meet::answer(write::write(&meet::raw_record(&report), lent_mut(out, room)))
 }

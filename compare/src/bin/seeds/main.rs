@@ -15,11 +15,12 @@ const COUNT: usize = 12;
 /// One input of a call; `index` runs through the forms that differ most.
 type Maker = fn(&mut Random, usize) -> Vec<u8>;
 
-const CALLS: [(&str, Maker); 26] = [
+const CALLS: [(&str, Maker); 27] = [
     ("esk_packed_read", downlink::packed_read),
     ("esk_packed_write", downlink::packed_write),
     ("esk_report_check", downlink::report_text),
     ("esk_report_read", downlink::report_text),
+    ("esk_report_track", downlink::report_text),
     ("esk_report_write", downlink::report_write),
     ("esk_gust", downlink::gust),
     ("esk_command_check", uplink::command_text),
