@@ -3,7 +3,7 @@
 
 use crate::linked;
 use crate::measure::{best_of, pass};
-use crate::reports::{second_check, second_read, typical};
+use crate::reports::{second_check, second_read, second_track, typical};
 use desk_compare::make;
 use desk_compare::random::Random;
 use desk_compare::second::record::{Report, BYTES};
@@ -25,8 +25,8 @@ pub fn table() {
     let fields: usize = records.iter().map(|record| 9 * (1 + record.later.iter().flatten().count())).sum();
     println!("archive: {REPORTS} reports, {fields} fields\n");
     println!(
-        "{:<8} {:>14} {:>14} {:>7} {:>9} {:>9}",
-        "call", "ours fields/s", "second", "ratio", "ours ns", "second ns"
+        "{:<8} {:>14} {:>10} {:>7} {:>15} {:>10} {:>9} {:>9}",
+        "call", "ours fields/s", "second", "ratio", "ours reports/s", "second", "ours ns", "second ns"
     );
     line(
         "check",
@@ -42,18 +42,29 @@ pub fn table() {
         fields,
         best_of(WINDOWS, || pass(&texts, |text| linked::report_read(text)), || pass(&texts, |text| second_read(text))),
     );
+    line(
+        "track",
+        fields,
+        best_of(
+            WINDOWS,
+            || pass(&texts, |text| linked::report_track(text)),
+            || pass(&texts, |text| second_track(text)),
+        ),
+    );
 }
 
-/// One line: fields a second of both programs, how many times the second's time ours takes, ns a report.
+/// One line: fields and reports a second of both programs, how many times the second's time ours takes, ns a report.
 fn line(call: &str, fields: usize, windows: [f64; 2]) {
     let [ours, second] = windows;
-    let rate = |ns: f64| format!("{:.1} M", fields as f64 / ns * 1000.0);
+    let rate = |what: usize, ns: f64| format!("{:.2} M", what as f64 / ns * 1000.0);
     let each = |ns: f64| ns / REPORTS as f64;
     println!(
-        "{call:<8} {:>14} {:>14} {:>7.2} {:>9.1} {:>9.1}",
-        rate(ours),
-        rate(second),
+        "{call:<8} {:>14} {:>10} {:>7.2} {:>15} {:>10} {:>9.1} {:>9.1}",
+        rate(fields, ours),
+        rate(fields, second),
         ours / second,
+        rate(REPORTS, ours),
+        rate(REPORTS, second),
         each(ours),
         each(second)
     );

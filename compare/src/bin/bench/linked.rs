@@ -9,6 +9,7 @@ extern "C" {
     fn esk_packed_write(figure: Figure, width: usize, out: *mut u8, room: usize) -> Answer;
     fn esk_report_check(text: *const u8, length: usize) -> Answer;
     fn esk_report_read(text: *const u8, length: usize) -> ReportGot;
+    fn esk_report_track(text: *const u8, length: usize) -> desk_compare::ours::Track;
     fn esk_report_write(report: Report, out: *mut u8, room: usize) -> Answer;
     fn esk_gust(row: u32, height: i32, mass: u32, acceleration: u32, speed: u32) -> GustAnswer;
 }
@@ -34,6 +35,11 @@ pub fn report_check(text: &[u8]) -> Answer {
 #[inline(always)]
 pub fn report_read(text: &[u8]) -> ReportGot {
     unsafe { esk_report_read(text.as_ptr(), text.len()) }
+}
+
+#[inline(always)]
+pub fn report_track(text: &[u8]) -> desk_compare::ours::Track {
+    unsafe { esk_report_track(text.as_ptr(), text.len()) }
 }
 
 #[inline(always)]

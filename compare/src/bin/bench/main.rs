@@ -3,7 +3,7 @@
 //!
 //! bench [WORD]    every row, or those whose name has the word
 //! bench growth    how the cost grows with the length of a text and with the used slots of a board
-//! bench archive   a night's archive of reports, read whole: fields a second
+//! bench archive   a night's archive of reports, checked, read and turned into tracks: fields and reports a second
 
 #[cfg(linked)]
 mod archive;

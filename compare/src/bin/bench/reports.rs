@@ -4,6 +4,7 @@ use crate::linked;
 use crate::measure::{best, pass, Bench, INPUTS};
 use desk_compare::random::Random;
 use desk_compare::second::record::{Observation, Report, BYTES};
+use desk_compare::second::track::{track, Track};
 use desk_compare::second::{packed, raw, report, write, Refusal};
 use desk_compare::{make, meet, ours};
 use std::hint::black_box;
@@ -33,6 +34,11 @@ pub fn second_check(text: &[u8]) -> Result<(), Refusal> {
 #[inline(never)]
 pub fn second_read(text: &[u8]) -> Result<Report, Refusal> {
     report::read(text)
+}
+
+#[inline(never)]
+pub fn second_track(text: &[u8]) -> Result<Track, Refusal> {
+    track(text)
 }
 
 #[inline(never)]
@@ -129,6 +135,9 @@ fn report_rows(bench: &Bench) {
     bench.row("report check (one report, all figures given)", full.len(), Some(BYTES), || checks(&full));
     bench.row("report read (256 typical reports)", INPUTS, Some(BYTES), || {
         best(|| pass(&texts, |text| linked::report_read(text)), || pass(&texts, |text| second_read(text)))
+    });
+    bench.row("report track (256 typical reports)", INPUTS, Some(BYTES), || {
+        best(|| pass(&texts, |text| linked::report_track(text)), || pass(&texts, |text| second_track(text)))
     });
     let ours: Vec<ours::Report> = records.iter().map(meet::record).collect();
     let second: Vec<raw::Report> = records.iter().map(raw::Report::from).collect();
