@@ -24,7 +24,7 @@ ghost use Rattle.observation.specs.Rows.{firstRows, laterRows};
 ghost use Rattle.observation.specs.Inner.{positionAt, airAt, waterAt, observationAt, laterIn};
 
 // Latitude, longitude, seconds into the month.
-fn take_position(t: &[u8; 256], s: &[u8]) -> Position
+pub fn take_position(t: &[u8; 256], s: &[u8]) -> Position
     requires { ⌜ now t ≡ worths ⌝ }
     requires { ⌜ length (now s) ≡ 27 ⌝ }
     ensures { λ r. ⌜ r ≡ positionAt firstRows (now (s .entry)) ⌝ }
@@ -40,7 +40,7 @@ fn take_position(t: &[u8; 256], s: &[u8]) -> Position
 }
 
 // Changes of latitude and longitude, time since the previous.
-fn take_changes(t: &[u8; 256], s: &[u8]) -> Position
+pub fn take_changes(t: &[u8; 256], s: &[u8]) -> Position
     requires { ⌜ now t ≡ worths ⌝ }
     requires { ⌜ length (now s) ≡ 23 ⌝ }
     ensures { λ r. ⌜ r ≡ positionAt laterRows (now (s .entry)) ⌝ }
