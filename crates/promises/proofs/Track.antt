@@ -1,5 +1,5 @@
 -- The promises of tracks, kept.
-use mathlib.Core.Path.{_≡_, refl, sym, ap, _∙_}
+use mathlib.Core.Path.{_≡_, refl}
 use mathlib.Core.List.{List, _∷_}
 use Prim.Native.Nat.{ℕ}
 use native.Mathlib.Omega.{arith}
@@ -16,7 +16,6 @@ use Rattle.observation.specs.Observation.{readPosition, readAir, readWater, rea
 use Rattle.report.specs.Report.{laterAt, readLaters, checkText, got, readReport, reportOf}
 use Rattle.caller.specs.Printed.{printed}
 use Rattle.caller.proofs.Codes.{Coded, text-coded}
-use Rattle.caller.proofs.Printed.{printed-accepted}
 use Rattle.track.specs.Track.{noPoint, trail, changes, filled, followedFrom}
 use Rattle.track.specs.Words.{Follows}
 use Rattle.track.proofs.Points.{follows}

@@ -1,7 +1,7 @@
 use borrow.Author.Needs.{needs}
 use Rattle.desk.proofs.track_calls.esk_report_track.Statement.{statement}
 use Rattle.desk.proofs.track_calls.esk_report_track.Tie as tie
-use mathlib.Core.Path.{_≡_, refl, sym, _∙_, ap}
+use mathlib.Core.Path.{_∙_, ap}
 use Rattle.desk.specs.Tracks.{trackNumbers}
 
 worth-table-requires : tie.Need-worth-table-requires
