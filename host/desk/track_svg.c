@@ -21,6 +21,7 @@ static const char *const colours[COLOURS] = {"#0072b2", "#d55e00", "#009e73", "#
 
 static followed *all;
 static size_t count, room;
+static int32_t base; /* the first longitude that is known: all are counted from it */
 
 int picture_add(const followed *f)
 {
@@ -92,25 +93,16 @@ static void frame(FILE *to, const panel *p)
 
 /* ---- the map ---- */
 
-/* Longitudes without a jump: each point's is counted on from the one before, the first's from the first track's. */
-static void unrolled(const followed *f, int32_t from, double to[POINTS])
+/* Longitudes without a jump: each point's is counted on from the one before, the first's from `base`. */
+static void unrolled(const followed *f, double to[POINTS])
 {
     for (uint32_t i = 0; i < located(f); i++) {
         int32_t at = f->track.points[i].longitude.number;
         if (i == 0)
-            to[0] = from + eastward(from, at);
+            to[0] = base + eastward(base, at);
         else
             to[i] = to[i - 1] + eastward(f->track.points[i - 1].longitude.number, at);
     }
-}
-
-/* The first longitude that is known: all are counted from it. */
-static int32_t reference(void)
-{
-    for (size_t k = 0; k < count; k++)
-        if (located(&all[k]) > 0)
-            return all[k].track.points[0].longitude.number;
-    return 0;
 }
 
 /* The edges of what is to be seen, in minutes; gives whether there is anything. */
@@ -119,7 +111,7 @@ static int extent(panel *p)
     double along[POINTS];
     int some = 0;
     for (size_t k = 0; k < count; k++) {
-        unrolled(&all[k], reference(), along);
+        unrolled(&all[k], along);
         for (uint32_t i = 0; i < located(&all[k]); i++) {
             double x = along[i], y = all[k].track.points[i].latitude.number;
             p->least_x = some && p->least_x < x ? p->least_x : x;
@@ -217,7 +209,7 @@ static void draw_track(FILE *to, const panel *p, size_t k)
     double along[POINTS];
     uint32_t points = located(f);
     char words[16];
-    unrolled(f, reference(), along);
+    unrolled(f, along);
     if (points > 1) {
         fprintf(to, "<polyline class=\"track\" stroke=\"%s\" points=\"", colour);
         for (uint32_t i = 0; i < points; i++)
@@ -448,8 +440,10 @@ static void draw(FILE *to)
     char words[80];
     size_t named = count < NAMED ? count : NAMED;
     int height = 660 + 20 * (int)((named + 1) / 2 + (count > NAMED));
-    for (size_t k = 0; k < count; k++)
+    for (size_t k = count; k-- > 0;) {
         observations += all[k].track.count;
+        base = located(&all[k]) > 0 ? all[k].track.points[0].longitude.number : base;
+    }
     snprintf(words, sizeof words, "%lu report%s, %lu observation%s", (unsigned long)count, count == 1 ? "" : "s",
              observations, observations == 1 ? "" : "s");
     fprintf(to,

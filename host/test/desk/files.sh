@@ -13,6 +13,8 @@ cp b sound
 
 # Each way of reading a file. @ stands for the file.
 readings='report @
+track @
+track --geojson @
 check @
 check --exact @
 explain @
