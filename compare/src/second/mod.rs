@@ -1,6 +1,6 @@
 //! The second program, written from the text of documents 01 and 02 alone, and from the header's words where these say
 //! more: packed figures, reports and gusts; commands and one section of them, the configuration, the decision and its reason,
-//! joining, whether the order counts, the board and the journal.
+//! joining, whether the order counts, the board, two offices on it, and the journal.
 
 pub mod allowed;
 pub mod board;
@@ -12,6 +12,7 @@ pub mod difference;
 pub mod gust;
 pub mod join;
 pub mod journal;
+pub mod office;
 pub mod packed;
 pub mod part;
 pub mod raw;
@@ -38,6 +39,7 @@ pub const NO_SLOT: u8 = 9;
 pub const BOARD: u8 = 10;
 pub const NOTHING: u8 = 11;
 pub const SETTINGS: u8 = 12;
+pub const NOT_GRANTED: u8 = 13;
 pub const JOURNAL: u8 = 14;
 
 /// A refusal carries nothing but a code and a place.

@@ -9,6 +9,7 @@ mod forms;
 mod gusts;
 mod joins;
 mod journals;
+mod offices;
 mod parts;
 mod reasons;
 mod records;
