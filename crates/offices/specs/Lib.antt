@@ -1,0 +1,2 @@
+pub mod Offices
+pub mod Inner
