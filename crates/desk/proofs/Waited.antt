@@ -10,6 +10,10 @@ use Rattle.board.specs.declared.Slot.{Slot}
 use Rattle.board.specs.declared.Findings.{Findings}
 use Rattle.board.specs.declared.Wanted.{Wanted}
 use Rattle.board.proofs.Called.{valid-is, add-is, take-is, add-done, take-done, add-slots, take-slots}
+use Rattle.offices.specs.Offices.{officeLent}
+use Rattle.offices.specs.Inner.{officeMove}
+use Rattle.offices.specs.declared.Grant.{Grant}
+use Rattle.offices.proofs.Admitted.{office-is, office-done, office-slots}
 use Rattle.desk.specs.Waiting.{replyNumbers, boardNumbers, servedBy}
 use Rattle.desk.specs.declared.Answer.{Answer}
 use Rattle.desk.specs.declared.board_calls.Served.{Served}
@@ -69,6 +73,31 @@ module _ (ys : List Slot) (area d : List ℕ) (w : Wanted) (v : Findings) (s : S
       ap (λ (x : Served). x .answer) added ∙ served-answer (length ys) (wantedBy d) adding,
       ez ∙ ap (λ (x : Served). set ys (x .at) (x .slot)) added ∙ add-slots area ys d t,
       eu ∙ ap (λ (m : Move). onArea m area) found-add,
+    )
+
+  -- an office's adding
+  module _ (own other : Grant) (t : List ℕ) (es : s ≡ servedBy (doneOf (v .count) w (officeMove own other v w area t))) (eu : us ≡ onArea (officeMove own other v w area t) area) where
+    abbrev placing : Move
+    placing = officeLent own other ys area d t
+
+    found-office : officeMove own other v w area t ≡ placing
+    found-office =
+        ap (λ (x : Findings). officeMove own other x w area t) ev
+        ∙ ap (λ (x : Wanted). officeMove own other (scanned area x ys) x area t) ew
+        ∙ office-is own other ys area d t
+
+    placed : s ≡ servedBy (doneOf (length ys) (wantedBy d) placing)
+    placed =
+        es
+        ∙ ap (λ (x : Findings). servedBy (doneOf (x .count) w (officeMove own other x w area t))) ev
+        ∙ ap (λ (x : Wanted). servedBy (doneOf (scanned area x ys .count) x (officeMove own other (scanned area x ys) x area t))) ew
+        ∙ ap servedBy (office-done own other ys area d t)
+
+    pub office-says : (s .answer ≡ replyNumbers (replyOf placing)) × (zs ≡ onSlots placing ys) × (us ≡ onArea placing area)
+    office-says = (
+      ap (λ (x : Served). x .answer) placed ∙ served-answer (length ys) (wantedBy d) placing,
+      ez ∙ ap (λ (x : Served). set ys (x .at) (x .slot)) placed ∙ office-slots own other ys area d t,
+      eu ∙ ap (λ (m : Move). onArea m area) found-office,
     )
 
 -- a check

@@ -25,7 +25,7 @@ pub struct Served {
     pub slot: Slot,
 }
 
-fn serve_done(d: Done) -> Served
+pub fn serve_done(d: Done) -> Served
     ensures { λ r. ⌜ r ≡ servedBy d ⌝ }
 {
     let slot = d.slot;

@@ -9,6 +9,7 @@ mod difference_calls;
 mod gust_calls;
 mod join_calls;
 mod journal_calls;
+mod office_calls;
 mod packed_calls;
 mod report_calls;
 mod section_calls;
