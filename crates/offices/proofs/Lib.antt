@@ -1,2 +1,4 @@
 pub mod Places
 pub mod Admitted
+pub mod Own
+pub mod Alone

@@ -1,2 +1,3 @@
 pub mod Offices
 pub mod Inner
+pub mod Own
