@@ -15,6 +15,9 @@ mod InRun
 pub mod Join
 pub mod Journal
 mod JournalBytes
+mod OfficeWords
+mod OfficeRuns
+pub mod Offices
 pub mod Packed
 pub mod Part
 mod Relaid

@@ -11,6 +11,8 @@ pub mod Gust
 pub mod Join
 pub mod Journal
 pub mod JournalBytes
+pub mod OfficeRuns
+pub mod Offices
 pub mod Packed
 pub mod Part
 pub mod Report
