@@ -39,8 +39,9 @@
  * 4.2.0: esk_commute.
  * 4.3.0: esk_gust.
  * 4.4.0: esk_difference.
- * 4.5.0: esk_report_track. */
-#define ESK_VERSION "4.5.0"
+ * 4.5.0: esk_report_track.
+ * 4.6.0: esk_office_add, and code 13. */
+#define ESK_VERSION "4.6.0"
 
 #ifdef __cplusplus
 extern "C" {
@@ -78,8 +79,10 @@ enum {
     ESK_BOARD = 10,    /* board not valid; place 0. The first thing that every call on a board looks for */
     ESK_NOTHING = 11,  /* taking: nothing waits for that aircraft; place 0 */
     ESK_SETTINGS = 12, /* configuration not valid; place 0. The first thing that every call on one looks for */
+    ESK_NOT_GRANTED = 13, /* adding for an office: outside its grant, after the command's own refusals and before 9; or
+                             grants that overlap, before all else; place 0 */
     ESK_JOURNAL = 14   /* journal broken; place: the trailer where reading it from its end first fails, or 0. The first
-                          thing that every call on a journal looks for. No call answers 13 */
+                          thing that every call on a journal looks for */
 };
 
 /* The answer of a call that checks or writes. 16 bytes, no padding. */
@@ -713,6 +716,32 @@ esk_answer esk_board_add(esk_slot *slots, size_t n, uint8_t *area, size_t area_l
  */
 esk_answer esk_board_take(esk_slot *slots, size_t n, const uint8_t *area, size_t area_length,
                           const uint8_t *designator, size_t designator_length, uint8_t *out, size_t room);
+
+/* ---- two offices on one board ----------------------------------------------------------------------------------- */
+
+/* What an office may do: a byte that is not 0 grants. Its order is that of a command's bytes 5 to 20. 16 bytes, no
+ * padding. */
+typedef struct esk_grant {
+    uint8_t flags[7];    /* AMDAR, inhibit hours, regions, airports, ascent, enroute, descent */
+    uint8_t downlinks;   /* may ask for downlinks */
+    uint8_t sections[8]; /* sections 2 to 9 */
+} esk_grant;
+
+/*
+ * As esk_board_add, for an office: `own` is its grant, `other` the grant of the office that shares the board. A flag 9, an
+ * indicator 0 and a downlink digit 0 set nothing and ask for nothing, so that no grant is needed for them. Nothing changes
+ * on a refusal. Taking needs no grant: esk_board_take.
+ *   13  the two grants overlap in a flag or a section, or both have downlinks; place 0
+ *   10  the board is not valid, as for esk_board_check; place 0
+ *   4   the designator is not six bytes 'A' to 'Z' or '0' to '9'; place 0
+ *   the refusals of esk_command_check, with their places in the text, and then
+ *   13  the command sets a flag, names a section or asks for a downlink that `own` does not grant; place 0
+ *   9   nothing waits for that aircraft and no slot is free; place 0
+ * On a board that began empty and to which only two offices add, under the same two grants, an office's own flags and
+ * sections in what waits are those of its own accepted commands since the last taking, joined, whatever the other sent.
+ */
+esk_answer esk_office_add(esk_slot *slots, size_t n, uint8_t *area, size_t area_length, const uint8_t *designator,
+                          size_t designator_length, const uint8_t *text, size_t length, esk_grant own, esk_grant other);
 
 /* ---- the journal ------------------------------------------------------------------------------------------------ */
 

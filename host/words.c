@@ -29,7 +29,7 @@ const char *esk_words(unsigned code)
         "the board is not valid",
         "nothing waits for that aircraft",
         "the configuration is not valid",
-        "an unknown code",
+        "not granted to the office, or the two grants overlap",
         "the journal is broken",
     };
     return code < COUNT(words) ? words[code] : "an unknown code";
@@ -68,8 +68,8 @@ size_t esk_size_of(const char *record)
         RECORD(esk_airports), RECORD(esk_enroute),    RECORD(esk_ascent),   RECORD(esk_descent),
         RECORD(esk_hours),    RECORD(esk_settings),   RECORD(esk_command),  RECORD(esk_command_got),
         RECORD(esk_applied),  RECORD(esk_differing),  RECORD(esk_decided),  RECORD(esk_explained),
-        RECORD(esk_slot),     RECORD(esk_entry),      RECORD(esk_part),     RECORD(esk_commute_answer),
-        RECORD(esk_gust_answer),
+        RECORD(esk_slot),     RECORD(esk_grant),      RECORD(esk_entry),    RECORD(esk_part),
+        RECORD(esk_commute_answer), RECORD(esk_gust_answer),
     };
 #undef RECORD
     for (size_t i = 0; record != NULL && i < COUNT(records); i++)

@@ -7,6 +7,8 @@
  *     1                                             esk_answer of the check, changes
  *     2, length (2), designator, length (2), text   esk_answer of the add, changes
  *     3, length (2), designator, room (2)           esk_answer of the taking, changes, arena
+ *     4, esk_grant, esk_grant, length (2),          esk_answer of the office's add, changes
+ *     designator, length (2), text
  *
  * The board is lent as one block: a guard, the slots, a guard, the area, a guard. Changes are what an event changed in
  * all of the block: from (4), to (4), and the bytes from the first that is another to behind the last; 0, 0 where none.
@@ -73,6 +75,15 @@ static const uint8_t *event(const uint8_t *q)
     if (q[0] == 1) {
         give_answer(esk_board_check(slots, n, area, area_length));
         return q + 1;
+    }
+    if (q[0] == 4) {
+        esk_grant own, other;
+        memcpy(&own, q + 1, sizeof own);
+        memcpy(&other, q + 1 + sizeof own, sizeof other);
+        string designator = string_at(q + 1 + 2 * sizeof own), text = string_at(designator.end);
+        give_answer(esk_office_add(slots, n, area, area_length, designator.bytes, designator.length, text.bytes,
+                                   text.length, own, other));
+        return text.end;
     }
     string designator = string_at(q + 1);
     if (q[0] == 2) {

@@ -21,7 +21,7 @@ typedef struct board {
 static board b;
 
 /* Free slots; all bytes in a pattern that no call may change. */
-static void clear(size_t n)
+static inline void clear(size_t n)
 {
     uint8_t *memory = (uint8_t *)&b.now;
     for (size_t i = 0; i < sizeof b.now; i++)
@@ -34,7 +34,7 @@ static void clear(size_t n)
 }
 
 /* Puts a text into a slot, as if it had been added. */
-static void put(size_t slot, const char *designator, const char *text, size_t length)
+static inline void put(size_t slot, const char *designator, const char *text, size_t length)
 {
     memcpy(b.now.slots[slot].designator, designator, 6);
     b.now.slots[slot].length = (uint16_t)length;
@@ -42,7 +42,7 @@ static void put(size_t slot, const char *designator, const char *text, size_t le
     b.want = b.now;
 }
 
-static void board_holds(const char *call, const char *why)
+static inline void board_holds(const char *call, const char *why)
 {
     checks++;
     if (memcmp(&b.now, &b.want, sizeof b.now) == 0)
@@ -59,10 +59,10 @@ static void board_holds(const char *call, const char *why)
     exit(1);
 }
 
-static esk_slot *slots(void) { return b.n == 0 ? NULL : b.now.slots; }
-static uint8_t *area(void) { return b.area_length == 0 ? NULL : b.now.area; }
+static inline esk_slot *slots(void) { return b.n == 0 ? NULL : b.now.slots; }
+static inline uint8_t *area(void) { return b.area_length == 0 ? NULL : b.now.area; }
 
-static void check_holds(unsigned code, const char *why)
+static inline void check_holds(unsigned code, const char *why)
 {
     esk_answer got = esk_board_check(slots(), b.n, area(), b.area_length);
     answer_holds(got, code, 0, 0, 0, "esk_board_check", why);
@@ -70,7 +70,7 @@ static void check_holds(unsigned code, const char *why)
 }
 
 /* Adds, holds the answer, and holds the board against b.want as it then stands. */
-static void add_holds(const char *designator, size_t n, const char *text, size_t length, unsigned code,
+static inline void add_holds(const char *designator, size_t n, const char *text, size_t length, unsigned code,
                       unsigned long place, size_t waits, const char *why)
 {
     lent name, in;
@@ -82,7 +82,7 @@ static void add_holds(const char *designator, size_t n, const char *text, size_t
     bytes_hold(&in, "", 0, "esk_board_add: the text", why);
 }
 
-static void take_holds(const char *designator, size_t n, size_t room, unsigned code, const char *text, size_t length,
+static inline void take_holds(const char *designator, size_t n, size_t room, unsigned code, const char *text, size_t length,
                        const char *why)
 {
     lent name, out;
@@ -95,7 +95,7 @@ static void take_holds(const char *designator, size_t n, size_t room, unsigned c
 }
 
 /* A text in a slot is expected from now on. */
-static void expect(size_t slot, const char *designator, const char *text)
+static inline void expect(size_t slot, const char *designator, const char *text)
 {
     memcpy(b.want.slots[slot].designator, designator, 6);
     b.want.slots[slot].length = (uint16_t)strlen(text);
