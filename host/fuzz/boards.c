@@ -89,9 +89,30 @@ static void board_take(input from)
     give_back("out", out);
 }
 
+/* The office's grant, the other's, and then as for an adding. */
+static void office_add(input from)
+{
+    esk_grant own, other;
+    take_into(&from, &own, sizeof own);
+    take_into(&from, &other, sizeof other);
+    size_t length = take_byte(&from) % 9;
+    lent of = lend_next(&from, length);
+    board on = take_board(&from);
+    lent text = lend_rest(&from);
+    esk_answer ours = esk_office_add(slots_of(on.slots.ours), on.n, on.area.ours, on.area.length, of.ours, of.length,
+                                     text.ours, text.length, own, other);
+    esk_answer second = second_office_add(slots_of(on.slots.second), on.n, on.area.second, on.area.length, of.second,
+                                          of.length, text.second, text.length, own, other);
+    hold("answer", &ours, &second, sizeof ours);
+    give_back("designator", of);
+    give_board_back(on);
+    give_back("text", text);
+}
+
 const target board_targets[] = {
     {"esk_board_check", "answer slots area", board_check},
     {"esk_board_add", "answer designator slots area text", board_add},
     {"esk_board_take", "answer designator slots area out", board_take},
+    {"esk_office_add", "answer designator slots area text", office_add},
     {NULL, NULL, NULL},
 };

@@ -4,12 +4,12 @@
 use super::{lent, lent_mut};
 use desk_compare::meet::{self, uplink as meet_up};
 use desk_compare::ours::uplink::{
-    Applied, Command, CommandGot, CommuteAnswer, Decided, Differing, Entry, Explained, Part, Settings, Slot,
+    Applied, Command, CommandGot, CommuteAnswer, Decided, Differing, Entry, Explained, Grant, Part, Settings, Slot,
 };
 use desk_compare::ours::Answer;
 use desk_compare::second::decide::Question;
 use desk_compare::second::difference::difference;
-use desk_compare::second::{board, command, commute, config, decide, join, journal, part, spell};
+use desk_compare::second::{board, command, commute, config, decide, join, journal, office, part, spell};
 
 /// # Safety
 /// As `lent` and `lent_mut` of each byte string; so it is for every call below.
@@ -162,6 +162,27 @@ pub unsafe extern "C" fn second_board_add(
 ) -> Answer {
     let (area, designator) = (lent_mut(area, area_length), lent(designator, designator_length));
     meet::answer(with_slots(slots, n, |slots| board::add(slots, area, designator, lent(text, length))))
+}
+
+/// # Safety
+/// As above.
+#[no_mangle]
+pub unsafe extern "C" fn second_office_add(
+    slots: *mut Slot,
+    n: usize,
+    area: *mut u8,
+    area_length: usize,
+    designator: *const u8,
+    designator_length: usize,
+    text: *const u8,
+    length: usize,
+    own: Grant,
+    other: Grant,
+) -> Answer {
+    let (area, designator) = (lent_mut(area, area_length), lent(designator, designator_length));
+    let [own, other] = [own, other].map(|grant| meet_up::meant_grant(&grant));
+    let add = |slots: &mut [board::Slot]| office::add(slots, area, designator, lent(text, length), [&own, &other]);
+    meet::answer(with_slots(slots, n, add))
 }
 
 /// # Safety

@@ -1,20 +1,33 @@
 //! A board and a run of events on it; after each event every byte of slots, area, guards and output is compared.
 
-use super::{arena, counted, pattern, short, Held, GUARD};
+use super::Case as _;
+use super::{arena, counted, pattern, short, Held, Mismatch, GUARD};
 use crate::asked::Replies;
 use crate::meet;
-use crate::ours::uplink::Slot;
+use crate::ours::uplink::{Grant, Slot};
 use crate::ours::{bytes_of, Answer};
 use crate::second::settings::MOST;
-use crate::second::{board, Refusal};
+use crate::second::{board, office, Refusal};
 use crate::tally::Tally;
 use crate::tell::{self, hex, BREAK};
 
 #[derive(Clone)]
 pub enum Event {
     Check,
-    Add { designator: Vec<u8>, text: Vec<u8> },
-    Take { designator: Vec<u8>, room: usize },
+    Add {
+        designator: Vec<u8>,
+        text: Vec<u8>,
+    },
+    /// Of an office: its grant, and the other's.
+    Office {
+        grants: [Grant; 2],
+        designator: Vec<u8>,
+        text: Vec<u8>,
+    },
+    Take {
+        designator: Vec<u8>,
+        room: usize,
+    },
 }
 
 #[derive(Clone)]
@@ -37,6 +50,10 @@ impl Board {
         match event {
             Event::Check => (board::check(slots, area).map(|()| 0), Vec::new()),
             Event::Add { designator, text } => (board::add(slots, area, designator, text), Vec::new()),
+            Event::Office { grants, designator, text } => {
+                let [own, other] = [0, 1].map(|index| meet::uplink::meant_grant(&grants[index]));
+                (office::add(slots, area, designator, text, [&own, &other]), Vec::new())
+            }
             Event::Take { designator, room } => arena(*room, |out| board::take(slots, area, designator, out)),
         }
     }
@@ -82,6 +99,12 @@ impl super::Case for Case {
                     counted(into, designator);
                     counted(into, text);
                 }
+                Event::Office { grants, designator, text } => {
+                    into.push(4);
+                    grants.iter().for_each(|grant| into.extend(bytes_of(grant)));
+                    counted(into, designator);
+                    counted(into, text);
+                }
                 Event::Take { designator, room } => {
                     into.push(3);
                     counted(into, designator);
@@ -92,27 +115,7 @@ impl super::Case for Case {
     }
 
     fn hold(&self, replies: &mut Replies, tally: &mut Tally) -> Held {
-        let mut second = self.board();
-        let mut ours = second.block();
-        let guards = ours.clone();
-        for (index, event) in self.events.iter().enumerate() {
-            let (answer, left) = second.event(event);
-            let got: Answer = replies.one();
-            changes(&mut ours, replies);
-            let taken = replies.take(left.len());
-            let want = meet::answer(answer);
-            if got != want || taken != left || !second.is(&ours, &guards) {
-                let block = second.block();
-                let words = |answer: Answer, of: &[u8], other: &[u8], left: &[u8]| {
-                    let [board, room] = [tell::uplink::difference(of, other), tell::bytes(left)];
-                    format!("{answer:?}{BREAK}slots and area, with guards of {GUARD}: {board}{BREAK}lent {room}")
-                };
-                let (ours, second) = (words(got, &ours, &block, taken), words(want, &block, &ours, &left));
-                return self.alone(index).mismatch(call(event), ours, second);
-            }
-            tally.answer(&answer);
-        }
-        Ok(())
+        self.run(replies, tally).map(|_| ())
     }
 
     fn input(&self) -> String {
@@ -139,12 +142,41 @@ impl super::Case for Case {
         match &self.events[0] {
             Event::Check => format!("board-check {board}"),
             Event::Add { designator, text } => format!("board-add {board} {} {}", hex(designator), hex(text)),
+            Event::Office { grants, designator, text } => {
+                let [own, other] = [0, 1].map(|index| hex(bytes_of(&grants[index])));
+                format!("office-add {board} {} {} {own} {other}", hex(designator), hex(text))
+            }
             Event::Take { designator, room } => format!("board-take {board} {} {room}", hex(designator)),
         }
     }
 }
 
 impl Case {
+    /// Holds every event, and gives our board as it then is, in its block.
+    fn run(&self, replies: &mut Replies, tally: &mut Tally) -> Result<Vec<u8>, Box<Mismatch>> {
+        let mut second = self.board();
+        let mut ours = second.block();
+        let guards = ours.clone();
+        for (index, event) in self.events.iter().enumerate() {
+            let (answer, left) = second.event(event);
+            let got: Answer = replies.one();
+            changes(&mut ours, replies);
+            let taken = replies.take(left.len());
+            let want = meet::answer(answer);
+            if got != want || taken != left || !second.is(&ours, &guards) {
+                let block = second.block();
+                let words = |answer: Answer, of: &[u8], other: &[u8], left: &[u8]| {
+                    let [board, room] = [tell::uplink::difference(of, other), tell::bytes(left)];
+                    format!("{answer:?}{BREAK}slots and area, with guards of {GUARD}: {board}{BREAK}lent {room}")
+                };
+                let (ours, second) = (words(got, &ours, &block, taken), words(want, &block, &ours, &left));
+                return self.alone(index).mismatch(call(event), ours, second);
+            }
+            tally.answer(&answer);
+        }
+        Ok(ours)
+    }
+
     fn board(&self) -> Board {
         Board { slots: self.slots.iter().map(meet::uplink::meant_slot).collect(), area: self.area.clone() }
     }
@@ -171,6 +203,7 @@ fn call(event: &Event) -> &'static str {
     match event {
         Event::Check => "esk_board_check",
         Event::Add { .. } => "esk_board_add",
+        Event::Office { .. } => "esk_office_add",
         Event::Take { .. } => "esk_board_take",
     }
 }
@@ -179,6 +212,59 @@ fn told(event: &Event) -> String {
     match event {
         Event::Check => "check".to_string(),
         Event::Add { designator, text } => format!("add for {} {}", designator.escape_ascii(), tell::bytes(text)),
+        Event::Office { grants: [own, other], designator, text } => {
+            format!("add for {} {} by {own:?} beside {other:?}", designator.escape_ascii(), tell::bytes(text))
+        }
         Event::Take { designator, room } => format!("take for {} into {room}", designator.escape_ascii()),
+    }
+}
+
+/// Two nights in which one office and the takings are the same: what waits of that office's own is the same after both.
+pub struct Pair {
+    pub nights: [Case; 2],
+    pub own: Grant,
+}
+
+impl super::Case for Pair {
+    const PROGRAM: &'static str = "answer_board";
+
+    fn question(&self, into: &mut Vec<u8>) {
+        self.nights.iter().for_each(|night| night.question(into));
+    }
+
+    fn hold(&self, replies: &mut Replies, tally: &mut Tally) -> Held {
+        let [one, other] = [0, 1].map(|index| self.nights[index].run(replies, tally));
+        let [one, other] = [self.parts_in(&one?), self.parts_in(&other?)];
+        if one != other {
+            return self.mismatch("esk_office_add", format!("{one:?}"), format!("{other:?}"));
+        }
+        Ok(())
+    }
+
+    fn input(&self) -> String {
+        let [one, other] = [0, 1].map(|index| self.nights[index].input());
+        format!("{one}{BREAK}and{BREAK}{other}")
+    }
+
+    fn words(&self) -> String {
+        "--only office-pairs (no case of its own: two nights)".to_string()
+    }
+}
+
+impl Pair {
+    /// For each aircraft that something waits for: the flags and sections of the grant in it, where it sets any.
+    fn parts_in(&self, block: &[u8]) -> Vec<(Vec<u8>, Vec<u8>)> {
+        let own = meet::uplink::meant_grant(&self.own);
+        let n = self.nights[0].slots.len();
+        let area = &block[2 * GUARD + size_of::<Slot>() * n..];
+        let slots = block[GUARD..].chunks_exact(size_of::<Slot>()).take(n).enumerate();
+        let waits = slots.map(|(index, slot)| (slot, usize::from(u16::from_le_bytes([slot[6], slot[7]])), index));
+        let mut found: Vec<_> = waits
+            .filter(|&(_, length, _)| length > 0)
+            .map(|(slot, length, index)| (slot[..6].to_vec(), office::own_part(&area[MOST * index..][..length], &own)))
+            .filter(|(_, part)| part.iter().any(|&byte| byte != b'9'))
+            .collect();
+        found.sort();
+        found
     }
 }

@@ -10,6 +10,7 @@ use crate::second::decide::{Cause, Decision, Why};
 use crate::second::difference::Difference;
 use crate::second::join::Fault;
 use crate::second::journal::{Entry, NAME};
+use crate::second::office::Grant;
 use crate::second::settings::*;
 use crate::second::Refusal;
 use std::ops::Range;
@@ -207,6 +208,12 @@ fn meant_boxes(list: ours::Boxes) -> Boxes {
 
 pub fn slot(from: &Slot) -> ours::Slot {
     ours::Slot { designator: from.designator, length: from.length }
+}
+
+/// "A byte that is not 0 grants."
+pub fn meant_grant(from: &ours::Grant) -> Grant {
+    let is = |byte: u8| byte != 0;
+    Grant { flags: from.flags.map(is), downlinks: is(from.downlinks), sections: from.sections.map(is) }
 }
 
 pub fn meant_slot(from: &ours::Slot) -> Slot {

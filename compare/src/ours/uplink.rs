@@ -190,6 +190,14 @@ pub struct Slot {
 
 #[repr(C)]
 #[derive(Clone, Copy, Debug, Default, PartialEq, Eq)]
+pub struct Grant {
+    pub flags: [u8; 7],
+    pub downlinks: u8,
+    pub sections: [u8; 8],
+}
+
+#[repr(C)]
+#[derive(Clone, Copy, Debug, Default, PartialEq, Eq)]
 pub struct Entry {
     pub place: usize,
     pub offset: usize,
@@ -225,6 +233,7 @@ const _: () = {
     assert!(offset_of!(CommuteAnswer, text) == 9 && offset_of!(CommuteAnswer, yes) == 10);
     assert!(offset_of!(CommuteAnswer, flags) == 11 && offset_of!(CommuteAnswer, sections) == 12);
     assert!(size_of::<Slot>() == 8 && offset_of!(Slot, length) == 6);
+    assert!(size_of::<Grant>() == 16 && offset_of!(Grant, downlinks) == 7 && offset_of!(Grant, sections) == 8);
     assert!(size_of::<Entry>() == 32 && offset_of!(Entry, offset) == 8 && offset_of!(Entry, text) == 16);
     assert!(offset_of!(Entry, length) == 24 && offset_of!(Entry, code) == 28 && offset_of!(Entry, given) == 29);
 };
@@ -239,4 +248,5 @@ unsafe impl Plain for Decided {}
 unsafe impl Plain for Explained {}
 unsafe impl Plain for CommuteAnswer {}
 unsafe impl Plain for Slot {}
+unsafe impl Plain for Grant {}
 unsafe impl Plain for Entry {}

@@ -59,3 +59,14 @@ pub fn add(
     }
     board::add(slots, area, of, text)
 }
+
+/// What lies inside a grant of an accepted text: seven flags, `9` where the flag is not set or not the office's, and the bytes
+/// of its sections.
+pub fn own_part(text: &[u8], own: &Grant) -> Vec<u8> {
+    let Ok(parts) = parts(text) else {
+        return Vec::new();
+    };
+    let flag = |index: usize| if own.flags[index] { text[5 + index] } else { b'9' };
+    let sections = (0..8).filter(|&index| own.sections[index]).flat_map(|index| parts.section(index + 2).to_vec());
+    (0..7).map(flag).chain(sections).collect()
+}

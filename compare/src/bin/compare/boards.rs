@@ -60,7 +60,7 @@ pub fn families(run: &mut Run) {
 }
 
 /// A board of free slots, whose designators and texts may be anything.
-fn empty(random: &mut Random, n: usize) -> Case {
+pub fn empty(random: &mut Random, n: usize) -> Case {
     let slots = (0..n).map(|_| Slot { designator: left_over(random), length: 0 }).collect();
     let filler = random.byte();
     Case { slots, area: vec![filler; MOST * n], events: Vec::new() }
@@ -94,7 +94,7 @@ fn filled(random: &mut Random, n: usize, used: usize, text: impl Fn(&mut Random)
 }
 
 /// Aircraft that the events speak of.
-fn aircraft(index: usize) -> [u8; 6] {
+pub fn aircraft(index: usize) -> [u8; 6] {
     let name = format!("AU{index:04}");
     name.as_bytes().try_into().expect("six bytes")
 }
@@ -145,7 +145,7 @@ fn event(random: &mut Random, fleet: usize, adds: usize, text: &impl Fn(&mut Ran
     Event::Take { designator, room }
 }
 
-fn designator(random: &mut Random, fleet: usize) -> Vec<u8> {
+pub fn designator(random: &mut Random, fleet: usize) -> Vec<u8> {
     let mut designator = aircraft(random.below(fleet)).to_vec();
     match random.below(60) {
         0 => designator.truncate(random.below(6)),

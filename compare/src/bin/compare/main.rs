@@ -16,6 +16,7 @@
 //!     join FIRST SECOND ROOM                        commute FIRST SECOND SETTINGS
 //!     board-check SLOTS AREA
 //!     board-add SLOTS AREA DESIGNATOR TEXT          board-take SLOTS AREA DESIGNATOR ROOM
+//!     office-add SLOTS AREA DESIGNATOR TEXT OWN OTHER
 //!     journal-check BUFFER END                      journal-last BUFFER END
 //!     journal-add BUFFER END DESIGNATOR TEXT        journal-drop BUFFER END COUNT
 //!     journal-print BUFFER END ROOM                 journal-replay BUFFER END DESIGNATOR
@@ -36,6 +37,7 @@ mod forms;
 mod gusts;
 mod joins;
 mod journals;
+mod offices;
 mod one;
 mod packed;
 mod queue;
@@ -75,7 +77,10 @@ const GROUPS: [Group; 11] = [
     ("explain", explanations::families),
     ("join", joins::families),
     ("commute", commutes::families),
-    ("board", boards::families),
+    ("board", |run| {
+        boards::families(run);
+        offices::families(run);
+    }),
     ("journal", journals::families),
     ("gust", gusts::families),
 ];

@@ -24,7 +24,7 @@ pub fn case(words: &[String]) -> Result<i32, String> {
         Some(&"explain") => run::one(explain::Case::from(decide_case(&words[1..])?)),
         Some(&"join") => run::one(join_case(&words)?),
         Some(&"commute") => run::one(commute_case(&words)?),
-        Some(&("board-check" | "board-add" | "board-take")) => run::one(board_case(&words)?),
+        Some(&("board-check" | "board-add" | "board-take" | "office-add")) => run::one(board_case(&words)?),
         Some(word) if word.starts_with("journal-") => run::one(journal_case(&words)?),
         Some(&"gust") => run::one(gust_case(&words)?),
         _ => no_such_case(),
@@ -125,6 +125,10 @@ fn commute_case(words: &[&str]) -> Result<commute::Case, String> {
 fn board_case(words: &[&str]) -> Result<board::Case, String> {
     let (slots, area, event) = match words {
         ["board-check", slots, area] => (slots, area, board::Event::Check),
+        ["office-add", slots, area, designator, text, own, other] => {
+            let grants = [of_bytes(&bytes(own)?), of_bytes(&bytes(other)?)];
+            (slots, area, board::Event::Office { grants, designator: bytes(designator)?, text: bytes(text)? })
+        }
         ["board-add", slots, area, designator, text] => {
             (slots, area, board::Event::Add { designator: bytes(designator)?, text: bytes(text)? })
         }

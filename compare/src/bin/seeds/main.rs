@@ -15,7 +15,7 @@ const COUNT: usize = 12;
 /// One input of a call; `index` runs through the forms that differ most.
 type Maker = fn(&mut Random, usize) -> Vec<u8>;
 
-const CALLS: [(&str, Maker); 27] = [
+const CALLS: [(&str, Maker); 28] = [
     ("esk_packed_read", downlink::packed_read),
     ("esk_packed_write", downlink::packed_write),
     ("esk_report_check", downlink::report_text),
@@ -37,6 +37,7 @@ const CALLS: [(&str, Maker); 27] = [
     ("esk_board_check", uplink::board),
     ("esk_board_add", uplink::board_add),
     ("esk_board_take", uplink::board_take),
+    ("esk_office_add", uplink::office_add),
     ("esk_journal_check", journals::whole),
     ("esk_journal_last", journals::whole),
     ("esk_journal_add", journals::add),

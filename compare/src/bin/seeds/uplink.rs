@@ -121,6 +121,13 @@ pub fn board_add(random: &mut Random, index: usize) -> Vec<u8> {
     [&[6], &of[..], &board(random, index), &command_text(random, index)].concat()
 }
 
+/// The office's grant, the other's, and then as for board_add; every third pair overlaps.
+pub fn office_add(random: &mut Random, index: usize) -> Vec<u8> {
+    let own: Vec<u8> = (0..16).map(|_| random.of(&[0, 1, 1, 255])).collect();
+    let other: Vec<u8> = own.iter().map(|&byte| u8::from(byte == 0 || index % 3 == 2)).collect();
+    [own, other, board_add(random, index)].concat()
+}
+
 /// Length of the designator, designator, room, board.
 pub fn board_take(random: &mut Random, index: usize) -> Vec<u8> {
     let of = designator(random.below(index + 1));

@@ -39,7 +39,8 @@ fn order_of_refusals() {
     let own = grant(&[0], &[4], false);
     let (mut slots, mut area) = ([FREE; 1], [b'#'; MOST]);
     let outside = b"AWR041199999000000000/";
-    let mut ask = |of: &[u8], text: &[u8], bytes: usize| add(&mut slots, &mut area[..bytes], of, text, [&own, &NOTHING]);
+    let mut ask =
+        |of: &[u8], text: &[u8], bytes: usize| add(&mut slots, &mut area[..bytes], of, text, [&own, &NOTHING]);
     assert_eq!(ask(b"XY000a", outside, MOST - 1), Err(code(10, 0)));
     assert_eq!(ask(b"XY000a", outside, MOST), Err(code(4, 0)));
     assert_eq!(ask(b"XY0001", b"AWR041199999000000000", MOST), Err(code(8, 21)), "the command's own refusals");
@@ -105,7 +106,8 @@ fn each_has_its_own() {
                     sent[craft] = Default::default();
                 }
             } else {
-                let text = if random.percent(80) { within(&mut random, grants[0]) } else { text(&command(&mut random)) };
+                let text =
+                    if random.percent(80) { within(&mut random, grants[0]) } else { text(&command(&mut random)) };
                 let was = (slots.clone(), area.clone());
                 let base = board::add(&mut was.0.clone(), &mut was.1.clone(), of, &text);
                 let answer = add(&mut slots, &mut area, of, &text, grants);
