@@ -3,7 +3,9 @@
 #include "joining.h"
 #include "json.h"
 #include "mark.h"
+#include "office.h"
 #include "options.h"
+#include "settings.h"
 
 #include <stdio.h>
 #include <string.h>
@@ -16,6 +18,9 @@ typedef struct call {
     long wait;
     const char *to;      /* the file for what is taken; NULL: standard output */
     const char *journal; /* the journal of what is taken; NULL: none */
+    const char *office;  /* for whom an adding is; NULL: no office */
+    const char *flags, *sections; /* of a grant */
+    int downlinks;
     intake in;
 } call;
 
@@ -147,8 +152,15 @@ static int put(call *c, putter onto, int count, char **words)
     int status = gather(&c->in, count - 1, words + 1, &all);
     if (status != FINE)
         return status;
+    offices shared;
     status = board_hold(&k, &b, c->file, c->wait);
     if (status == FINE)
+        status = offices_read(c->file, &shared);
+    if (status == FINE && c->office != NULL)
+        status = office_add(&b, &shared, c->office, words[0], all.text, all.length, &length);
+    else if (status == FINE && onto == board_add && shared.count > 0)
+        status = trouble("add", "offices share this board; say which one adds, with --office");
+    else if (status == FINE)
         status = onto(&b, words[0], all.text, all.length, &length);
     if (status == FINE)
         status = board_write(&k, &b);
@@ -179,6 +191,47 @@ static int take(const call *c, int count, char **words)
     return board_hand_over(&t);
 }
 
+/* The grants, one line or one object for each office. */
+static int tell_grants(const offices *all)
+{
+    char words[600];
+    for (size_t i = 0; i < all->count; i++) {
+        const esk_grant *g = &all->each[i].grant;
+        grant_words(g, words, sizeof words);
+        if (!as_json) {
+            printf("%s: %s\n", all->each[i].name, words);
+            continue;
+        }
+        json_object(NULL);
+        json_word("office", all->each[i].name);
+        json_list("flags");
+        for (int j = 0; j < 7; j++)
+            if (g->flags[j])
+                json_word(NULL, flag_names[j]);
+        json_close();
+        json_list("sections");
+        for (int j = 0; j < 8; j++)
+            if (g->sections[j])
+                json_number(NULL, j + 2);
+        json_close();
+        json_bool("downlinks", g->downlinks != 0);
+        json_close();
+    }
+    return FINE;
+}
+
+static int grant(const call *c, int count, char **words)
+{
+    offices all;
+    esk_grant g;
+    if (count > 1)
+        return trouble("grant", "give one office");
+    int status = count == 0 ? offices_read(c->file, &all) : grant_of(c->flags, c->sections, c->downlinks, &g);
+    if (status == FINE && count == 1)
+        status = offices_grant(c->file, words[0], &g, &all, c->wait);
+    return status == FINE ? tell_grants(&all) : status;
+}
+
 /* What is done with the board, by its word. */
 static int act(call *c, int count, char **words)
 {
@@ -187,6 +240,12 @@ static int act(call *c, int count, char **words)
         return trouble("--to", "only a taking has it");
     if (c->journal != NULL && strcmp(verb, "take") != 0)
         return trouble("--journal", "only a taking has it");
+    if (c->office != NULL && strcmp(verb, "add") != 0)
+        return trouble("--office", "only an adding has it");
+    if ((c->flags != NULL || c->sections != NULL || c->downlinks) && strcmp(verb, "grant") != 0)
+        return trouble(verb, "--flags, --sections and --downlinks are a grant's");
+    if (strcmp(verb, "grant") == 0)
+        return grant(c, count, words);
     if (strcmp(verb, "create") == 0)
         return create(c, count, words);
     if (strcmp(verb, "grow") == 0)
@@ -209,9 +268,11 @@ static int act(call *c, int count, char **words)
 static int run(int count, char **words)
 {
     const char *wait = "10";
-    call c = {NULL, NULL, 0, NULL, NULL, {0, 0, 0, NULL, NULL}};
+    call c = {NULL, NULL, 0, NULL, NULL, NULL, NULL, NULL, 0, {0, 0, 0, NULL, NULL}};
     const option known[] = {VALUE_OPTION("--wait", NULL, &wait), VALUE_OPTION("--to", NULL, &c.to),
-                            VALUE_OPTION("--journal", NULL, &c.journal), SET_OPTION("--text", &c.in.typed),
+                            VALUE_OPTION("--journal", NULL, &c.journal), VALUE_OPTION("--office", NULL, &c.office),
+                            VALUE_OPTION("--flags", NULL, &c.flags), VALUE_OPTION("--sections", NULL, &c.sections),
+                            SET_OPTION("--downlinks", &c.downlinks), SET_OPTION("--text", &c.in.typed),
                             SET_OPTION("--exact", &c.in.exact)};
     if (take_options(&count, words, known, OPTIONS(known)) != FINE)
         return TROUBLE;
@@ -227,10 +288,11 @@ static int run(int count, char **words)
 
 const subcommand board_subcommand = {
     "board",
-    "FILE create N | add DESIGNATOR COMMAND..\n"
+    "FILE create N | add [--office NAME] DESIGNATOR COMMAND..\n"
     "           | take [--to FILE] [--journal FILE] DESIGNATOR\n"
     "           | return DESIGNATOR COMMAND..\n"
-    "           | list [DESIGNATOR] | check | grow N | convert NEW",
+    "           | list [DESIGNATOR] | check | grow N | convert NEW\n"
+    "           | grant [OFFICE [--flags F,..] [--sections N,..] [--downlinks]]",
     "Keeps the board of waiting commands in a file",
     "  create N     makes a board of N slots, at most 64; a file that is there stays\n"
     "  add          adds commands for an aircraft, all of them or none; words and\n"
@@ -251,6 +313,14 @@ const subcommand board_subcommand = {
     "  convert NEW  of a board from before section 7, which is refused elsewhere, makes\n"
     "               a new one with all that waits; a file that is there stays, and so\n"
     "               does the old board\n"
+    "  grant OFFICE what one of two offices may do, kept in FILE.grants: flags (amdar, hours,\n"
+    "               regions, airports, ascent, enroute, descent), sections 2 to 9, and\n"
+    "               downlinks; refused with 13 where the other office has any of it.\n"
+    "               Without a name: shows the grants\n"
+    "  --office NAME\n"
+    "               adds for that office: a command outside its grant is refused with\n"
+    "               13, which says what is outside; where there are grants, every add\n"
+    "               has an office. Taking needs none\n"
     "  --wait S     waits S seconds for another writer of the board (10)\n"
     "  --text       every word behind the designator is a command\n"
     "  --exact      all the bytes of a file are one command, line ends too\n"
