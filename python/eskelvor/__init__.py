@@ -15,7 +15,7 @@ one that the system's loader finds; ``LibraryError`` says where it cannot be use
 """
 
 from ._library import BOARD_SLOTS, COMMAND_BYTES, JOURNAL_BYTES, REPORT_BYTES, LibraryError, library_version
-from ._board import Board, Waiting
+from ._board import Board, Grant, Waiting
 from ._commands import (
     NO_CHANGE,
     Airports,
@@ -49,6 +49,7 @@ from ._refusals import (
     JournalBroken,
     NoFreeSlot,
     NoRoom,
+    NotGranted,
     NothingWaits,
     OutOfRange,
     Refusal,
@@ -82,6 +83,7 @@ __all__ = [
     "Fix",
     "Flags",
     "GUST_TYPES",
+    "Grant",
     "Hours",
     "JOURNAL_BYTES",
     "Journal",
@@ -92,6 +94,7 @@ __all__ = [
     "NO_CHANGE",
     "NoFreeSlot",
     "NoRoom",
+    "NotGranted",
     "NothingWaits",
     "Observation",
     "Order",

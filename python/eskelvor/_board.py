@@ -1,9 +1,10 @@
 """The board of commands that wait for aircraft out of coverage, in memory that the caller lends."""
 
 import ctypes
-from typing import Iterator, NamedTuple, Optional, Union
+from typing import FrozenSet, Iterable, Iterator, NamedTuple, Optional, Union
 
-from ._library import COMMAND_BYTES, Slot, Text, as_bytes, lib, room
+from ._commands import Flags
+from ._library import COMMAND_BYTES, RawGrant, Slot, Text, as_bytes, lib, room
 from ._refusals import BoardNotValid, refuse
 
 _SLOT_BYTES = ctypes.sizeof(Slot)
@@ -16,6 +17,29 @@ class Waiting(NamedTuple):
     slot: int  #: from 0
     designator: str
     text: bytes
+
+
+class Grant:
+    """What an office may do on a board that two offices share: flags by their names in ``Flags``, sections 2 to 9, downlinks."""
+
+    def __init__(self, flags: Iterable[str] = (), sections: Iterable[int] = (), downlinks: bool = False) -> None:
+        self.flags: FrozenSet[str] = frozenset(flags)
+        self.sections: FrozenSet[int] = frozenset(sections)
+        self.downlinks = bool(downlinks)
+        unknown = (self.flags - frozenset(Flags._fields)) or (self.sections - frozenset(range(2, 10)))
+        if unknown:
+            raise ValueError("no flag or section of a command: %s" % ", ".join(sorted(map(str, unknown))))
+
+    def __repr__(self) -> str:
+        return "Grant(flags=%r, sections=%r, downlinks=%r)" % (sorted(self.flags), sorted(self.sections), self.downlinks)
+
+    def _raw(self) -> RawGrant:
+        raw = RawGrant(downlinks=self.downlinks)
+        for i, name in enumerate(Flags._fields):
+            raw.flags[i] = name in self.flags
+        for k in range(2, 10):
+            raw.sections[k - 2] = k in self.sections
+        return raw
 
 
 class Board:
@@ -82,6 +106,17 @@ class Board:
         """
         name, data = as_bytes(designator), as_bytes(text)
         answer = lib.esk_board_add(*self._lent(), name, len(name), data, len(data))
+        refuse(answer.code, answer.place)
+        return answer.length
+
+    def add_for(self, own: Grant, other: Grant, designator: Text, text: Text) -> int:
+        """Adds a command of the office that has the grant ``own``, beside one that has ``other``.
+
+        ``NotGranted`` where the two overlap, before all else, and where the command is outside ``own``, before it is
+        looked whether a slot is free.
+        """
+        name, data = as_bytes(designator), as_bytes(text)
+        answer = lib.esk_office_add(*self._lent(), name, len(name), data, len(data), own._raw(), other._raw())
         refuse(answer.code, answer.place)
         return answer.length
 

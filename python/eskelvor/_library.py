@@ -11,7 +11,7 @@ from pathlib import Path
 from typing import Dict, List, Optional, Tuple, Type, Union
 
 #: The version of eskelvor.h that this module is written for: the first number must be the library's, the second not above.
-HEADER_VERSION = (4, 5)
+HEADER_VERSION = (4, 6)
 SONAME = "libeskelvor.so.%d" % HEADER_VERSION[0]
 ENVIRONMENT = "ESKELVOR_LIBRARY"
 
@@ -203,6 +203,10 @@ class Slot(ctypes.Structure):
     _fields_ = [("designator", _u8 * 6), ("length", _u16)]
 
 
+class RawGrant(ctypes.Structure):
+    _fields_ = [("flags", _u8 * 7), ("downlinks", _u8), ("sections", _u8 * 8)]
+
+
 class RawEntry(ctypes.Structure):
     _fields_ = [
         ("place", _size),
@@ -253,6 +257,7 @@ RECORDS: Dict[str, Type[ctypes.Structure]] = {
     "esk_explained": Explained,
     "esk_commute_answer": CommuteAnswer,
     "esk_slot": Slot,
+    "esk_grant": RawGrant,
     "esk_entry": RawEntry,
     "esk_part": Part,
     "esk_gust_answer": GustAnswer,
@@ -290,6 +295,8 @@ CALLS: Dict[str, Tuple[object, List[object]]] = {
     "esk_board_check": (Answer, [_slots, _size, _room, _size]),
     "esk_board_add": (Answer, [_slots, _size, _room, _size, _bytes, _size, _bytes, _size]),
     "esk_board_take": (Answer, [_slots, _size, _room, _size, _bytes, _size, _room, _size]),
+    "esk_office_add": (
+        Answer, [_slots, _size, _room, _size, _bytes, _size, _bytes, _size, RawGrant, RawGrant]),
     "esk_journal_check": (Answer, _journal),
     "esk_journal_last": (RawEntry, _journal),
     "esk_journal_add": (Answer, [*_journal, _bytes, _size, _bytes, _size]),

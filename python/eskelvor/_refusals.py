@@ -108,8 +108,14 @@ class ConfigurationNotValid(Refusal):
     code = 12
 
 
+class NotGranted(Refusal):
+    """13: the command is outside its office's grant; or the two grants overlap, which is looked for before all else."""
+
+    code = 13
+
+
 class JournalBroken(Refusal):
-    """14: the journal is broken, at the trailer where reading it from its end first fails, or at 0. There is no 13."""
+    """14: the journal is broken, at the trailer where reading it from its end first fails, or at 0."""
 
     code = 14
 
@@ -129,6 +135,7 @@ BY_CODE: Dict[int, Type[Refusal]] = {
         BoardNotValid,
         NothingWaits,
         ConfigurationNotValid,
+        NotGranted,
         JournalBroken,
     )
 }

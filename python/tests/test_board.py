@@ -68,6 +68,31 @@ class Boards(Case):
             self.assertIsNone(board.look(name))
         lent.holds()
 
+    def test_two_offices(self) -> None:
+        east = eskelvor.Grant(flags=["amdar", "ascent"], sections=[4], downlinks=True)
+        west = eskelvor.Grant(flags=["inhibit_hours"], sections=[9])
+        memory = bytearray(Board.size(1))
+        board = Board(memory)
+        both = eskelvor.Grant(flags=["amdar"])
+        for one, other in ((east, both), (both, east), (east, east)):
+            self.refused(13, 0, lambda: board.add_for(one, other, "", ""), kind=eskelvor.NotGranted)
+        was = bytes(memory)
+        outside = (b"AWR041199999000000000/", b"AWR049999999000000009/2301/", SECOND, BOTH)
+        for text in outside:
+            self.refused(13, 0, lambda: board.add_for(east, west, "XY0001", text), kind=eskelvor.NotGranted)
+        self.refused(4, 0, lambda: board.add_for(east, west, "xy0001", outside[0]))
+        self.refused(8, 5, lambda: board.add_for(east, west, "XY0001", b"AWR04"))
+        self.assertEqual(bytes(memory), was)
+        self.assertEqual(board.add_for(east, west, "XY0001", FIRST), len(FIRST))
+        self.refused(13, 0, lambda: board.add_for(west, east, "XY0002", FIRST))
+        self.refused(9, 0, lambda: board.add_for(west, east, "XY0002", eskelvor.NO_CHANGE))
+        self.assertEqual(board.add_for(west, east, "XY0001", b"AWR049199999000000009/2301/"), 31)
+        self.assertEqual(board.take("XY0001"), b"AWR041199999000400009/151/2301/")
+        self.assertEqual(repr(west), "Grant(flags=['inhibit_hours'], sections=[9], downlinks=False)")
+        for wrong in ({"flags": ["wings"]}, {"sections": [1]}, {"sections": [10]}):
+            with self.assertRaisesRegex(ValueError, "no flag or section"):
+                eskelvor.Grant(**wrong)  # type: ignore[arg-type]
+
     def test_the_bytes_are_the_board(self) -> None:
         memory = bytearray(Board.size(3))
         Board(memory).add("XY0001", FIRST)
