@@ -64,7 +64,7 @@ out_is --hours
 offers apply -
 [ "$(cat "$scratch/out")" = '' ] || fail 'a single - is standard input'
 offers board tonight gr
-out_is grow
+out_is grow grant
 offers journal taken re
 out_is replay
 offers config old ''
@@ -102,7 +102,7 @@ for phase in ascent level descent; do
     offers decide --phase $phase
     out_is $phase
 done
-for verb in create add take return list check grow convert; do
+for verb in create add take return list check grow convert grant; do
     offers board tonight $verb
     out_is $verb
     answers 0 'the help' help board
