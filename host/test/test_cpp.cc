@@ -106,6 +106,9 @@ static void board()
         return esk_board_add(slots.data(), slots.size(), area.data(), area.size(), at(aircraft), aircraft.size(),
                              at(text), text.size());
     };
+    const esk_grant east{{1, 0, 0, 0, 0, 0, 0}, 0, {}}, west{{0, 1, 0, 0, 0, 0, 0}, 1, {}};
+    HOLD(esk_office_add(slots.data(), slots.size(), area.data(), area.size(), at("XY0001"sv), 6, at("AWR049199999000000000/"sv), 22,
+                        east, west).code == ESK_NOT_GRANTED);
     const auto take = [&](std::string_view aircraft) {
         return esk_board_take(slots.data(), slots.size(), area.data(), area.size(), at(aircraft), aircraft.size(),
                               out.data(), out.size());

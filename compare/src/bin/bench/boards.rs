@@ -7,6 +7,7 @@ use desk_compare::meet::uplink as meet;
 use desk_compare::ours;
 use desk_compare::random::Random;
 use desk_compare::second::board::{add, check, take, Slot, SLOTS};
+use desk_compare::second::office::{self, Grant};
 use desk_compare::second::settings::MOST;
 use desk_compare::second::Refusal;
 use std::hint::black_box;
@@ -22,6 +23,17 @@ fn second_check(slots: &[Slot], area: &[u8]) -> Result<(), Refusal> {
 #[inline(never)]
 fn second_add(slots: &mut [Slot], area: &mut [u8], of: &[u8], text: &[u8]) -> Result<usize, Refusal> {
     add(slots, area, of, text)
+}
+
+#[inline(never)]
+fn second_office(
+    slots: &mut [Slot],
+    area: &mut [u8],
+    of: &[u8],
+    text: &[u8],
+    grants: [&Grant; 2],
+) -> Result<usize, Refusal> {
+    office::add(slots, area, of, text, grants)
 }
 
 #[inline(never)]
@@ -85,6 +97,25 @@ pub fn adds(board: &Board, used: usize, texts: &[Vec<u8>]) -> [f64; 2] {
     best(|| pass(texts, &mut ours), || pass(texts, &mut second))
 }
 
+/// The same for an office that may do all, beside one that may do nothing.
+pub fn office_adds(board: &Board, used: usize, texts: &[Vec<u8>]) -> [f64; 2] {
+    let of = designator(used - 1);
+    let (mut slots, mut area): (Vec<ours::uplink::Slot>, _) =
+        (board.slots.iter().map(meet::slot).collect(), board.area.clone());
+    let mut second = board.clone();
+    let all = ours::uplink::Grant { flags: [1; 7], downlinks: 1, sections: [1; 8] };
+    let none = ours::uplink::Grant::default();
+    let meant = [all, none].map(|grant| meet::meant_grant(&grant));
+    let mut ours = |text: &Vec<u8>| {
+        linked::office_add(black_box(&mut slots), black_box(&mut area), &of, text, black_box([all, none]))
+    };
+    let mut second = |text: &Vec<u8>| {
+        let [own, other] = black_box(&meant);
+        second_office(black_box(&mut second.slots), black_box(&mut second.area), &of, text, [own, other])
+    };
+    best(|| pass(texts, &mut ours), || pass(texts, &mut second))
+}
+
 /// Takings of what waits in the last used slot; its length is put back after each. On an empty board nothing waits.
 pub fn takes(board: &Board, used: usize, calls: usize) -> [f64; 2] {
     let last = used.saturating_sub(1);
@@ -119,5 +150,6 @@ pub fn rows(bench: &Bench) {
     bench.row("board take, 64 full slots", CALLS, None, || takes(&all, SLOTS, CALLS));
     bench.row("board check, 64 slots, 3 used", CALLS, None, || checks(&three, CALLS));
     bench.row("board add, 64 slots, 3 used", CALLS, None, || adds(&three, 3, &added));
+    bench.row("office add, 64 slots, 3 used", CALLS, None, || office_adds(&three, 3, &added));
     bench.row("board take, 64 slots, 3 used", CALLS, None, || takes(&three, 3, CALLS));
 }

@@ -1,7 +1,7 @@
 //! The calls of what goes up.
 
 use desk_compare::ours::uplink::{
-    Applied, Command, CommandGot, CommuteAnswer, Decided, Differing, Entry, Explained, Part, Settings, Slot,
+    Applied, Command, CommandGot, CommuteAnswer, Decided, Differing, Entry, Explained, Grant, Part, Settings, Slot,
 };
 use desk_compare::ours::Answer;
 
@@ -51,6 +51,18 @@ extern "C" {
         designator_length: usize,
         text: *const u8,
         length: usize,
+    ) -> Answer;
+    fn esk_office_add(
+        slots: *mut Slot,
+        n: usize,
+        area: *mut u8,
+        area_length: usize,
+        designator: *const u8,
+        designator_length: usize,
+        text: *const u8,
+        length: usize,
+        own: Grant,
+        other: Grant,
     ) -> Answer;
     fn esk_board_take(
         slots: *mut Slot,
@@ -157,6 +169,14 @@ pub fn board_add(slots: &mut [Slot], area: &mut [u8], designator: &[u8], text: &
     let (n, bytes) = (slots.len(), area.len());
     let (slots, area) = (slots.as_mut_ptr(), area.as_mut_ptr());
     unsafe { esk_board_add(slots, n, area, bytes, designator.as_ptr(), designator.len(), text.as_ptr(), text.len()) }
+}
+
+#[inline(always)]
+pub fn office_add(slots: &mut [Slot], area: &mut [u8], designator: &[u8], text: &[u8], grants: [Grant; 2]) -> Answer {
+    let (n, bytes, [own, other]) = (slots.len(), area.len(), grants);
+    let (slots, area) = (slots.as_mut_ptr(), area.as_mut_ptr());
+    let (of, length) = (designator.as_ptr(), designator.len());
+    unsafe { esk_office_add(slots, n, area, bytes, of, length, text.as_ptr(), text.len(), own, other) }
 }
 
 #[inline(always)]
