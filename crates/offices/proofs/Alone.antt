@@ -1,6 +1,6 @@
 -- The board's own adding is the case of one office that may do all, beside one that may do nothing.
-use mathlib.Core.Path.{_≡_, refl, sym, _∙_}
-use mathlib.Core.Bool.{Bool, true, false, not, _&&_, and-false}
+use mathlib.Core.Path.{_≡_, refl}
+use mathlib.Core.Bool.{false, not, and-false}
 use mathlib.Core.List.{List, [], _∷_}
 use Prim.Native.Nat.{ℕ, zero, suc}
 use lib.Dec.{eqb}
@@ -8,7 +8,7 @@ use lib.ListN.{getD, replicate}
 use Rattle.text.specs.Parts.{part}
 use Rattle.text.specs.Checks.{isFine}
 use Rattle.command.specs.Text.{checkCommand}
-use Rattle.board.specs.Board.{WaitingSlot, Move, add}
+use Rattle.board.specs.Board.{WaitingSlot, add}
 use Rattle.board.specs.Lent.{addLent}
 use Rattle.board.specs.declared.Slot.{Slot}
 use Rattle.offices.specs.Offices.{anyPlace, ungranted, overlap, outside, everything, nothing, addBy, officeAdd, officeLent}

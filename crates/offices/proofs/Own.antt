@@ -24,10 +24,9 @@ use Rattle.join.proofs.Places.{later, none-later}
 use Rattle.join.proofs.Parts.{join-parts}
 use Rattle.commute.specs.Commute.{flagOf}
 use Rattle.commute.proofs.Numbered.{numbered, of-number}
-use Rattle.board.specs.Board.{isNone}
 use Rattle.board.specs.History.{onto}
 use Rattle.board.proofs.Steps.{accepted-some, joins}
-use Rattle.offices.specs.Offices.{isGrant, anyPlace, bothGrant, ungranted, overlap, outside}
+use Rattle.offices.specs.Offices.{anyPlace, bothGrant, ungranted, overlap, outside}
 use Rattle.offices.specs.Own.{grantsFlag, grantsSection, Full, flagIn, sectionIn, SameOwn}
 use Rattle.offices.specs.declared.Grant.{Grant}
 use Rattle.offices.proofs.Places.{neither-left, neither-right, none-at}

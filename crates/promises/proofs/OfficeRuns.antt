@@ -1,32 +1,29 @@
 -- A run of two offices is a run of the board without offices, of the calls that are not barred; and what waits of an office's own is
 -- what its own accepted commands set.
 use mathlib.Core.Path.{_≡_, refl, sym, ap, ap₂, _∙_, subst}
-use mathlib.Core.Bool.{Bool, true, false, cond, not, _&&_}
+use mathlib.Core.Bool.{Bool, true, false, cond, _&&_}
 use mathlib.Core.List.{List, [], _∷_, _++_, foldl-append}
-use Prim.Native.Nat.{ℕ, zero, _≤_}
+use Prim.Native.Nat.{ℕ}
 use native.Mathlib.Omega.{arith}
 use lib.Dec.{eqb}
-use lib.ListN.{length}
 use borrow.Author.Tests.{ne-eqb, eqb-true}
 use Rattle.text.specs.Names.{isDesignator}
 use Rattle.text.specs.Checks.{isFine}
 use Rattle.text.specs.Equal.{sameBytes}
-use Rattle.text.specs.declared.Seen.{Seen}
-use Rattle.text.specs.declared.Seen.the-variants.{Fine, Bad}
+use Rattle.text.specs.declared.Seen.the-variants.{Fine}
 use Rattle.text.proofs.Cases.{by-test, both-left}
 use Rattle.command.specs.Text.{checkCommand}
 use Rattle.command.proofs.Codes.{check-coded}
-use Rattle.board.specs.Board.{Move, Stay, Put, Free, pastRefusals, placed, add, isValid, replyOf}
+use Rattle.board.specs.Board.{Move, Stay, pastRefusals, placed, add, isValid, replyOf}
 use Rattle.board.specs.History.{onto, joined}
 use Rattle.board.specs.Lent.{boardOf, isShaped, isValidLent, addLent, onSlots, onArea}
 use Rattle.board.specs.Calls.{Lent}
 use Rattle.board.proofs.Joined.{allFine, fine-snoc, joined-fine}
 use Rattle.board.proofs.Refusals.{refusals-all, refusals-shaped}
 use Rattle.board.proofs.WaitingSlots.{never}
-use Rattle.offices.specs.Offices.{overlap, outside, officeLent, admission}
+use Rattle.offices.specs.Offices.{overlap, outside}
 use Rattle.offices.specs.Inner.{barred}
 use Rattle.offices.specs.Own.{Full, SameOwn}
-use Rattle.offices.specs.declared.Grant.{Grant}
 use Rattle.offices.proofs.Admitted.{free-lent, barred-lent}
 use Rattle.offices.proofs.Own.{Waiting, Nothing, Text, own-onto, other-onto}
 use Rattle.desk.specs.Waiting.{replyNumbers}
@@ -48,7 +45,6 @@ use Rattle.promises.specs.OfficeRuns.{
   callLeaves,
   OfficeRun,
   leavesAll,
-  lentNow,
   bothFrom,
   acceptedBoth,
   isFrom,
@@ -100,6 +96,23 @@ barred-call g x (TakeAny d out) n = never n refl
 unfoldable pub admitted : Grants → List OfficeCall → List Call
 admitted g [] = []
 admitted g (c ∷ cs) = cond (isBarred g c) (admitted g cs) (asBase c ∷ admitted g cs)
+
+-- one call more
+pub admitted-next : (g : Grants) (cs : List OfficeCall) (c : OfficeCall) → isBarred g c ≡ false → admitted g (cs ++ (c ∷ [])) ≡ admitted g cs ++ (asBase c ∷ [])
+unfolding admitted
+admitted-next g [] c n = rw n
+admitted-next g (b ∷ cs) c n =
+    by-test (isBarred g b)
+    (λ (h : isBarred g b ≡ true). rw h (admitted-next g cs c n))
+    (λ (h : isBarred g b ≡ false). rw h (ap (λ (l : List Call). asBase b ∷ l) (admitted-next g cs c n)))
+
+pub admitted-same : (g : Grants) (cs : List OfficeCall) (c : OfficeCall) → isBarred g c ≡ true → admitted g (cs ++ (c ∷ [])) ≡ admitted g cs
+unfolding admitted
+admitted-same g [] c n = rw n
+admitted-same g (b ∷ cs) c n =
+    by-test (isBarred g b)
+    (λ (h : isBarred g b ≡ true). rw h (admitted-same g cs c n))
+    (λ (h : isBarred g b ≡ false). rw h (ap (λ (l : List Call). asBase b ∷ l) (admitted-same g cs c n)))
 
 pub after-admitted : (g : Grants) (cs : List OfficeCall) (x : Lent) → leavesAll g x cs ≡ afterAll x (admitted g cs)
 unfolding leavesAll afterAll admitted

@@ -1,6 +1,6 @@
 -- Document 02's words for grants, and the tests that the code makes.
 use mathlib.Core.Path.{_≡_, refl, sym, ap, _∙_, subst}
-use mathlib.Core.Bool.{Bool, true, false, not, _&&_, _||_}
+use mathlib.Core.Bool.{Bool, true, false, not, _&&_}
 use mathlib.Core.List.{List, [], _∷_}
 use Prim.Native.Nat.{ℕ, zero, suc, _+_, _-_, _≤_, _<_}
 use native.Mathlib.Omega.{arith}
@@ -13,7 +13,7 @@ use Rattle.text.specs.declared.Seen.the-variants.{Fine}
 use Rattle.text.proofs.Cases.{by-test, both-left, both-right}
 use Rattle.field.proofs.Local.{part-byte}
 use Rattle.section.specs.Layout.{layoutOf, isEmpty}
-use Rattle.command.specs.Text.{isIndicator, isNamed, checkCommand}
+use Rattle.command.specs.Text.{isIndicator, checkCommand}
 use Rattle.command.proofs.Accepted.{Accepted, accepted, indicators-are}
 use Rattle.commute.specs.Commute.{sets, flagOf}
 use Rattle.commute.proofs.Numbered.{of-number}

@@ -1,6 +1,6 @@
 -- Document 02, §6, as specs/Offices says it.
 use mathlib.Core.Path.{_≡_, refl, sym, ap, ap₂, _∙_, subst}
-use mathlib.Core.Bool.{Bool, true, false, cond, _&&_}
+use mathlib.Core.Bool.{Bool, true, false, cond}
 use mathlib.Core.List.{List, [], _∷_, _++_}
 use Prim.Native.Nat.{ℕ}
 use native.Mathlib.Omega.{arith}
@@ -11,16 +11,15 @@ use Rattle.text.specs.declared.Seen.{Seen}
 use Rattle.text.specs.declared.Seen.the-variants.{Fine, Bad}
 use Rattle.text.proofs.Cases.{by-test, both-left, both-right}
 use Rattle.command.specs.Text.{checkCommand}
-use Rattle.board.specs.Board.{Move, Stay, Put, Free, pastRefusals, placed, isValid, replyOf}
-use Rattle.board.specs.Lent.{boardOf, isShaped, isValidLent, addLent, onSlots, onArea}
+use Rattle.board.specs.Board.{Move, Stay, pastRefusals, placed, isValid, replyOf}
+use Rattle.board.specs.Lent.{boardOf, isShaped, isValidLent, onSlots, onArea}
 use Rattle.board.specs.Calls.{Lent}
 use Rattle.board.specs.Words.{ValidBoard}
 use Rattle.board.proofs.Steps.{is-fine}
 use Rattle.board.proofs.LentWords.{valid-said, said-valid}
 use Rattle.board.proofs.Refusals.{refusals-shaped}
-use Rattle.board.proofs.WaitingSlots.{never}
 use Rattle.decide.proofs.Tests.{says-no}
-use Rattle.offices.specs.Offices.{overlap, outside, admission, officeLent, everything, nothing}
+use Rattle.offices.specs.Offices.{overlap, outside, admission, officeLent}
 use Rattle.offices.specs.Inner.{barred}
 use Rattle.offices.specs.Own.{Full, SameOwn}
 use Rattle.offices.specs.declared.Grant.{Grant}
@@ -29,14 +28,14 @@ use Rattle.offices.proofs.Alone.{one-office-lent}
 use Rattle.desk.specs.Numbers.{answerOf, checkNumbers, accepted}
 use Rattle.desk.specs.Waiting.{replyNumbers, boardNumbers}
 use Rattle.desk.specs.declared.Answer.{Answer}
-use Rattle.promises.specs.BoardRuns.{Call, Add, Take, answerTo, lentAfter, bufferAfter, afterAll, Told, logFrom, Run, now, told, next, log, acceptedFor, joinOf, IsAccepted, SixAllowed, Waits, NothingWaits}
-use Rattle.promises.specs.OfficeRuns.{Apart, Outside, Office, Grants, grantOf, otherOf, addingAnswer, addingLeaves, OfficeCall, AddFrom, TakeAny, asBase, callAnswer, OfficeRun, lentNow, answered, acceptedBoth, acceptedOwn}
-use Rattle.promises.specs.Offices.{OfficeAnswers, RunsAs, OfficePromises}
+use Rattle.promises.specs.BoardRuns.{Call, Add, Take, answerTo, lentAfter, bufferAfter, afterAll, Told, logFrom, Run, now, told, next, acceptedFor, joinOf, IsAccepted, Waits}
+use Rattle.promises.specs.OfficeRuns.{Apart, Outside, Office, Grants, grantOf, otherOf, OfficeCall, AddFrom, TakeAny, asBase, OfficeRun, lentNow, answered, acceptedBoth, acceptedOwn}
+use Rattle.promises.specs.Offices.{OfficeAnswers, RunsAs, Barred, OfficePromises}
 use Rattle.promises.proofs.Board.{board-promises}
 use Rattle.promises.proofs.Codes.{designator-said, accepted-fine, fine-accepted}
 use Rattle.promises.proofs.InRun.{joined-is}
 use Rattle.promises.proofs.OfficeWords.{apart-no, no-apart, outside-said}
-use Rattle.promises.proofs.OfficeRuns.{apart-of, isBarred, free-call, after-admitted, heard-admitted, admitted, base, full-of, own-kept}
+use Rattle.promises.proofs.OfficeRuns.{apart-of, isBarred, free-call, after-admitted, heard-admitted, admitted, admitted-next, admitted-same, base, full-of, own-kept}
 
 abbrev numbers-of : Move → Answer
 numbers-of m = replyNumbers (replyOf m)
@@ -218,6 +217,19 @@ whatever r s o d g e =
     (joinOf (acceptedBoth s d)) (own-part r o d) (ap joinOf e)
     (subst (λ (h : Grants). SameOwn (grantOf h o) (joinOf (acceptedBoth s d)) (joinOf (acceptedOwn s o d))) (sym g) (own-part s o d))
 
+-- ---- The next call
+
+abbrev with-calls : OfficeRun → List Call → Run
+with-calls r cs = record { board = r .board; empty = r .empty; calls = cs }
+
+free-call-so : (r : OfficeRun) (c : OfficeCall) → ¬ Barred r c → isBarred (r .grants) c ≡ false
+free-call-so r (AddFrom o d t) n = free-so (grantOf (r .grants) o) (full-of (r .grants) o) t n
+free-call-so r (TakeAny d out) n = refl
+
+barred-call-so : (r : OfficeRun) (c : OfficeCall) → Barred r c → isBarred (r .grants) c ≡ true
+barred-call-so r (AddFrom o d t) b = so-barred (grantOf (r .grants) o) (full-of (r .grants) o) t (b .0) (b .1)
+barred-call-so r (TakeAny d out) b = absurd b
+
 -- ---- All of it
 
 pub office-promises : OfficePromises
@@ -230,7 +242,10 @@ office-promises =
           (ap numbers-of e, ap (λ (m : Move). record { slots = onSlots m (x .slots); area = onArea m (x .area) }) e);
       alike = base;
       as-run = as-run;
+      goes-on = λ r c n. ap (with-calls r) (admitted-next (r .grants) (r .calls) c (free-call-so r c n));
+      passed-over = λ r c b. ap (with-calls r) (admitted-same (r .grants) (r .calls) c (barred-call-so r c b));
       waits = waits;
+      fine = λ r d n. rw (same-heard r d) (board-promises .fine (base r) d (λ e. n (same-heard r d ∙ e)));
       short = λ r d. rw (same-heard r d) (board-promises .short (base r) d);
       acts = λ r d x n. rw (same-heard r d) (board-promises .acts (base r) d x (λ e. n (same-heard r d ∙ e)));
       none = λ r d e. rw (same-board r) (board-promises .none (base r) d (sym (same-heard r d) ∙ e));

@@ -1,14 +1,14 @@
 -- Document 02, §6: "a board that began empty and on which every add came from one of the two offices, under the same two grants
 -- throughout".
 use mathlib.Core.Path.{_≡_}
-use mathlib.Core.Bool.{Bool, true, false, cond, not}
+use mathlib.Core.Bool.{Bool, true, false, cond}
 use mathlib.Core.List.{List, [], _∷_, _++_}
 use Prim.Native.Nat.{ℕ, _≤_, _<_}
 use lib.Dec.{eqb}
 use lib.ListN.{getD}
 use Rattle.command.specs.Text.{isNamed}
 use Rattle.commute.specs.Commute.{sets, flagOf}
-use Rattle.board.specs.Board.{Move, replyOf}
+use Rattle.board.specs.Board.{replyOf}
 use Rattle.board.specs.Lent.{onSlots, onArea}
 use Rattle.board.specs.Calls.{Lent}
 use Rattle.offices.specs.Offices.{isGrant, officeLent}

@@ -1,7 +1,6 @@
 -- Document 02, §6, of the lent memory and of the numbers that the host is given: a field is a sentence.
 use mathlib.Core.Path.{_≡_}
-use mathlib.Core.Logic.{_↔_}
-use mathlib.Core.List.{List, [], _∷_, foldl}
+use mathlib.Core.List.{List, [], foldl}
 use Prim.Native.Nat.{ℕ, _≤_}
 use lib.ListN.{length}
 use Rattle.settings.specs.declared.Settings.{Settings}
@@ -13,13 +12,11 @@ use Rattle.offices.specs.Offices.{everything, nothing}
 use Rattle.offices.specs.Own.{Full, SameOwn}
 use Rattle.offices.specs.declared.Grant.{Grant}
 use Rattle.desk.specs.Numbers.{answerOf, checkNumbers}
-use Rattle.promises.specs.BoardRuns.{Call, Add, Take, answerTo, lentAfter, bufferAfter, Run, now, told, next, acceptedFor, joinOf, IsAccepted, SixAllowed, NothingWaits, Waits}
-use Rattle.promises.specs.Board.{TakingAnswers, HandsOver}
+use Rattle.promises.specs.BoardRuns.{Add, Take, answerTo, lentAfter, bufferAfter, Run, now, told, next, acceptedFor, joinOf, IsAccepted, SixAllowed, NothingWaits, Waits}
 use Rattle.promises.specs.OfficeRuns.{
   Apart,
   Outside,
   Office,
-  Grants,
   grantOf,
   addingAnswer,
   addingLeaves,
@@ -61,6 +58,11 @@ pub record RunsAs (r : OfficeRun) (b : Run) : Type 0 where
   pub barred : (o : Office) (d t : List ℕ) → IsAccepted t → Outside (grantOf (r .grants) o) t
       → (SixAllowed d → answered r (AddFrom o d t) ≡ answerOf 13 0) × (¬ SixAllowed d → answered r (AddFrom o d t) ≡ answerOf 4 0)
 
+-- an accepted command outside its office's grant
+abbrev pub Barred : OfficeRun → OfficeCall → Type 0
+Barred r (AddFrom o d t) = IsAccepted t × Outside (grantOf (r .grants) o) t
+Barred r (TakeAny d out) = ⊥
+
 -- ---- The promises
 
 pub record OfficePromises : Type 0 where
@@ -75,8 +77,12 @@ pub record OfficePromises : Type 0 where
   -- "demand 3 speaks of both offices' accepted commands in order of arrival": all that the board's promises say of the run `alike r`
   pub alike : OfficeRun → Run
   pub as-run : (r : OfficeRun) → RunsAs r (alike r)
+  -- and of its next call: a barred adding is passed over, any other is that run's next call
+  pub goes-on : (r : OfficeRun) (c : OfficeCall) → ¬ Barred r c → alike (andThen r c) ≡ next (alike r) (asBase c)
+  pub passed-over : (r : OfficeRun) (c : OfficeCall) → Barred r c → alike (andThen r c) ≡ alike r
   -- what waits for an aircraft is all of them since the last hand-over, joined in order; it acts as they would have
   pub waits : (r : OfficeRun) (d : List ℕ) → ¬ (acceptedBoth r d ≡ []) → Waits (lentNow r) d (joinOf (acceptedBoth r d))
+  pub fine : (r : OfficeRun) (d : List ℕ) → ¬ (acceptedBoth r d ≡ []) → IsAccepted (joinOf (acceptedBoth r d))
   pub short : (r : OfficeRun) (d : List ℕ) → length (joinOf (acceptedBoth r d)) ≤ longest
   pub acts : (r : OfficeRun) (d : List ℕ) (x : Settings) → ¬ (acceptedBoth r d ≡ [])
       → kept x (joinOf (acceptedBoth r d)) ≡ foldl kept x (acceptedBoth r d)

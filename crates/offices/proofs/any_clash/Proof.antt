@@ -1,6 +1,6 @@
 -- `offices::any_clash` meets its contract. The loop's invariant: what was found so far, or is found from here on, is the test of all.
 use borrow.Author.Needs.{needs}
-use mathlib.Core.Path.{_≡_, refl, sym, ap, _∙_}
+use mathlib.Core.Path.{_≡_, refl, sym, _∙_}
 use mathlib.Core.Bool.{_||_, or-false}
 use Prim.Native.Nat.{_≤_, _-_}
 use native.Mathlib.Omega.{arith}

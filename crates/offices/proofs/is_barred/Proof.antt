@@ -1,6 +1,5 @@
 -- `offices::is_barred` meets its contract.
-use mathlib.Core.Path.{_≡_, refl, sym, ap, _∙_}
-use Prim.Native.Nat.{_-_}
+use mathlib.Core.Path.{sym, _∙_}
 use denote.Ref.{now}
 use mathlib.Core.Bool.{and-false}
 use borrow.Author.Tests.{not-true, not-false}

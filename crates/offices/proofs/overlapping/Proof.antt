@@ -1,6 +1,5 @@
 -- `offices::overlapping` meets its contract.
-use mathlib.Core.Path.{_≡_, refl, sym, ap, _∙_}
-use Prim.Native.Nat.{_-_}
+use mathlib.Core.Path.{_≡_, sym, _∙_}
 use lib.ListN.{length}
 use Rattle.offices.specs.Offices.{overlap}
 use borrow.Author.Needs.{needs}

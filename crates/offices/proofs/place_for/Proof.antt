@@ -1,6 +1,5 @@
 -- `offices::place_for` meets its contract.
-use mathlib.Core.Path.{_≡_, refl, sym, ap, _∙_}
-use Prim.Native.Nat.{_-_}
+use mathlib.Core.Path.{refl, sym, _∙_}
 use denote.Ref.{now}
 use borrow.Author.Tests.{not-true, not-false}
 use Rattle.offices.proofs.Admitted.{overlap-move, free-move, barred-move}

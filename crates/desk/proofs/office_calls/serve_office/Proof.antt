@@ -2,7 +2,6 @@ use borrow.Author.Needs.{needs}
 use Rattle.desk.proofs.office_calls.serve_office.Statement.{statement}
 use Rattle.desk.proofs.office_calls.serve_office.Tie as tie
 use mathlib.Core.Path.{_∙_, ap}
-use Prim.Native.Nat.{_-_}
 use Rattle.desk.specs.Waiting.{servedBy}
 
 place-for-requires : tie.Need-place-for-requires
