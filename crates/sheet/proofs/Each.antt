@@ -1,0 +1,39 @@
+-- Checks one after the other.
+use mathlib.Core.Path.{_≡_, refl, sym, ap, _∙_}
+use Prim.Native.Nat.{ℕ, zero, suc, _+_, _-_, _≤_, _<_}
+use native.Mathlib.Omega.{arith}
+use native.Mathlib.Numerals.{add-one}
+use Rattle.text.specs.declared.Seen.{Seen}
+use Rattle.text.specs.declared.Seen.the-variants.{Fine, Bad}
+use Rattle.text.specs.Checks.{_andThen_}
+use Rattle.text.proofs.Checks.{both-fine}
+use Rattle.text.proofs.Cases.{by-eq}
+use Rattle.sheet.specs.Sheet.{each}
+
+left : (k n : ℕ) → k < n → n - k ≡ suc (n - (k + 1))
+left k n h = omega arith
+
+module _ (f : ℕ → Seen) where
+  pub each-end : (k n : ℕ) → n ≤ k → each f k (n - k) ≡ Fine
+  unfolding each
+  each-end k n h = let e : n - k ≡ 0 = omega arith in rw e
+
+  -- one more is fine
+  pub each-turn : (k n : ℕ) → k < n → f k ≡ Fine → each f k (n - k) ≡ each f (k + 1) (n - (k + 1))
+  unfolding each
+  each-turn k n h e = rw (left k n h, e, add-one)
+
+  -- a refusal
+  pub each-stop : (k n code place : ℕ) → k < n → f k ≡ Bad code place → each f k (n - k) ≡ Bad code place
+  unfolding each
+  each-stop k n code place h e = rw (left k n h, e)
+
+  -- where all are fine, each is
+  pub each-fine : (k n : ℕ) → each f k n ≡ Fine → (i : ℕ) → k ≤ i → i < k + n → f i ≡ Fine
+  unfolding each
+  each-fine k zero e i low high = absurd (omega arith)
+  each-fine k (suc n) e i low high =
+      let both = both-fine (f k) (each f (suc k) n) e in
+      by-eq i k
+      (λ (q : i ≡ k). rw q (both .0))
+      (λ (q : i ≡ k → ⊥). each-fine (suc k) n (both .1) i (omega arith) (omega arith))

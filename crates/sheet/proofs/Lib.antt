@@ -1,0 +1,7 @@
+-- The laws of the sheet's numbers, cells and texts.
+pub mod Choice
+pub mod Scan
+pub mod Small
+pub mod Each
+pub mod Filled
+pub mod Checked

@@ -1,0 +1,83 @@
+use borrow.Author.Needs.{needs}
+use Rattle.sheet.proofs.read.airport_byte.Statement.{statement}
+use Rattle.sheet.proofs.read.airport_byte.Tie as tie
+use borrow.Author.Tests.{eq-eqb, ne-eqb, lt-ltb, le-ltb, le-leb, lt-leb, leb-true, leb-false, not-true, not-false}
+use native.Mathlib.Omega.{arith}
+use Prim.Native.Nat.{ℕ, zero, suc, _+_, _-_, _*_, _/_, _%_, _^_, _≤_, _<_}
+use mathlib.Core.Path.{_≡_, refl, sym, ap, _∙_}
+use denote.Ref.{now}
+use lib.ListN.{length, getD, take, drop}
+use Rattle.sheet.proofs.Small.{cell-small, small-digit, small-number, small-width, small-parts, isStatus, name-near, status-form}
+use native.Mathlib.Numerals.{add-one}
+use Rattle.sheet.specs.Sheet.{airportByte, wordAt, fieldAt, nameCell}
+use Rattle.sheet.specs.Layout.{cellAt}
+use Rattle.sheet.proofs.Small.{status-small}
+
+-- the name's place is known
+near : (c : tie.After-struct-known) → c .before .cell-at .result .at + c .before .cell-at .result .labelled + 4 ≤ 913
+near c =
+    let start = c .before .before .before .before in
+    let n = start .args .i / 5 in
+    rw (c .before .cell-at .ensures) (leb-true (fieldAt (cellAt (nameCell n)) + 4) 913 (name-near n (omega (arith, start .pre .0))))
+
+mul-k : tie.Need-mul-k
+mul-k c = search needs
+
+add-k : tie.Need-add-k
+add-k c = search needs
+
+mul-k-2 : tie.Need-mul-k-2
+mul-k-2 c = search needs
+
+add-k-2 : tie.Need-add-k-2
+add-k-2 c = search needs
+
+add-word-at : tie.Need-add-word-at
+add-word-at c = search needs
+
+word-at-requires : tie.Need-word-at-requires
+word-at-requires c κs = search needs
+
+cast-result : tie.Need-cast-result
+cast-result c =
+    let a = c .before .before .before .args in
+    let w : c .word-at .result ≤ 9 = rw (c .word-at .ensures, add-one) (status-small (now (a .s)) (a .i / 5) (omega (arith, c .before .before .before .pre .0))) in
+    omega (arith, w)
+
+returns : tie.Need-returns
+unfolding airportByte
+returns c = rw (c .word-at .ensures, add-one, eq-eqb _ 4 (c .before .if1 .taken))
+
+cell-at-requires : tie.Need-cell-at-requires
+cell-at-requires c κs = search needs
+
+add-p : tie.Need-add-p
+add-p c = let s = near c in omega (arith, s)
+
+add-p-2 : tie.Need-add-p-2
+add-p-2 c = let s = near c in omega (arith, s)
+
+shared-slice-read-result : tie.Need-shared-slice-read-result
+shared-slice-read-result c = let s = near (c .before) in omega (arith, s, c .before .before .before .if1 .left, c .before .before .before .before .before .pre .1)
+
+returns-2 : tie.Need-returns-2
+unfolding airportByte
+returns-2 c = rw (c .before .before .cell-at .ensures, ne-eqb _ 4 (c .before .before .before .if1 .left))
+
+pub airport-byte-spec : {M : Type 1} → statement M
+airport-byte-spec =
+    tie.close
+    (tie.spec
+    mul-k
+    add-k
+    mul-k-2
+    add-k-2
+    add-word-at
+    word-at-requires
+    cast-result
+    returns
+    cell-at-requires
+    add-p
+    add-p-2
+    shared-slice-read-result
+    returns-2)

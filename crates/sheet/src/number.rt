@@ -1,0 +1,200 @@
+// A number of the sheet, by its field's bytes.
+use crate::Limits;
+use crate::Word;
+use field::digits::is_digit;
+use field::write::put_decimal;
+ghost use mathlib.Core.Path.{_≡_};
+ghost use mathlib.Core.Bool.{true};
+ghost use Prim.Native.Nat.{_-_, _≤_, _<_};
+ghost use lib.ListN.{length, drop};
+ghost use Rattle.packed.specs.Packed.{trim};
+ghost use Rattle.field.specs.Decimal.{allDigits, value};
+ghost use Rattle.sheet.specs.Number.{wordOf, isBelow, sizeOf, within, refused, digitsRead, signedRead, numberRead, blanked, marked, numberText};
+
+// Where the field goes on behind its leading spaces.
+fn behind_spaces(f: &[u8]) -> usize
+    ensures { λ r. ⌜ (r ≤ length (now (f .entry))) × (drop r (now (f .entry)) ≡ trim (now (f .entry))) ⌝ }
+{
+    let mut i = 0;
+    while i < f.len() {
+        if f[i] != b' ' {
+            return i;
+        }
+        i += 1;
+    }
+    i
+}
+
+// Whether every byte is a digit.
+fn all_digits(ds: &[u8]) -> bool
+    ensures { λ r. ⌜ r ≡ allDigits (now (ds .entry)) ⌝ }
+{
+    let mut fine = true;
+    let mut i = 0;
+    while i < ds.len() {
+        fine = fine & is_digit(ds[i]);
+        i += 1;
+    }
+    fine
+}
+
+fn worth(b: u8) -> usize
+    requires { ⌜ 48 ≤ b ⌝ }
+    ensures { λ r. ⌜ r ≡ b - 48 ⌝ }
+{
+    (b as usize) - 48
+}
+
+// What up to six digits spell.
+fn value_of(ds: &[u8]) -> usize
+    requires { ⌜ length (now ds) ≤ 6 ⌝ }
+    requires { ⌜ allDigits (now ds) ≡ true ⌝ }
+    ensures { λ r. ⌜ r ≡ value (now (ds .entry)) ⌝ }
+{
+    let mut n: usize = 0;
+    let mut i = 0;
+    while i < ds.len() {
+        n = n * 10 + worth(ds[i]);
+        i += 1;
+    }
+    n
+}
+
+fn is_within(l: Limits, below: bool, v: usize) -> bool
+    ensures { λ r. ⌜ r ≡ within l below v ⌝ }
+{
+    if below {
+        return v <= l.below;
+    }
+    (l.least <= v) & (v <= l.most)
+}
+
+fn no(code: u8) -> Word
+    ensures { λ r. ⌜ r ≡ refused code ⌝ }
+{
+    Word { code, word: 0 }
+}
+
+fn word_of(below: bool, v: usize) -> u16
+    requires { ⌜ v ≤ 32768 ⌝ }
+    requires { ⌜ (below ≡ true → 0 < v) ⌝ }
+    ensures { λ r. ⌜ r ≡ wordOf below v ⌝ }
+{
+    if below {
+        return (65536 - v) as u16;
+    }
+    v as u16
+}
+
+// The digits behind spaces and sign: 4, then 6, then 5.
+fn read_digits(l: Limits, below: bool, ds: &[u8]) -> Word
+    requires { ⌜ length (now ds) ≤ 6 ⌝ }
+    requires { ⌜ (l .below ≤ 32768) × (l .most ≤ 32767) ⌝ }
+    ensures { λ r. ⌜ r ≡ digitsRead l below (now (ds .entry)) ⌝ }
+{
+    if ds.len() == 0 {
+        return no(4);
+    }
+    if !all_digits(ds) {
+        return no(4);
+    }
+    if (ds[0] == b'0') & (below | (1 < ds.len())) {
+        return no(6);
+    }
+    let v = value_of(ds);
+    if !is_within(l, below, v) {
+        return no(5);
+    }
+    Word {
+        code: 0,
+        word: word_of(below, v),
+    }
+}
+
+// What stands behind the spaces.
+fn read_signed(l: Limits, t: &[u8]) -> Word
+    requires { ⌜ length (now t) ≤ 6 ⌝ }
+    requires { ⌜ (l .below ≤ 32768) × (l .most ≤ 32767) ⌝ }
+    ensures { λ r. ⌜ r ≡ signedRead l (now (t .entry)) ⌝ }
+{
+    let n = t.len();
+    if n == 0 {
+        return no(4);
+    }
+    if t[0] == b'-' {
+        return read_digits(l, true, &t[1..n]);
+    }
+    read_digits(l, false, t)
+}
+
+pub fn read_number(l: Limits, f: &[u8]) -> Word
+    requires { ⌜ length (now f) ≤ 6 ⌝ }
+    requires { ⌜ (l .below ≤ 32768) × (l .most ≤ 32767) ⌝ }
+    ensures { λ r. ⌜ r ≡ numberRead l (now (f .entry)) ⌝ }
+{
+    let i = behind_spaces(f);
+    let n = f.len();
+    read_signed(l, &f[i..n])
+}
+
+// ---- Writing
+
+pub fn is_below(x: u16) -> bool
+    ensures { λ r. ⌜ r ≡ isBelow x ⌝ }
+{
+    32768 <= x
+}
+
+pub fn size_of(x: u16) -> usize
+    ensures { λ r. ⌜ r ≡ sizeOf x ⌝ }
+{
+    if is_below(x) {
+        return 65536 - (x as usize);
+    }
+    x as usize
+}
+
+pub fn is_allowed(l: Limits, x: u16) -> bool
+    ensures { λ r. ⌜ r ≡ within l (isBelow x) (sizeOf x) ⌝ }
+{
+    is_within(l, is_below(x), size_of(x))
+}
+
+// Spaces for the zeros before the first other digit.
+fn blank(d: &mut [u8])
+    ensures { λ _. ⌜ now (d .exit) ≡ blanked (now (d .entry)) ⌝ }
+{
+    let mut i = 0;
+    while i + 1 < d.len() {
+        if d[i] != b'0' {
+            return;
+        }
+        d[i] = b' ';
+        i += 1;
+    }
+}
+
+// `-` for the last of the leading spaces.
+fn mark(d: &mut [u8])
+    ensures { λ _. ⌜ now (d .exit) ≡ marked (now (d .entry)) ⌝ }
+{
+    let mut i = 0;
+    while i + 1 < d.len() {
+        let next = i + 1;
+        if d[next] != b' ' {
+            d[i] = b'-';
+            return;
+        }
+        i = next;
+    }
+}
+
+pub fn put_number(x: u16, d: &mut [u8])
+    ensures { λ _. ⌜ now (d .exit) ≡ numberText (length (now (d .entry))) x ⌝ }
+{
+    put_decimal(d, size_of(x));
+    blank(d);
+    if is_below(x) {
+        mark(d);
+    }
+}
