@@ -5,3 +5,4 @@ pub mod Small
 pub mod Each
 pub mod Filled
 pub mod Checked
+pub mod Contents

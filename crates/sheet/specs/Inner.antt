@@ -1,10 +1,17 @@
 -- What the inner functions ask for. No promise to a caller rests on these names.
-use mathlib.Core.Bool.{Bool, true, _&&_}
-use Prim.Native.Nat.{ℕ}
+use mathlib.Core.Bool.{Bool, true, cond, _&&_}
+use mathlib.Core.List.{List, [], _∷_}
+use Prim.Native.Nat.{ℕ, _+_, _*_, _%_}
+use lib.ListN.{getD, take}
+use mathlib.Core.Path.{_≡_}
+use Rattle.text.specs.Parts.{part}
+use Rattle.sheet.specs.Sheet.{airportOf}
 use lib.Dec.{leb}
 use Rattle.sheet.specs.declared.Form.{Form}
 use Rattle.sheet.specs.declared.Form.the-variants.{Name, Switch, Digit, Number}
 use Rattle.sheet.specs.declared.Cell.{Cell}
+use Rattle.sheet.specs.declared.Held.{Held}
+use Rattle.sheet.specs.Layout.{widthOf}
 
 -- numbers that are read without overflow
 unfoldable pub smallForm : Form → Bool
@@ -15,3 +22,28 @@ smallForm (Number w l) = leb w 6 && (leb (l .below) 32768 && leb (l .most) 32767
 
 unfoldable pub smallCell : Cell → Bool
 smallCell c = leb (c .at) 2000 && (leb (c .labelled) 16 && smallForm (c .form))
+
+-- ---- Writing
+
+-- what a cell holds, by its form: a word, or the bytes of a name
+unfoldable pub heldIs : Form → Held → List ℕ
+heldIs (Name w) h = take w (h .name)
+heldIs Switch h = h .word ∷ []
+heldIs (Digit most) h = h .word ∷ []
+heldIs (Number w l) h = h .word ∷ []
+
+-- of the airports' cells the even ones have a name and the odd ones a status
+abbrev pub airportIs : List ℕ → ℕ → Held → Type 0
+airportIs airports k h =
+    (k % 2 ≡ 0 → take 4 (h .name) ≡ part (5 * airportOf k) 4 airports) × ((k % 2 ≡ 0 → ⊥) → h .word ≡ getD airports (5 * airportOf k + 4) 0)
+
+-- how many bytes a cell is
+unfoldable pub sizeOfCell : Cell → ℕ
+sizeOfCell c = c .labelled + (widthOf (c .form) + cond (c .ends) 2 0)
+
+-- names are no longer than six bytes, and every field has one byte or more
+unfoldable pub heldForm : Form → Bool
+heldForm (Name w) = leb w 6
+heldForm Switch = true
+heldForm (Digit most) = leb most 9
+heldForm (Number w l) = true

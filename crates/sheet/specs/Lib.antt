@@ -1,4 +1,4 @@
 pub mod Number
 pub mod Layout
-pub mod Inner
 pub mod Sheet
+pub mod Inner

@@ -3,6 +3,7 @@ pub mod cells;
 pub mod check;
 mod number;
 pub mod read;
+pub mod write;
 
 // A number's range: how far below zero it may be, and from what to what else.
 pub struct Limits {
@@ -32,6 +33,12 @@ pub struct Cell {
 pub struct Word {
     pub code: u8,
     pub word: u16,
+}
+
+// What a cell holds of a record: a word, or the bytes of a name.
+pub struct Held {
+    pub word: u16,
+    pub name: [u8; 6],
 }
 
 // The record. Its words are C's int16_t: a number below zero is 65536 less its size. Lines 2 to 4, then ten boxes of five words, the
