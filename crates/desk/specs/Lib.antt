@@ -9,6 +9,7 @@ pub mod Orders
 pub mod Outcomes
 pub mod Parts
 pub mod Reports
+pub mod Sheets
 pub mod Steps
 pub mod Tracks
 pub mod Waiting

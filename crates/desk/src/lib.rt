@@ -13,10 +13,12 @@ mod office_calls;
 mod packed_calls;
 mod report_calls;
 mod section_calls;
+mod sheet_calls;
 mod track_calls;
 
 use caller::HostReport;
 use command::Command;
+use sheet::Sheet;
 use track::HostPoint;
 
 // The answer of a call that checks or writes.
@@ -52,6 +54,14 @@ pub struct HostTrack {
     pub count: u32,
     pub spare: u32,
     pub points: [HostPoint; 8],
+}
+
+// The answer of reading a status sheet.
+#[repr(C)]
+pub struct SheetAnswer {
+    pub answer: Answer,
+    pub sheet: Sheet,
+    pub spare: u32,
 }
 
 // The answer of reading a command.

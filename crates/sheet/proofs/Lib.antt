@@ -6,3 +6,5 @@ pub mod Each
 pub mod Filled
 pub mod Checked
 pub mod Contents
+pub mod Spelling
+pub mod TextOfRead
