@@ -36,7 +36,7 @@ native_program := target/native/eskelvor
 
 # Those that make the proved calls for the comparison, one for each group of calls that it compares.
 programs := answer answer_command answer_section answer_config answer_decide answer_join answer_commute answer_board \
-	answer_journal answer_gust
+	answer_journal answer_gust answer_sheet
 
 .PHONY: all demo possible install uninstall test test-desk test-library compare bench growth fuzz replay coverage edits clean
 

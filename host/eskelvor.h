@@ -40,8 +40,9 @@
  * 4.3.0: esk_gust.
  * 4.4.0: esk_difference.
  * 4.5.0: esk_report_track.
- * 4.6.0: esk_office_add, and code 13. */
-#define ESK_VERSION "4.6.0"
+ * 4.6.0: esk_office_add, and code 13.
+ * 4.7.0: the status sheet: esk_sheet_check, esk_sheet_read, esk_sheet_write. */
+#define ESK_VERSION "4.7.0"
 
 #ifdef __cplusplus
 extern "C" {
@@ -864,6 +865,76 @@ typedef struct esk_gust_answer {
  *   5   the row is none of the table's, an input is outside its range, or the gust is below 0 or above 799
  */
 esk_gust_answer esk_gust(uint32_t row, int32_t height, uint32_t mass, uint32_t acceleration, uint32_t speed);
+
+/* ---- the status sheet, AMDARSTATUS3 -------------------------------------------------------------------------------- */
+
+/*
+ * 24 lines, each with CR LF, 913 bytes in all; docs/STATUS-SHEET.md has every field with its place. A record of its own:
+ * no other call takes it, and no command acts on it.
+ */
+
+/* A box. 10 bytes, no padding. North and east are positive. */
+typedef struct esk_sheet_box {
+    int16_t latitude1, longitude1; /* minutes, -5400 to 5400 and -10800 to 10800 */
+    int16_t latitude2, longitude2;
+    int16_t status; /* 1 active, 0 disabled */
+} esk_sheet_box;
+
+/* An airport. 5 bytes, no padding. */
+typedef struct esk_sheet_airport {
+    uint8_t icao[4]; /* 'A' to 'Z' or '0' to '9' */
+    uint8_t status;  /* 1 active, 0 disabled */
+} esk_sheet_airport;
+
+/* 388 bytes, no padding. */
+typedef struct esk_sheet {
+    int16_t ascent;                               /* 1 R active, 0 D disabled */
+    int16_t ascent_interval1, ascent_interval2;   /* hPa, 1 to 99 */
+    int16_t level;                                /* 1 R, 0 D */
+    int16_t level_interval;                       /* seconds, 0 to 999 */
+    int16_t descent;                              /* 1 R, 0 D */
+    int16_t descent_interval1, descent_interval2; /* hPa, 1 to 99 */
+    int16_t trigger1, trigger2;                   /* hPa, 0 to 9999 */
+    int16_t observations;                         /* N, 0 to 99 */
+    int16_t smoothing;                            /* 0 none, 1 ASDAR, 2 arithmetic mean */
+    int16_t profile_constant, cruise_constant, gust_constant, instant_constant; /* 0 to 9 */
+    esk_sheet_box boxes[10];
+    uint8_t designator[6];          /* 'A' to 'Z' or '0' to '9' */
+    esk_sheet_airport airports[50]; /* 1 to 50; a row of the text has r + 1, r + 11, r + 21, r + 31, r + 41 */
+} esk_sheet;
+
+/* The answer of esk_sheet_read. 408 bytes, no padding. Where the answer is a refusal every byte of the sheet is 0. */
+typedef struct esk_sheet_got {
+    esk_answer answer;
+    esk_sheet sheet;
+    uint32_t spare; /* 0 */
+} esk_sheet_got;
+
+/*
+ * Checks a sheet's text, field by field from left to right, and builds nothing. The text is lent for reading. length is 0.
+ * In each field, at its first byte:
+ *   8  the text ends before the field does
+ *   3  a fixed group is wrong
+ *   4  a designator, an airport, a mark or a number has a byte that is not allowed there
+ *   6  a zero before another digit, or -0
+ *   5  a number outside its range
+ * and then, at 913:
+ *   8  bytes behind the last line
+ */
+esk_answer esk_sheet_check(const uint8_t *text, size_t length);
+
+/* Reads a sheet. The answer is that of esk_sheet_check. */
+esk_sheet_got esk_sheet_read(const uint8_t *text, size_t length);
+
+/*
+ * Writes a sheet into the first 913 bytes of out; length is 913. On refusal no byte of out is written. The record first, field by
+ * field in the text's order, at the place where the field would stand:
+ *   4  a designator, an airport or a mark that is none
+ *   5  a number outside its range
+ * and then, at 0:
+ *   2  room below 913
+ */
+esk_answer esk_sheet_write(esk_sheet sheet, uint8_t *out, size_t room);
 
 /* ---- what the library says of itself ---------------------------------------------------------------------------- */
 

@@ -13,6 +13,7 @@ pub mod join;
 pub mod journal;
 pub mod report;
 pub mod section;
+pub mod sheet;
 pub mod track;
 
 use crate::asked::Replies;

@@ -3,6 +3,7 @@
 pub mod faults;
 pub mod forms;
 pub mod journal;
+pub mod sheet;
 pub mod uplink;
 
 use crate::ours;

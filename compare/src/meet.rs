@@ -5,6 +5,7 @@ pub mod uplink;
 
 use crate::ours;
 use crate::second::record::{Observation, Report};
+use crate::second::sheet::{Area, Port, Sheet};
 use crate::second::track::{Point, Track};
 use crate::second::{raw, Refusal};
 
@@ -119,4 +120,76 @@ fn raw_observation(from: &ours::Observation) -> raw::Observation {
         from.vapour,
     ];
     raw::Observation { kind: from.kind, figures: figures.map(raw_figure), quality: from.quality, present: from.present }
+}
+
+/// What esk_sheet_read ought to answer: every byte of the sheet is 0 where it refuses.
+pub fn sheet_got(read: &Result<Sheet, Refusal>) -> ours::SheetGot {
+    let (answer, sheet) = match read {
+        Ok(of) => (answer(Ok(0)), sheet(of)),
+        Err(refusal) => (answer(Err(*refusal)), sheet(&Sheet::default())),
+    };
+    ours::SheetGot { answer, sheet, spare: 0 }
+}
+
+/// A sheet of the second program in the header's struct. Its numbers are those of an accepted text, and so have room.
+pub fn sheet(of: &Sheet) -> ours::Sheet {
+    let short = |number: i32| i16::try_from(number).expect("a number of a sheet has two bytes");
+    ours::Sheet {
+        ascent: short(of.ascent),
+        ascent_interval1: short(of.a1),
+        ascent_interval2: short(of.a2),
+        level: short(of.level),
+        level_interval: short(of.seconds),
+        descent: short(of.descent),
+        descent_interval1: short(of.d1),
+        descent_interval2: short(of.d2),
+        trigger1: short(of.tl1),
+        trigger2: short(of.tl2),
+        observations: short(of.n),
+        smoothing: short(of.method),
+        profile_constant: short(of.profile),
+        cruise_constant: short(of.cruise),
+        gust_constant: short(of.devg),
+        instant_constant: short(of.instant),
+        boxes: of.areas.map(|area| ours::SheetBox {
+            latitude1: short(area.y1),
+            longitude1: short(area.x1),
+            latitude2: short(area.y2),
+            longitude2: short(area.x2),
+            status: short(area.active),
+        }),
+        designator: of.aircraft,
+        airports: of.ports.map(|port| ours::SheetAirport { icao: port.icao, status: port.active as u8 }),
+    }
+}
+
+/// The header's sheet, as the second program is handed it: every member, whatever it holds.
+pub fn raw_sheet(of: &ours::Sheet) -> Sheet {
+    Sheet {
+        aircraft: of.designator,
+        ascent: of.ascent.into(),
+        a1: of.ascent_interval1.into(),
+        a2: of.ascent_interval2.into(),
+        level: of.level.into(),
+        seconds: of.level_interval.into(),
+        descent: of.descent.into(),
+        d1: of.descent_interval1.into(),
+        d2: of.descent_interval2.into(),
+        tl1: of.trigger1.into(),
+        tl2: of.trigger2.into(),
+        n: of.observations.into(),
+        method: of.smoothing.into(),
+        profile: of.profile_constant.into(),
+        cruise: of.cruise_constant.into(),
+        devg: of.gust_constant.into(),
+        instant: of.instant_constant.into(),
+        areas: of.boxes.map(|one| Area {
+            y1: one.latitude1.into(),
+            x1: one.longitude1.into(),
+            y2: one.latitude2.into(),
+            x2: one.longitude2.into(),
+            active: one.status.into(),
+        }),
+        ports: of.airports.map(|one| Port { icao: one.icao, active: one.status.into() }),
+    }
 }

@@ -90,6 +90,56 @@ pub struct Track {
     pub points: [Point; 8],
 }
 
+/// Latitude and longitude of two corners, status.
+#[repr(C)]
+#[derive(Clone, Copy, Debug, Default, PartialEq, Eq)]
+pub struct SheetBox {
+    pub latitude1: i16,
+    pub longitude1: i16,
+    pub latitude2: i16,
+    pub longitude2: i16,
+    pub status: i16,
+}
+
+#[repr(C)]
+#[derive(Clone, Copy, Debug, Default, PartialEq, Eq)]
+pub struct SheetAirport {
+    pub icao: [u8; 4],
+    pub status: u8,
+}
+
+#[repr(C)]
+#[derive(Clone, Copy, Debug, PartialEq, Eq)]
+pub struct Sheet {
+    pub ascent: i16,
+    pub ascent_interval1: i16,
+    pub ascent_interval2: i16,
+    pub level: i16,
+    pub level_interval: i16,
+    pub descent: i16,
+    pub descent_interval1: i16,
+    pub descent_interval2: i16,
+    pub trigger1: i16,
+    pub trigger2: i16,
+    pub observations: i16,
+    pub smoothing: i16,
+    pub profile_constant: i16,
+    pub cruise_constant: i16,
+    pub gust_constant: i16,
+    pub instant_constant: i16,
+    pub boxes: [SheetBox; 10],
+    pub designator: [u8; 6],
+    pub airports: [SheetAirport; 50],
+}
+
+#[repr(C)]
+#[derive(Clone, Copy, Debug, PartialEq, Eq)]
+pub struct SheetGot {
+    pub answer: Answer,
+    pub sheet: Sheet,
+    pub spare: u32,
+}
+
 // The header promises sizes without padding; where a size is the sum of its members, so are the offsets.
 const _: () = {
     assert!(size_of::<Answer>() == 16 && offset_of!(Answer, length) == 8);
@@ -110,6 +160,14 @@ const _: () = {
     assert!(size_of::<ReportGot>() == 640 && offset_of!(ReportGot, report) == 16);
     assert!(size_of::<Point>() == 24 && offset_of!(Point, longitude) == 8 && offset_of!(Point, seconds) == 16);
     assert!(size_of::<Track>() == 216 && offset_of!(Track, count) == 16 && offset_of!(Track, points) == 24);
+    assert!(size_of::<SheetBox>() == 10 && offset_of!(SheetBox, longitude2) == 6 && offset_of!(SheetBox, status) == 8);
+    assert!(size_of::<SheetAirport>() == 5 && offset_of!(SheetAirport, status) == 4);
+    assert!(size_of::<Sheet>() == 388 && offset_of!(Sheet, descent) == 10 && offset_of!(Sheet, trigger1) == 16);
+    assert!(
+        offset_of!(Sheet, smoothing) == 22 && offset_of!(Sheet, boxes) == 32 && offset_of!(Sheet, designator) == 132
+    );
+    assert!(offset_of!(Sheet, airports) == 138);
+    assert!(size_of::<SheetGot>() == 408 && offset_of!(SheetGot, sheet) == 16 && offset_of!(SheetGot, spare) == 404);
 };
 
 /// A struct of the header, as bytes: all members are numbers, and there is no padding.
@@ -124,6 +182,8 @@ unsafe impl Plain for Packed {}
 unsafe impl Plain for GustAnswer {}
 unsafe impl Plain for Report {}
 unsafe impl Plain for ReportGot {}
+unsafe impl Plain for Sheet {}
+unsafe impl Plain for SheetGot {}
 unsafe impl Plain for Track {}
 
 pub fn bytes_of<T: Plain>(of: &T) -> &[u8] {

@@ -84,6 +84,40 @@ static void gust(input from)
     hold("answer", &ours, &second, sizeof ours);
 }
 
+/* The input is the text. */
+static void sheet_check(input from)
+{
+    lent text = lend_rest(&from);
+    esk_answer ours = esk_sheet_check(text.ours, text.length);
+    esk_answer second = second_sheet_check(text.second, text.length);
+    hold("answer", &ours, &second, sizeof ours);
+    give_back("text", text);
+}
+
+/* The input is the text. */
+static void sheet_read(input from)
+{
+    lent text = lend_rest(&from);
+    esk_sheet_got ours = esk_sheet_read(text.ours, text.length);
+    esk_sheet_got second = second_sheet_read(text.second, text.length);
+    hold("answer", &ours.answer, &second.answer, sizeof ours.answer);
+    hold("sheet", &ours.sheet, &second.sheet, sizeof ours.sheet);
+    hold("spare", &ours.spare, &second.spare, sizeof ours.spare);
+    give_back("text", text);
+}
+
+/* Room, record. */
+static void sheet_write(input from)
+{
+    lent out = lend_room(take_short(&from));
+    esk_sheet sheet;
+    take_into(&from, &sheet, sizeof sheet);
+    esk_answer ours = esk_sheet_write(sheet, out.ours, out.length);
+    esk_answer second = second_sheet_write(sheet, out.second, out.length);
+    hold("answer", &ours, &second, sizeof ours);
+    give_back("out", out);
+}
+
 const target downlink_targets[] = {
     {"esk_packed_read", "answer field", packed_read},
     {"esk_packed_write", "answer out", packed_write},
@@ -92,5 +126,8 @@ const target downlink_targets[] = {
     {"esk_report_track", "answer check count spare points text", report_track},
     {"esk_report_write", "answer out", report_write},
     {"esk_gust", "answer", gust},
+    {"esk_sheet_check", "answer text", sheet_check},
+    {"esk_sheet_read", "answer sheet spare text", sheet_read},
+    {"esk_sheet_write", "answer out", sheet_write},
     {NULL, NULL, NULL},
 };

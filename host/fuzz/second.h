@@ -15,6 +15,10 @@ esk_report_got second_report_read(const uint8_t *text, size_t length);
 esk_track second_report_track(const uint8_t *text, size_t length);
 esk_answer second_report_write(esk_report report, uint8_t *out, size_t room);
 
+esk_answer second_sheet_check(const uint8_t *text, size_t length);
+esk_sheet_got second_sheet_read(const uint8_t *text, size_t length);
+esk_answer second_sheet_write(esk_sheet sheet, uint8_t *out, size_t room);
+
 esk_gust_answer second_gust(uint32_t row, int32_t height, uint32_t mass, uint32_t acceleration, uint32_t speed);
 
 esk_answer second_command_check(const uint8_t *text, size_t length);

@@ -100,12 +100,18 @@ static void sizes(void)
     SIZE(esk_part);
     SIZE(esk_commute_answer);
     SIZE(esk_gust_answer);
+    SIZE(esk_sheet_box);
+    SIZE(esk_sheet_airport);
+    SIZE(esk_sheet);
+    SIZE(esk_sheet_got);
     /* as the header's comments say them */
     HOLD(esk_size_of("esk_report") == 624 && esk_size_of("esk_settings") == 614 && esk_size_of("esk_slot") == 8);
     HOLD(esk_size_of("esk_grant") == 16);
     HOLD(esk_size_of("esk_entry") == 32 && esk_size_of("esk_part") == 16 && esk_size_of("esk_commute_answer") == 16);
     HOLD(esk_size_of("esk_gust_answer") == 8 && esk_size_of("esk_differing") == 32);
     HOLD(esk_size_of("esk_point") == 24 && esk_size_of("esk_track") == 216);
+    HOLD(esk_size_of("esk_sheet_box") == 10 && esk_size_of("esk_sheet_airport") == 5);
+    HOLD(esk_size_of("esk_sheet") == 388 && esk_size_of("esk_sheet_got") == 408);
     HOLD(esk_size_of(NULL) == 0 && esk_size_of("") == 0 && esk_size_of("report") == 0);
     HOLD(esk_size_of("esk_answe") == 0 && esk_size_of("esk_answers") == 0 && esk_size_of("ESK_ANSWER") == 0);
 }

@@ -4,9 +4,9 @@
 mod uplink;
 
 use desk_compare::meet;
-use desk_compare::ours::{Answer, Figure, GustAnswer, Packed, Report, ReportGot};
+use desk_compare::ours::{Answer, Figure, GustAnswer, Packed, Report, ReportGot, Sheet, SheetGot};
 use desk_compare::second::gust::{gust, Felt};
-use desk_compare::second::{packed, report, write};
+use desk_compare::second::{packed, report, sheet, write};
 use std::slice;
 
 /// A byte string as C lends it; NULL with length 0 is the empty one.
@@ -78,4 +78,25 @@ pub unsafe extern "C" fn second_report_write(report: Report, out: *mut u8, room:
 #[no_mangle]
 pub extern "C" fn second_gust(row: u32, height: i32, mass: u32, acceleration: u32, speed: u32) -> GustAnswer {
     meet::gust(gust(row, &Felt { height, mass, acceleration, speed }))
+}
+
+/// # Safety
+/// As above.
+#[no_mangle]
+pub unsafe extern "C" fn second_sheet_check(text: *const u8, length: usize) -> Answer {
+    meet::answer(sheet::check(lent(text, length)).map(|()| 0))
+}
+
+/// # Safety
+/// As above.
+#[no_mangle]
+pub unsafe extern "C" fn second_sheet_read(text: *const u8, length: usize) -> SheetGot {
+    meet::sheet_got(&sheet::read(lent(text, length)))
+}
+
+/// # Safety
+/// As above.
+#[no_mangle]
+pub unsafe extern "C" fn second_sheet_write(of: Sheet, out: *mut u8, room: usize) -> Answer {
+    meet::answer(sheet::write(&meet::raw_sheet(&of), lent_mut(out, room)))
 }

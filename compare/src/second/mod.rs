@@ -19,6 +19,7 @@ pub mod raw;
 pub mod record;
 pub mod report;
 pub mod settings;
+pub mod sheet;
 pub mod spell;
 pub mod track;
 pub mod write;

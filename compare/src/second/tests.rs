@@ -13,6 +13,7 @@ mod offices;
 mod parts;
 mod reasons;
 mod records;
+mod sheets;
 mod tracks;
 
 use super::record::{Report, BYTES};

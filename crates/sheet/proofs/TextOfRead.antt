@@ -8,7 +8,7 @@ use native.Mathlib.Nat.{add-zero, add-assoc, zero-add}
 use lib.Dec.{leb, ltb, eqb}
 use lib.ListN.{length, getD, take, drop}
 use lib.Seq.{take-all, length-take-le}
-use borrow.Author.Tests.{eq-eqb, ne-eqb, lt-ltb, le-ltb, le-leb, lt-leb, leb-true, eqb-true}
+use borrow.Author.Tests.{eq-eqb, ne-eqb, lt-ltb, le-ltb, le-leb, lt-leb, leb-true, ltb-true, eqb-true}
 use Rattle.text.specs.Parts.{part}
 use Rattle.text.specs.Equal.{sameBytes}
 use Rattle.text.specs.Names.{between, allAllowed}
@@ -32,7 +32,7 @@ use Rattle.sheet.specs.Layout.{widthOf, cellAt, boxCell, airportCell}
 use Rattle.sheet.specs.Inner.{smallForm, sizeOfCell}
 use Rattle.sheet.specs.Sheet.{seen, fieldAt, fieldEnd, labelOf, lineEnd, fixedCode, one, digitRead, switchRead, bytesRead, fieldRead, checkCell, checkSheet, wordAt, nameCell, airportByte, airportOf, sheetAt, heldAt, fieldText, cellText, joined, heldText, sheetText}
 use Rattle.sheet.proofs.Small.{every, cell-small, small-parts, small-number}
-use Rattle.sheet.proofs.Contents.{seen-fine, sizes, sizes-all, label-length, isWord, isFour, word-cell, name-cell, status-cell, part-four}
+use Rattle.sheet.proofs.Contents.{seen-fine, sizes, sizes-more, sizes-all, joined-more, label-length, isWord, isFour, word-cell, name-cell, status-cell, part-four}
 use Rattle.sheet.proofs.Checked.{checked-length, checked-cell}
 use Rattle.sheet.proofs.Filled.{values-at, values-length}
 use Rattle.sheet.proofs.Spelling.{one-spelling}
@@ -141,3 +141,155 @@ module _ (s : List ℕ) (c : Cell) (fine : checkCell s c ≡ Fine) where
       ∙ ap (λ (t : List ℕ). labelOf c ++ t) (part-add s (fieldAt c) (widthOf (c .form)) (cond (c .ends) 2 0))
       ∙ ap (λ (t : List ℕ). labelOf c ++ (t ++ part (fieldEnd c) (cond (c .ends) 2 0) s)) (sym field)
       ∙ ap (λ (t : List ℕ). labelOf c ++ (fieldText (c .form) (contentOf (c .form) (part (fieldAt c) (widthOf (c .form)) s)) ++ t)) ends-there
+
+-- ---- a sheet
+
+word-content : (form : Form) (f : List ℕ) → isWord form ≡ true → contentOf form f ≡ bytesRead form f .word ∷ []
+unfolding contentOf
+word-content (Name w) f e = let z : _≡_ {A = ℕ} 0 1 = ap (λ (t : Bool). cond t 1 0) e in absurd (omega arith)
+word-content Switch f e = refl
+word-content (Digit most) f e = refl
+word-content (Number w l) f e = refl
+
+name-content : (form : Form) (s : List ℕ) (at : ℕ) → isFour form ≡ true → contentOf form (part at (widthOf form) s) ≡ part at 4 s
+unfolding contentOf widthOf
+name-content (Name w) s at e = ap (λ (n : ℕ). part at n s) (eqb-true w 4 e)
+name-content Switch s at e = let z : _≡_ {A = ℕ} 0 1 = ap (λ (t : Bool). cond t 1 0) e in absurd (omega arith)
+name-content (Digit most) s at e = let z : _≡_ {A = ℕ} 0 1 = ap (λ (t : Bool). cond t 1 0) e in absurd (omega arith)
+name-content (Number w l) s at e = let z : _≡_ {A = ℕ} 0 1 = ap (λ (t : Bool). cond t 1 0) e in absurd (omega arith)
+
+four-wide : (form : Form) → isFour form ≡ true → widthOf form ≡ 4
+unfolding widthOf
+four-wide (Name w) e = eqb-true w 4 e
+four-wide Switch e = let z : _≡_ {A = ℕ} 0 1 = ap (λ (t : Bool). cond t 1 0) e in absurd (omega arith)
+four-wide (Digit most) e = let z : _≡_ {A = ℕ} 0 1 = ap (λ (t : Bool). cond t 1 0) e in absurd (omega arith)
+four-wide (Number w l) e = let z : _≡_ {A = ℕ} 0 1 = ap (λ (t : Bool). cond t 1 0) e in absurd (omega arith)
+
+-- a byte of an airport's name, and its status
+name-byte : (s : List ℕ) (n j : ℕ) → j < 4 → airportByte s (5 * n + j) ≡ getD s (fieldAt (cellAt (nameCell n)) + j) 0
+unfolding airportByte
+name-byte s n j h =
+    let a : (5 * n + j) % 5 ≡ j = omega arith in
+    let b : (5 * n + j) / 5 ≡ n = omega arith in
+    rw (a, b, ne-eqb j 4 (λ (e : j ≡ 4). omega arith))
+
+status-byte : (s : List ℕ) (n : ℕ) → airportByte s (5 * n + 4) ≡ wordAt s (suc (nameCell n))
+unfolding airportByte
+status-byte s n =
+    let a : (5 * n + 4) % 5 ≡ 4 = omega arith in
+    let b : (5 * n + 4) / 5 ≡ n = omega arith in
+    rw (a, b)
+
+-- the airport of a cell, and the cell of an airport
+name-cells-back : (m : ℕ) → m < 50 → eqb (nameCell (airportOf (2 * m))) (67 + 2 * m) ≡ true
+name-cells-back = every (λ m. eqb (nameCell (airportOf (2 * m))) (67 + 2 * m)) 50 refl
+
+status-cells-back : (m : ℕ) → m < 50 → eqb (nameCell (airportOf (2 * m + 1))) (67 + 2 * m) ≡ true
+status-cells-back = every (λ m. eqb (nameCell (airportOf (2 * m + 1))) (67 + 2 * m)) 50 refl
+
+airports-few : (m : ℕ) → m < 100 → ltb (airportOf m) 50 ≡ true
+airports-few = every (λ m. ltb (airportOf m) 50) 100 refl
+
+first-cell : (cellAt 0 .form ≡ Name 6) × (fieldAt (cellAt 0) ≡ 15)
+unfolding cellAt
+first-cell = (refl, refl)
+
+first-content : (s : List ℕ) → contentOf (cellAt 0 .form) (part (fieldAt (cellAt 0)) (widthOf (cellAt 0 .form)) s) ≡ part (fieldAt (cellAt 0)) 6 s
+unfolding cellAt contentOf widthOf
+first-content s = refl
+
+both-none : (s : List ℕ) (x : Sheet) → joined (heldText x) 0 0 ≡ part 0 (sizes 0 0) s
+unfolding joined sizes
+both-none s x = refl
+
+-- each cell stands where those before it end
+places : (k : ℕ) → k < 167 → eqb (cellAt k .at) (sizes 0 k) ≡ true
+unfolding sizes sizeOfCell cellAt boxCell airportCell widthOf
+places = every (λ k. eqb (cellAt k .at) (sizes 0 k)) 167 refl
+
+module _ (s : List ℕ) (fine : checkSheet s ≡ Fine) where
+  -- a word is what its field is read as
+  word-is : (k : ℕ) → k < 167 → wordAt s k ≡ bytesRead (cellAt k .form) (part (fieldAt (cellAt k)) (widthOf (cellAt k .form)) s) .word
+  word-is k h =
+      ap (λ (x : Word). x .word) (field-there (cellAt k .form) s (fieldAt (cellAt k)) (field-fine s (cellAt k) (checked-cell s fine k h)) .1)
+
+  word-back : (k : ℕ) → k < 167 → isWord (cellAt k .form) ≡ true
+      → wordAt s k ∷ [] ≡ contentOf (cellAt k .form) (part (fieldAt (cellAt k)) (widthOf (cellAt k .form)) s)
+  word-back k h e = ap (λ (x : ℕ). x ∷ []) (word-is k h) ∙ sym (word-content (cellAt k .form) (part (fieldAt (cellAt k)) (widthOf (cellAt k .form)) s) e)
+
+  name-back : (k n : ℕ) → k < 167 → n < 50 → nameCell n ≡ k → isFour (cellAt k .form) ≡ true
+      → part (5 * n) 4 (values (airportByte s) 0 250) ≡ contentOf (cellAt k .form) (part (fieldAt (cellAt k)) (widthOf (cellAt k .form)) s)
+  name-back k n h few is e =
+      let v = values (airportByte s) 0 250 in
+      let long = values-length (airportByte s) 0 250 in
+      let at = fieldAt (cellAt (nameCell n)) in
+      let byte : (j : ℕ) → j < 4 → getD v (5 * n + j) 0 ≡ getD s (at + j) 0 =
+      λ (j : ℕ) (q : j < 4). values-at (airportByte s) 0 250 (5 * n + j) (omega arith) ∙ ap (airportByte s) (zero-add (5 * n + j)) ∙ name-byte s n j q in
+      let zero-byte : getD v (5 * n) 0 ≡ getD s at 0 =
+      ap (λ (q : ℕ). getD v q 0) (sym (add-zero (5 * n))) ∙ byte 0 (omega arith) ∙ ap (λ (q : ℕ). getD s q 0) (add-zero at) in
+      let room = field-there (cellAt k .form) s (fieldAt (cellAt k)) (field-fine s (cellAt k) (checked-cell s fine k h)) .0 in
+      let four : widthOf (cellAt k .form) ≡ 4 = four-wide (cellAt k .form) e in
+      let near : at + 4 ≤ length s = rw is (omega (arith, room, four)) in
+      sym (part-four v (5 * n) (omega (arith, long)))
+      ∙ rw (zero-byte, byte 1 (omega arith), byte 2 (omega arith), byte 3 (omega arith)) (part-four s at near)
+      ∙ ap (λ (j : ℕ). part (fieldAt (cellAt j)) 4 s) is
+      ∙ sym (name-content (cellAt k .form) s (fieldAt (cellAt k)) e)
+
+  -- what a cell holds of the record is what its field is read as
+  pub held-back : (k : ℕ) → k < 167
+      → heldAt (sheetAt s) k ≡ contentOf (cellAt k .form) (part (fieldAt (cellAt k)) (widthOf (cellAt k .form)) s)
+  unfolding heldAt sheetAt
+  held-back k h =
+      by-eq k 0
+      (λ (e : k ≡ 0). rw e (sym (first-content s)))
+      (λ (n : k ≡ 0 → ⊥).
+      by-lt k 17
+      (λ (l : k < 17).
+      let e : 1 + (k - 1) ≡ k = omega arith in
+      rw (ne-eqb k 0 n, lt-ltb k 17 l) (ap (λ (x : ℕ). x ∷ []) (values-at (wordAt s) 1 16 (k - 1) (omega arith) ∙ ap (wordAt s) e) ∙ word-back k h (word-cell k (omega arith) (omega arith))))
+      (λ (m : 17 ≤ k).
+      by-lt k 67
+      (λ (l : k < 67).
+      let e : 17 + (k - 17) ≡ k = omega arith in
+      rw (ne-eqb k 0 n, le-ltb k 17 m, lt-ltb k 67 l) (ap (λ (x : ℕ). x ∷ []) (values-at (wordAt s) 17 50 (k - 17) (omega arith) ∙ ap (wordAt s) e) ∙ word-back k h (word-cell k (omega arith) l)))
+      (λ (q : 67 ≤ k).
+      let j : ℕ = k - 67 in
+      let few : airportOf j < 50 = ltb-true (airportOf j) 50 (airports-few j (omega arith)) in
+      by-eq (j % 2) 0
+      (λ (e : j % 2 ≡ 0).
+      let two : 2 * (j / 2) ≡ j = omega arith in
+      let cell : nameCell (airportOf j) ≡ k = ap (λ (i : ℕ). nameCell (airportOf i)) (sym two) ∙ eqb-true (nameCell (airportOf (2 * (j / 2)))) (67 + 2 * (j / 2)) (name-cells-back (j / 2) (omega arith)) ∙ omega arith in
+      rw (ne-eqb k 0 n, le-ltb k 17 m, le-ltb k 67 q, eq-eqb (j % 2) 0 e) (name-back k (airportOf j) h few cell (name-cell k q h e)))
+      (λ (e : j % 2 ≡ 0 → ⊥).
+      let two : 2 * (j / 2) + 1 ≡ j = omega arith in
+      let cell : suc (nameCell (airportOf j)) ≡ k = ap suc (ap (λ (i : ℕ). nameCell (airportOf i)) (sym two) ∙ eqb-true (nameCell (airportOf (2 * (j / 2) + 1))) (67 + 2 * (j / 2)) (status-cells-back (j / 2) (omega arith))) ∙ omega arith in
+      rw (ne-eqb k 0 n, le-ltb k 17 m, le-ltb k 67 q, ne-eqb (j % 2) 0 e)
+      (ap (λ (x : ℕ). x ∷ []) (values-at (airportByte s) 0 250 (5 * airportOf j + 4) (omega arith) ∙ ap (airportByte s) (zero-add (5 * airportOf j + 4)) ∙ status-byte s (airportOf j) ∙ ap (wordAt s) cell)
+      ∙ word-back k h (status-cell k q h e))))))
+
+  -- the texts of the first n cells are the bytes up to where they end
+  cells-back : (n : ℕ) → n ≤ 167 → joined (heldText (sheetAt s)) 0 n ≡ part 0 (sizes 0 n) s
+  cells-back zero h = both-none s (sheetAt s)
+  cells-back (suc n) h =
+      let few : n < 167 = h in
+      let at : cellAt n .at ≡ sizes 0 n = eqb-true (cellAt n .at) (sizes 0 n) (places n few) in
+      let small = small-parts (cellAt n) (cell-small n few) in
+      let text = cell-spelt s (cellAt n) (checked-cell s fine n few) (small .1 .1) (label-length n few) in
+      let more : suc n ≡ n + 1 = omega arith in
+      rw more
+      (joined-more (heldText (sheetAt s)) 0 n
+      ∙ ap (λ (i : ℕ). joined (heldText (sheetAt s)) 0 n ++ heldText (sheetAt s) i) (zero-add n)
+      ∙ ap (λ (t : List ℕ). t ++ heldText (sheetAt s) n) (cells-back n (omega arith))
+      ∙ ap (λ (v : List ℕ). part 0 (sizes 0 n) s ++ cellText (cellAt n) v) (held-back n few)
+      ∙ ap (λ (t : List ℕ). part 0 (sizes 0 n) s ++ t) (sym text)
+      ∙ ap (λ (p : ℕ). part 0 (sizes 0 n) s ++ part p (sizeOfCell (cellAt n)) s) (at ∙ sym (zero-add (sizes 0 n)))
+      ∙ sym (part-add s 0 (sizes 0 n) (sizeOfCell (cellAt n)))
+      ∙ ap (λ (m : ℕ). part 0 m s) (sym (sizes-more 0 n ∙ ap (λ (i : ℕ). sizes 0 n + sizeOfCell (cellAt i)) (zero-add n))))
+
+  -- an accepted text is the text of its record
+  pub text-of-read : sheetText (sheetAt s) ≡ s
+  unfolding sheetText
+  text-of-read =
+      cells-back 167 (omega arith)
+      ∙ ap (λ (m : ℕ). part 0 m s) sizes-all
+      ∙ take-all 913 s (omega (arith, checked-length s fine))

@@ -2,7 +2,7 @@
 
 pub mod uplink;
 
-use desk_compare::ours::{Answer, Figure, GustAnswer, Packed, Report, ReportGot};
+use desk_compare::ours::{Answer, Figure, GustAnswer, Packed, Report, ReportGot, Sheet, SheetGot};
 
 extern "C" {
     fn esk_packed_read(field: *const u8, length: usize) -> Packed;
@@ -11,6 +11,9 @@ extern "C" {
     fn esk_report_read(text: *const u8, length: usize) -> ReportGot;
     fn esk_report_track(text: *const u8, length: usize) -> desk_compare::ours::Track;
     fn esk_report_write(report: Report, out: *mut u8, room: usize) -> Answer;
+    fn esk_sheet_check(text: *const u8, length: usize) -> Answer;
+    fn esk_sheet_read(text: *const u8, length: usize) -> SheetGot;
+    fn esk_sheet_write(sheet: Sheet, out: *mut u8, room: usize) -> Answer;
     fn esk_gust(row: u32, height: i32, mass: u32, acceleration: u32, speed: u32) -> GustAnswer;
 }
 
@@ -45,6 +48,21 @@ pub fn report_track(text: &[u8]) -> desk_compare::ours::Track {
 #[inline(always)]
 pub fn report_write(report: Report, out: &mut [u8]) -> Answer {
     unsafe { esk_report_write(report, out.as_mut_ptr(), out.len()) }
+}
+
+#[inline(always)]
+pub fn sheet_check(text: &[u8]) -> Answer {
+    unsafe { esk_sheet_check(text.as_ptr(), text.len()) }
+}
+
+#[inline(always)]
+pub fn sheet_read(text: &[u8]) -> SheetGot {
+    unsafe { esk_sheet_read(text.as_ptr(), text.len()) }
+}
+
+#[inline(always)]
+pub fn sheet_write(sheet: Sheet, out: &mut [u8]) -> Answer {
+    unsafe { esk_sheet_write(sheet, out.as_mut_ptr(), out.len()) }
 }
 
 #[inline(always)]

@@ -31,6 +31,8 @@ mod measure;
 mod reports;
 #[cfg(linked)]
 mod sections;
+#[cfg(linked)]
+mod sheets;
 
 #[cfg(linked)]
 fn main() {
@@ -44,6 +46,7 @@ fn main() {
     let bench = measure::Bench::start(word);
     reports::rows(&bench);
     gusts::rows(&bench);
+    sheets::rows(&bench);
     commands::rows(&bench);
     sections::rows(&bench);
     configs::rows(&bench);

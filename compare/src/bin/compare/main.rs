@@ -21,6 +21,7 @@
 //!     journal-add BUFFER END DESIGNATOR TEXT        journal-drop BUFFER END COUNT
 //!     journal-print BUFFER END ROOM                 journal-replay BUFFER END DESIGNATOR
 //!     gust ROW HEIGHT MASS ACCELERATION SPEED
+//!     sheet HEX                                     sheet-record HEX ROOM
 //!
 //! It runs in the repository's root, and asks the proved calls through host/tool (`make compare ARGS=..`); each group has
 //! its own program in host/test that makes its calls.
@@ -45,18 +46,19 @@ mod records;
 mod reports;
 mod run;
 mod sections;
+mod sheets;
 mod tracks;
 
 use run::{Options, Run};
 use std::process::exit;
 
 const USAGE: &str = "compare [--seed N] [--long] [--groups GROUP,.. | --only FAMILY] | compare case WORDS
-groups: report, command, section, config, decide, explain, join, commute, board, journal, gust, all";
+groups: report, command, section, config, decide, explain, join, commute, board, journal, gust, sheet, all";
 
 type Group = (&'static str, fn(&mut Run));
 
 /// Each group and its families.
-const GROUPS: [Group; 11] = [
+const GROUPS: [Group; 12] = [
     ("report", |run| {
         packed::families(run);
         reports::families(run);
@@ -83,6 +85,7 @@ const GROUPS: [Group; 11] = [
     }),
     ("journal", journals::families),
     ("gust", gusts::families),
+    ("sheet", sheets::families),
 ];
 
 /// The groups whose calls the archive has.
@@ -99,6 +102,7 @@ fn standing() -> Vec<String> {
         ("board", cfg!(feature = "board")),
         ("journal", cfg!(feature = "journal")),
         ("gust", cfg!(feature = "gust")),
+        ("sheet", cfg!(feature = "sheet")),
     ];
     groups.iter().filter(|(_, stands)| *stands).map(|(name, _)| name.to_string()).collect()
 }

@@ -1,7 +1,9 @@
 //! One case from the command line, as a mismatch prints it.
 
 use crate::run;
-use desk_compare::cases::{board, command, commute, config, decide, explain, gust, join, journal, report, section};
+use desk_compare::cases::{
+    board, command, commute, config, decide, explain, gust, join, journal, report, section, sheet,
+};
 use desk_compare::ours::{self, of_bytes, Plain};
 use desk_compare::second::gust::Felt;
 
@@ -27,6 +29,7 @@ pub fn case(words: &[String]) -> Result<i32, String> {
         Some(&("board-check" | "board-add" | "board-take" | "office-add")) => run::one(board_case(&words)?),
         Some(word) if word.starts_with("journal-") => run::one(journal_case(&words)?),
         Some(&"gust") => run::one(gust_case(&words)?),
+        Some(&("sheet" | "sheet-record")) => run::one(sheet_case(&words)?),
         _ => no_such_case(),
     }
 }
@@ -44,6 +47,14 @@ fn report_case(words: &[&str]) -> Result<report::Case, String> {
         }
         ["report", text] => report::Case::Report(bytes(text)?),
         ["record", record, at] => report::Case::Record { record: plain(record)?, room: room(at)? },
+        _ => return no_such_case(),
+    })
+}
+
+fn sheet_case(words: &[&str]) -> Result<sheet::Case, String> {
+    Ok(match words {
+        ["sheet", text] => sheet::Case::Text(bytes(text)?),
+        ["sheet-record", record, at] => sheet::Case::Record { record: plain(record)?, room: room(at)? },
         _ => return no_such_case(),
     })
 }

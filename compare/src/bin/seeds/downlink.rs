@@ -1,7 +1,7 @@
 //! Seeds of packed figures, reports and gusts.
 
-use desk_compare::figures::{PACKED, REPORT};
-use desk_compare::make::{figure_of_digits, forms, record_of, text};
+use desk_compare::figures::{sheet, PACKED, REPORT};
+use desk_compare::make::{self, figure_of_digits, forms, record_of, text};
 use desk_compare::meet;
 use desk_compare::ours::{bytes_of, Figure};
 use desk_compare::random::Random;
@@ -47,4 +47,24 @@ pub fn gust(random: &mut Random, index: usize) -> Vec<u8> {
     let mass = random.between(2, 200) * 1000;
     let numbers = [row, random.between(-1000, 50_000), mass, random.between(0, 300), random.between(100, 350)];
     numbers.map(i32::to_le_bytes).concat()
+}
+
+/// The printed sheet, and others.
+pub fn sheet_text(random: &mut Random, index: usize) -> Vec<u8> {
+    match index {
+        0 => sheet(),
+        _ => make::sheet::text(&make::sheet::record(random)),
+    }
+}
+
+/// Room, record: the last ones have a number that is not allowed.
+pub fn sheet_write(random: &mut Random, index: usize) -> Vec<u8> {
+    let mut record = meet::sheet(&make::sheet::record(random));
+    match index {
+        9 => record.level_interval = 1000,
+        10 => record.boxes[9].status = 2,
+        11 => record.airports[49].icao[3] = b' ',
+        _ => {}
+    }
+    [&913u16.to_le_bytes()[..], bytes_of(&record)].concat()
 }

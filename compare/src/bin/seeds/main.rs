@@ -15,7 +15,7 @@ const COUNT: usize = 12;
 /// One input of a call; `index` runs through the forms that differ most.
 type Maker = fn(&mut Random, usize) -> Vec<u8>;
 
-const CALLS: [(&str, Maker); 28] = [
+const CALLS: [(&str, Maker); 31] = [
     ("esk_packed_read", downlink::packed_read),
     ("esk_packed_write", downlink::packed_write),
     ("esk_report_check", downlink::report_text),
@@ -23,6 +23,9 @@ const CALLS: [(&str, Maker); 28] = [
     ("esk_report_track", downlink::report_text),
     ("esk_report_write", downlink::report_write),
     ("esk_gust", downlink::gust),
+    ("esk_sheet_check", downlink::sheet_text),
+    ("esk_sheet_read", downlink::sheet_text),
+    ("esk_sheet_write", downlink::sheet_write),
     ("esk_command_check", uplink::command_text),
     ("esk_command_read", uplink::command_text),
     ("esk_command_write", uplink::command_write),
