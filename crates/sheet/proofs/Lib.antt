@@ -8,3 +8,4 @@ pub mod Checked
 pub mod Contents
 pub mod Spelling
 pub mod TextOfRead
+pub mod Spelt

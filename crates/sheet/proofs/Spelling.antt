@@ -42,12 +42,12 @@ lead-is (b ∷ f) =
 
 -- ---- zeros before digits
 
-pad-digits : (n : ℕ) (ds : List ℕ) → allDigits ds ≡ true → allDigits (pad n 48 ds) ≡ true
+pub pad-digits : (n : ℕ) (ds : List ℕ) → allDigits ds ≡ true → allDigits (pad n 48 ds) ≡ true
 unfolding pad allDigits
 pad-digits zero ds e = e
 pad-digits (suc n) ds e = pad-digits n ds e
 
-pad-value : (n : ℕ) (ds : List ℕ) → value (pad n 48 ds) ≡ value ds
+pub pad-value : (n : ℕ) (ds : List ℕ) → value (pad n 48 ds) ≡ value ds
 unfolding pad valueFrom
 pad-value zero ds = refl
 pad-value (suc n) ds = pad-value n ds
@@ -59,7 +59,7 @@ decimal-pad n w ds is e =
     ∙ decimal-value (pad n 48 ds) (pad-digits n ds e)
 
 -- no zero stands before other digits
-blank-pad : (n d : ℕ) (r : List ℕ) → (eqb d 48 && ltb 1 (length (d ∷ r))) ≡ false → blanked (pad n 48 (d ∷ r)) ≡ pad n 32 (d ∷ r)
+pub blank-pad : (n d : ℕ) (r : List ℕ) → (eqb d 48 && ltb 1 (length (d ∷ r))) ≡ false → blanked (pad n 48 (d ∷ r)) ≡ pad n 32 (d ∷ r)
 unfolding pad blanked
 blank-pad zero d [] e = refl
 blank-pad zero d (c ∷ r) e = rw (alone (eqb d 48) (ltb 1 (suc (suc (length r)))) (lt-ltb 1 (suc (suc (length r))) (omega arith)) e)
@@ -71,7 +71,7 @@ blank-pad (suc zero) d r e = ap (λ (t : List ℕ). 32 ∷ t) (blank-pad zero d 
 blank-pad (suc (suc n)) d r e = ap (λ (t : List ℕ). 32 ∷ t) (blank-pad (suc n) d r e)
 
 -- the sign takes the last space's place
-mark-pad : (n d : ℕ) (r : List ℕ) → eqb d 32 ≡ false → marked (pad (suc n) 32 (d ∷ r)) ≡ pad n 32 (45 ∷ d ∷ r)
+pub mark-pad : (n d : ℕ) (r : List ℕ) → eqb d 32 ≡ false → marked (pad (suc n) 32 (d ∷ r)) ≡ pad n 32 (45 ∷ d ∷ r)
 unfolding pad marked
 mark-pad zero d r e = rw e
 mark-pad (suc n) d r e = ap (λ (t : List ℕ). 32 ∷ t) (mark-pad n d r e)
@@ -112,11 +112,11 @@ digits-of l below ds e =
 
 -- ---- words
 
-text-below : (w x : ℕ) → isBelow x ≡ true → numberText w x ≡ marked (blanked (decimal w (sizeOf x)))
+pub text-below : (w x : ℕ) → isBelow x ≡ true → numberText w x ≡ marked (blanked (decimal w (sizeOf x)))
 unfolding numberText
 text-below w x e = ap (λ (t : Bool). cond t (marked (blanked (decimal w (sizeOf x)))) (blanked (decimal w (sizeOf x)))) e
 
-text-above : (w x : ℕ) → isBelow x ≡ false → numberText w x ≡ blanked (decimal w (sizeOf x))
+pub text-above : (w x : ℕ) → isBelow x ≡ false → numberText w x ≡ blanked (decimal w (sizeOf x))
 unfolding numberText
 text-above w x e = ap (λ (t : Bool). cond t (marked (blanked (decimal w (sizeOf x)))) (blanked (decimal w (sizeOf x)))) e
 
@@ -130,7 +130,7 @@ within-least : (l : Limits) (v : ℕ) → l .most ≤ 32767 → within l false v
 unfolding within
 within-least l v h e = omega (arith, leb-true v (l .most) (both-right (leb (l .least) v) (leb v (l .most)) e))
 
-first-digit : (d : ℕ) (r : List ℕ) → allDigits (d ∷ r) ≡ true → isDigit d ≡ true
+pub first-digit : (d : ℕ) (r : List ℕ) → allDigits (d ∷ r) ≡ true → isDigit d ≡ true
 unfolding allDigits
 first-digit d r e = both-left (isDigit d) (allDigits r) e
 
