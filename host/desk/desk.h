@@ -21,8 +21,8 @@ typedef struct subcommand {
 
 extern const subcommand report_subcommand, track_subcommand, check_subcommand, explain_subcommand, section_subcommand,
     compose_subcommand, join_subcommand, commute_subcommand, apply_subcommand, config_subcommand, diff_subcommand,
-    decide_subcommand, why_subcommand, packed_subcommand, gust_subcommand, board_subcommand, journal_subcommand,
-    night_subcommand, help_subcommand;
+    decide_subcommand, why_subcommand, packed_subcommand, gust_subcommand, status_subcommand, board_subcommand,
+    journal_subcommand, night_subcommand, help_subcommand;
 
 /* The subcommand of a name, or NULL; and what the program, or a subcommand, takes and tells, on standard output. */
 const subcommand *find_subcommand(const char *name);

@@ -64,7 +64,7 @@ _eskelvor_values() {
     esac
 }
 
-_eskelvor_subcommands='report track check explain section compose join commute apply config diff decide why packed gust board journal night help'
+_eskelvor_subcommands='report track check explain section compose join commute apply config diff decide why packed gust status board journal night help'
 
 _eskelvor() {
     local current=${COMP_WORDS[COMP_CWORD]} before=${COMP_WORDS[COMP_CWORD - 1]} subcommand='' at words lead=''

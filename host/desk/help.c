@@ -9,8 +9,8 @@ static const subcommand *const subcommands[] = {
     &report_subcommand,  &track_subcommand,  &check_subcommand,   &explain_subcommand, &section_subcommand,
     &compose_subcommand, &join_subcommand,   &commute_subcommand, &apply_subcommand,
     &config_subcommand,  &diff_subcommand,   &decide_subcommand,  &why_subcommand,
-    &packed_subcommand,  &gust_subcommand,   &board_subcommand,   &journal_subcommand,
-    &night_subcommand,   &help_subcommand,
+    &packed_subcommand,  &gust_subcommand,   &status_subcommand,  &board_subcommand,
+    &journal_subcommand, &night_subcommand,  &help_subcommand,
 };
 
 enum { SUBCOMMANDS = sizeof subcommands / sizeof *subcommands };

@@ -101,6 +101,8 @@ const char *meaning(subject kind, unsigned code)
         return "a packed field has 1 to 5 bytes";
     if (code == ESK_FIXED && kind == A_REPORT)
         return "a fixed byte is wrong (AMDAR3, or a CR LF)";
+    if (code == ESK_FIXED && kind == A_SHEET)
+        return "a fixed group is wrong (a label, a / or a CR LF)";
     if (code == ESK_FIXED)
         return "a fixed byte is wrong (AWR04, or a /)";
     if (code == ESK_BYTE)
@@ -113,6 +115,8 @@ static const char *meaning_at(subject kind, unsigned code, const char *field)
 {
     if (code != ESK_END)
         return meaning(kind, code);
+    if (kind == A_SHEET)
+        return "the sheet ends inside a field, or goes on behind its 913 bytes";
     return strcmp(field, BEHIND_THE_LAST) == 0 ? "bytes after the last delimiter" : "the command ends inside a field";
 }
 

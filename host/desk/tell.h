@@ -13,7 +13,7 @@ extern int as_json;
 enum { NAME_ROOM = 4200 }; /* for a name as it is told */
 
 /* What a text is, for the words about a code and a place. */
-typedef enum subject { A_REPORT, A_COMMAND, A_FIELD, A_DESIGNATOR, A_BOARD, A_SETTINGS, A_JOURNAL } subject;
+typedef enum subject { A_REPORT, A_COMMAND, A_FIELD, A_DESIGNATOR, A_BOARD, A_SETTINGS, A_JOURNAL, A_SHEET } subject;
 
 /* Where a text came from. */
 typedef struct origin {

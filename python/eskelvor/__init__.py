@@ -7,7 +7,8 @@
 Reports: ``reports``, ``read_report``, ``write_report``, ``check_report``, ``track``. Commands: ``read_command``, ``write_command``,
 ``check_command``, ``command_fields``, ``section``, ``join``, ``commute``. An aircraft's configuration: ``Configuration``, with
 ``apply``, ``difference``, ``decide`` and ``explain``. What waits for aircraft out of coverage: ``Board``. What was taken for them: ``Journal``. One
-figure: ``read_packed``, ``write_packed``. A gust out of an acceleration: ``gust``.
+figure: ``read_packed``, ``write_packed``. A gust out of an acceleration: ``gust``. A status sheet:
+``read_sheet``, ``check_sheet``, ``Sheet.text``.
 
 Every verdict is one call's of the library. A refusal is raised as a ``Refusal``, with code, place and words; nothing that
 was lent has then changed. The library is the file that ``ESKELVOR_LIBRARY`` names, else the one beside this module, else the
@@ -39,6 +40,7 @@ from ._commands import (
 )
 from ._configuration import Configuration, Decision, Difference, Explanation, Phase, Reason, Settings, minutes
 from ._gust import GUST_TYPES, gust
+from ._sheet import Sheet, check_sheet, read_sheet
 from ._journal import Entry, Journal
 from ._packed import read_packed, write_packed
 from ._refusals import (
@@ -106,6 +108,7 @@ __all__ = [
     "Regions",
     "Report",
     "Settings",
+    "Sheet",
     "Waiting",
     "WrongEnd",
     "WrongFixedByte",
@@ -113,6 +116,7 @@ __all__ = [
     "WrongSpelling",
     "check_command",
     "check_report",
+    "check_sheet",
     "command_fields",
     "commute",
     "gust",
@@ -122,6 +126,7 @@ __all__ = [
     "read_command",
     "read_packed",
     "read_report",
+    "read_sheet",
     "reports",
     "section",
     "track",

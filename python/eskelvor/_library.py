@@ -11,13 +11,21 @@ from pathlib import Path
 from typing import Dict, List, Optional, Tuple, Type, Union
 
 #: The version of eskelvor.h that this module is written for: the first number must be the library's, the second not above.
-HEADER_VERSION = (4, 6)
+HEADER_VERSION = (4, 7)
 SONAME = "libeskelvor.so.%d" % HEADER_VERSION[0]
 ENVIRONMENT = "ESKELVOR_LIBRARY"
 
 REPORT_BYTES = 220
 COMMAND_BYTES = 845
 BOARD_SLOTS = 64
+SHEET_BYTES = 913
+
+#: The numbers of lines 2 to 4 of a status sheet, in their order.
+SHEET_NUMBERS = (
+    "ascent", "ascent_interval1", "ascent_interval2", "level", "level_interval", "descent", "descent_interval1",
+    "descent_interval2", "trigger1", "trigger2", "observations", "smoothing", "profile_constant", "cruise_constant",
+    "gust_constant", "instant_constant",
+)
 JOURNAL_BYTES = 65535
 JOURNAL_PRINTED = 76105
 
@@ -33,7 +41,8 @@ class LibraryError(ImportError):
 # Member by member as in the header. Where an answer of 16 bytes has an array of spare bytes, it stands here as numbers of
 # the same bytes: such an answer comes back in registers, and an array among its members has kept ctypes from seeing that.
 
-_u8, _u16, _u32, _i32, _size = ctypes.c_uint8, ctypes.c_uint16, ctypes.c_uint32, ctypes.c_int32, ctypes.c_size_t
+_u8, _u16, _u32, _size = ctypes.c_uint8, ctypes.c_uint16, ctypes.c_uint32, ctypes.c_size_t
+_i16, _i32 = ctypes.c_int16, ctypes.c_int32
 
 
 class Answer(ctypes.Structure):
@@ -228,6 +237,27 @@ class GustAnswer(ctypes.Structure):
 
 
 #: Every record of the header by its name there.
+class SheetBox(ctypes.Structure):
+    _fields_ = [(name, _i16) for name in ("latitude1", "longitude1", "latitude2", "longitude2", "status")]
+
+
+class SheetAirport(ctypes.Structure):
+    _fields_ = [("icao", _u8 * 4), ("status", _u8)]
+
+
+class RawSheet(ctypes.Structure):
+    _fields_ = [
+        *((name, _i16) for name in SHEET_NUMBERS),
+        ("boxes", SheetBox * 10),
+        ("designator", _u8 * 6),
+        ("airports", SheetAirport * 50),
+    ]
+
+
+class SheetGot(ctypes.Structure):
+    _fields_ = [("answer", Answer), ("sheet", RawSheet), ("spare", _u32)]
+
+
 RECORDS: Dict[str, Type[ctypes.Structure]] = {
     "esk_answer": Answer,
     "esk_figure": Figure,
@@ -261,6 +291,10 @@ RECORDS: Dict[str, Type[ctypes.Structure]] = {
     "esk_entry": RawEntry,
     "esk_part": Part,
     "esk_gust_answer": GustAnswer,
+    "esk_sheet_box": SheetBox,
+    "esk_sheet_airport": SheetAirport,
+    "esk_sheet": RawSheet,
+    "esk_sheet_got": SheetGot,
 }
 
 # ---- calls -------------------------------------------------------------------------------------------------------------
@@ -304,6 +338,9 @@ CALLS: Dict[str, Tuple[object, List[object]]] = {
     "esk_journal_print": (Answer, [*_journal, _room, _size]),
     "esk_journal_replay": (Answer, [_settings, *_journal, _bytes, _size]),
     "esk_gust": (GustAnswer, [_u32, _i32, _u32, _u32, _u32]),
+    "esk_sheet_check": (Answer, [_bytes, _size]),
+    "esk_sheet_read": (SheetGot, [_bytes, _size]),
+    "esk_sheet_write": (Answer, [RawSheet, _room, _size]),
     "esk_words": (ctypes.c_char_p, [ctypes.c_uint]),
     "esk_reason_words": (ctypes.c_char_p, [ctypes.c_uint]),
     "esk_version": (ctypes.c_char_p, []),
@@ -417,6 +454,11 @@ def u32(number: int) -> int:
 def i32(number: int) -> int:
     """Four bytes with a sign, likewise."""
     return within(operator.index(number), -(2 ** 31), 2 ** 31 - 1)
+
+
+def i16(number: int) -> int:
+    """Two bytes with a sign, likewise."""
+    return within(operator.index(number), -(2 ** 15), 2 ** 15 - 1)
 
 
 def size(number: int) -> int:

@@ -133,7 +133,7 @@ class Refusing(Case):
 
     def test_without_a_call(self) -> None:
         self.refuses("has no esk_packed_read", self.built("calls", STUB % (NOW, 16)))
-        for call in (name for name in _library.CALLS if name.startswith(("esk_journal_", "esk_section", "esk_commute", "esk_gust", "esk_diff", "esk_office"))):
+        for call in (name for name in _library.CALLS if name.startswith(("esk_journal_", "esk_section", "esk_commute", "esk_gust", "esk_diff", "esk_office", "esk_sheet_"))):
             others = self.calls().replace("void %s(void) {}\n" % call, "")
             self.refuses("has no " + call, self.built(call, STUB % (NOW, 16) + others))
 
