@@ -27,3 +27,5 @@ answers 1 'a leading zero' status zero
 err_has 'code 6 at byte 33'
 answers 2 'no such file' status missing
 answers 2 'no file' status
+
+done_with 'status sheets'
