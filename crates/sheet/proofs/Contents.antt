@@ -134,7 +134,7 @@ field-length Switch h six e = refl
 field-length (Digit most) h six e = refl
 field-length (Number w l) h six e = number-length w (h .word)
 
-ends-length : (t : Bool) → length (cond t lineEnd []) ≡ cond t 2 0
+pub ends-length : (t : Bool) → length (cond t lineEnd []) ≡ cond t 2 0
 ends-length true = refl
 ends-length false = refl
 

@@ -9,3 +9,4 @@ pub mod Contents
 pub mod Spelling
 pub mod TextOfRead
 pub mod Spelt
+pub mod ReadOfText

@@ -166,14 +166,14 @@ four-wide (Digit most) e = let z : _≡_ {A = ℕ} 0 1 = ap (λ (t : Bool). cond
 four-wide (Number w l) e = let z : _≡_ {A = ℕ} 0 1 = ap (λ (t : Bool). cond t 1 0) e in absurd (omega arith)
 
 -- a byte of an airport's name, and its status
-name-byte : (s : List ℕ) (n j : ℕ) → j < 4 → airportByte s (5 * n + j) ≡ getD s (fieldAt (cellAt (nameCell n)) + j) 0
+pub name-byte : (s : List ℕ) (n j : ℕ) → j < 4 → airportByte s (5 * n + j) ≡ getD s (fieldAt (cellAt (nameCell n)) + j) 0
 unfolding airportByte
 name-byte s n j h =
     let a : (5 * n + j) % 5 ≡ j = omega arith in
     let b : (5 * n + j) / 5 ≡ n = omega arith in
     rw (a, b, ne-eqb j 4 (λ (e : j ≡ 4). omega arith))
 
-status-byte : (s : List ℕ) (n : ℕ) → airportByte s (5 * n + 4) ≡ wordAt s (suc (nameCell n))
+pub status-byte : (s : List ℕ) (n : ℕ) → airportByte s (5 * n + 4) ≡ wordAt s (suc (nameCell n))
 unfolding airportByte
 status-byte s n =
     let a : (5 * n + 4) % 5 ≡ 4 = omega arith in
@@ -203,7 +203,7 @@ unfolding joined sizes
 both-none s x = refl
 
 -- each cell stands where those before it end
-places : (k : ℕ) → k < 167 → eqb (cellAt k .at) (sizes 0 k) ≡ true
+pub places : (k : ℕ) → k < 167 → eqb (cellAt k .at) (sizes 0 k) ≡ true
 unfolding sizes sizeOfCell cellAt boxCell airportCell widthOf
 places = every (λ k. eqb (cellAt k .at) (sizes 0 k)) 167 refl
 
