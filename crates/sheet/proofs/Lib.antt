@@ -10,3 +10,4 @@ pub mod Spelling
 pub mod TextOfRead
 pub mod Spelt
 pub mod ReadOfText
+pub mod Codes
