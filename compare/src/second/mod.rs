@@ -21,6 +21,7 @@ pub mod report;
 pub mod settings;
 pub mod sheet;
 pub mod spell;
+pub mod tails;
 pub mod track;
 pub mod write;
 

@@ -14,6 +14,7 @@ mod parts;
 mod reasons;
 mod records;
 mod sheets;
+mod tails;
 mod tracks;
 
 use super::record::{Report, BYTES};
