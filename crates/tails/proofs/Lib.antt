@@ -1,0 +1,9 @@
+pub mod Bisect
+pub mod Found
+pub mod Made
+pub mod Marks
+pub mod Order
+pub mod Pushed
+pub mod Rising
+pub mod Steps
+pub mod Unique

@@ -1,0 +1,3 @@
+pub mod Inner
+pub mod Tails
+pub mod Words
