@@ -1,5 +1,6 @@
 pub mod Bisect
 pub mod Found
+pub mod Keyed
 pub mod Made
 pub mod Marks
 pub mod Order

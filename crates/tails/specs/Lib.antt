@@ -1,3 +1,4 @@
 pub mod Inner
+pub mod Keys
 pub mod Tails
 pub mod Words
