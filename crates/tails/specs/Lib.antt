@@ -1,3 +1,4 @@
+pub mod Calls
 pub mod Inner
 pub mod Keys
 pub mod Tails

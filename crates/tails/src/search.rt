@@ -1,7 +1,7 @@
 // Searching the list by bisecting.
 ghost use mathlib.Core.Path.{_≡_};
 ghost use mathlib.Core.Bool.{true};
-ghost use Prim.Native.Nat.{_≤_};
+ghost use Prim.Native.Nat.{_≤_, _<_};
 ghost use lib.ListN.{length};
 ghost use Rattle.tails.specs.Tails.{below, sorted, allSlots, findIn};
 
@@ -15,6 +15,13 @@ pub fn index(b: u8) -> usize
     ensures { λ r. ⌜ r ≡ b ⌝ }
 {
     b as usize
+}
+
+pub fn byte(i: usize) -> u8
+    requires { ⌜ i < 256 ⌝ }
+    ensures { λ r. ⌜ r ≡ i ⌝ }
+{
+    i as u8
 }
 
 // How many slots of a list come before a key.
@@ -37,14 +44,13 @@ pub fn place_of(keys: &[u64], list: &[u8], key: u64) -> usize
     low
 }
 
-// The slot of a key in a list.
-pub fn find(keys: &[u64], list: &[u8], key: u64) -> Tail
+// The slot of a key, by how many come before it.
+pub fn slot_at(keys: &[u64], list: &[u8], key: u64, at: usize) -> Tail
     requires { ⌜ (length (now keys) ≤ 64) × (length (now list) ≤ 64) ⌝ }
     requires { ⌜ allSlots (length (now keys)) (now list) ≡ true ⌝ }
-    requires { ⌜ sorted (now keys) (now list) ≡ true ⌝ }
+    requires { ⌜ at ≡ below (now keys) key (now list) ⌝ }
     ensures { λ r. ⌜ r ≡ findIn (now (keys .entry)) key (now (list .entry)) ⌝ }
 {
-    let at = place_of(keys, list, key);
     if list.len() <= at {
         return Tail::Nowhere;
     }
