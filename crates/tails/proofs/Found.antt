@@ -8,10 +8,11 @@ use lib.Dec.{leb, ltb, eqb}
 use lib.ListN.{length, getD}
 use borrow.Author.Tests.{lt-ltb, le-ltb, le-leb, eq-eqb, ltb-true, eqb-true}
 use Rattle.text.proofs.Cases.{by-test, by-lt, both-left, both-right}
-use Rattle.tails.specs.Tails.{key, below, sorted, rises, member, listed, findIn}
+use Rattle.tails.specs.Tails.{key, below, sorted, rises, member, listed, listOf, agrees, findIn}
 use Rattle.tails.specs.declared.search.Tail.{Tail}
 use Rattle.tails.specs.declared.search.Tail.the-variants.{At, Nowhere}
-use Rattle.tails.proofs.Unique.{Agreed, rises-first, rises-rest, rises-above, first-or, no-member, used-listed}
+use Rattle.tails.proofs.Unique.{Agreed, rises-first, rises-rest, rises-above, first-or, no-member, used-listed, agreed, agrees-one}
+use Rattle.tails.proofs.Made.{Different, made-agrees}
 
 -- a list that rises is sorted
 pub rises-sorted : (ks : List ℕ) (last : ℕ) (ts : List ℕ) → rises ks last ts ≡ true → sorted ks ts ≡ true
@@ -45,6 +46,18 @@ module _ (ks ts : List ℕ) (a : Agreed ks ts) where
       let s = stands ks 0 (listed ts) j (a .up) (used-listed ks ts a j u) in
       let b = below ks (key ks j) (listed ts) in
       rw (lt-ltb b (length (listed ts)) (s .0), s .1, eq-eqb (key ks j) (key ks j) refl)
+
+  -- used slots of one key are one
+  pub different : Different ks
+  different i j u e =
+      let v : 0 < key ks j = rw (← e) u in
+      let si = stands ks 0 (listed ts) i (a .up) (used-listed ks ts a i u) in
+      let sj = stands ks 0 (listed ts) j (a .up) (used-listed ks ts a j v) in
+      sym (si .1) ∙ ap (λ (k : ℕ). getD (listed ts) (below ks k (listed ts)) 0) e ∙ sj .1
+
+-- the list is the one that is made
+pub listed-is : (ks ts : List ℕ) → length ks ≤ 64 → agrees ks ts ≡ true → ts ≡ listOf ks
+listed-is ks ts h a = agrees-one ks ts (listOf ks) a (made-agrees ks h (different ks ts (agreed ks ts a)))
 
 at-is : {i j : ℕ} → At i ≡ At j → i ≡ j
 at-is e = cc
