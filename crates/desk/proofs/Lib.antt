@@ -1,5 +1,6 @@
 -- The laws of the desk.
 mod Asking
+mod Listed
 mod Shared
 mod Waited
 pub mod Given

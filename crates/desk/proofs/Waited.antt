@@ -19,7 +19,7 @@ use Rattle.desk.specs.declared.Answer.{Answer}
 use Rattle.desk.specs.declared.board_calls.Served.{Served}
 
 -- the answer is the reply's
-served-answer : (n : ℕ) (w : Wanted) (m : Move) → servedBy (doneOf n w m) .answer ≡ replyNumbers (replyOf m)
+pub served-answer : (n : ℕ) (w : Wanted) (m : Move) → servedBy (doneOf n w m) .answer ≡ replyNumbers (replyOf m)
 served-answer n w (Stay code place) = refl
 served-answer n w (Put i d t) = refl
 served-answer n w (Free i t) = refl

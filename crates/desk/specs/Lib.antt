@@ -11,5 +11,6 @@ pub mod Parts
 pub mod Reports
 pub mod Sheets
 pub mod Steps
+pub mod Tails
 pub mod Tracks
 pub mod Waiting

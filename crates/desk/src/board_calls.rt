@@ -42,7 +42,7 @@ pub fn serve_done(d: Done) -> Served
     }
 }
 
-fn serve_add(v: Findings, w: Wanted, area: &mut [u8], text: &[u8]) -> Served
+pub fn serve_add(v: Findings, w: Wanted, area: &mut [u8], text: &[u8]) -> Served
     ensures { λ r. ⌜
         (r ≡ servedBy (doneOf (v .count) w (addMove v w (now (area .entry)) (now (text .entry)))))
         × (now (area .exit) ≡ onArea (addMove v w (now (area .entry)) (now (text .entry))) (now (area .entry)))
@@ -51,7 +51,7 @@ fn serve_add(v: Findings, w: Wanted, area: &mut [u8], text: &[u8]) -> Served
     serve_done(place_text(v, w, area, text))
 }
 
-fn serve_take(v: Findings, w: Wanted, area: &[u8], out: &mut [u8]) -> Served
+pub fn serve_take(v: Findings, w: Wanted, area: &[u8], out: &mut [u8]) -> Served
     ensures { λ r. ⌜
         (r ≡ servedBy (doneOf (v .count) w (takeMove v w (now (area .entry)) (length (now (out .entry))))))
         × (now (out .exit) ≡ onOut (takeMove v w (now (area .entry)) (length (now (out .entry)))) (now (out .entry)))

@@ -14,6 +14,7 @@ mod packed_calls;
 mod report_calls;
 mod section_calls;
 mod sheet_calls;
+mod tails_calls;
 mod track_calls;
 
 use caller::HostReport;
@@ -114,6 +115,18 @@ pub struct HostCommute {
     pub sections: u8,
     pub spare: u8,
     pub rest: u16,
+}
+
+// The answer of a search through a board's list: the slot, and how many of the list come before the aircraft. Where none waits for it
+// the code is 11 and the slot 0; both are 0 in another refusal.
+#[repr(C)]
+pub struct HostTail {
+    pub place: usize,
+    pub code: u8,
+    pub slot: u8,
+    pub at: u8,
+    pub spare: u8,
+    pub rest: u32,
 }
 
 // The answer of what differs between two configurations: how many flags and sections, and which. Flags are 1 to 7, a section is 10 and
