@@ -6,5 +6,7 @@ pub mod Marks
 pub mod Order
 pub mod Pushed
 pub mod Rising
+pub mod Said
 pub mod Steps
 pub mod Unique
+pub mod Valid
