@@ -24,6 +24,7 @@ mod Relaid
 pub mod Report
 mod Sections
 mod Sevens
+pub mod Tails
 mod Takings
 pub mod Track
 mod Waiting

@@ -17,5 +17,6 @@ pub mod Packed
 pub mod Part
 pub mod Report
 pub mod Sections
+pub mod Tails
 pub mod Track
 pub mod Zero

@@ -192,3 +192,11 @@ said-list ss ts six s =
       long,
     )
     (blank-said ts c (s .blank))
+
+-- as many as are said are listed
+pub one-count : (ss : List Slot) (ts : List ℕ) → SixBytes ss → (s : ListOf ss ts) → isListOf ss ts ≡ true → (i : ℕ) → i < s .count → i < length (listed ts)
+one-count ss ts six s h i l =
+    let inside : (j : ℕ) → j < s .count → getD ts j 0 < length ss = λ (j : ℕ) (k : j < s .count). used-inside ss (getD ts j 0) (s .used j k) in
+    let front = front-listed ts (s .count) (s .most) (λ (j : ℕ) (k : j < s .count) (e : getD ts j 0 ≡ 255). omega (arith, inside j k, s .few, e)) (s .blank) in
+    let long = length-take-le (s .count) ts (s .most) in
+    omega (arith, ap length front, long, l)

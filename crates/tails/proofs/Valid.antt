@@ -6,7 +6,7 @@ use Prim.Native.Nat.{ℕ, zero, suc, _+_, _≤_, _<_}
 use native.Mathlib.Omega.{arith}
 use lib.Dec.{leb, ltb, eqb}
 use lib.ListN.{length, getD, take, drop}
-use borrow.Author.Tests.{le-leb, lt-leb, lt-ltb}
+use borrow.Author.Tests.{le-leb, lt-leb, lt-ltb, leb-true}
 use Rattle.text.specs.Names.{allowed, allAllowed, isDesignator}
 use Rattle.text.specs.declared.Seen.the-variants.{Fine}
 use Rattle.text.proofs.Cases.{by-lt, by-test, both-left, both-right}
@@ -23,13 +23,13 @@ use Rattle.board.proofs.LentWords.{formed, form, valid-said, said-valid}
 use Rattle.tails.specs.Tails.{rankFrom, key, below, listed, agrees, listOf, findIn}
 use Rattle.tails.specs.Keys.{rankOf, keysOf, isListOf}
 use Rattle.tails.specs.Words.{Earlier, allBytes, designatorAt}
-use Rattle.tails.specs.Calls.{toldOf, soughtBy, searchLent}
+use Rattle.tails.specs.Calls.{refusedSearch, toldOf, soughtBy, searchLent}
 use Rattle.tails.specs.declared.lent.Sought.{Sought}
 use Rattle.tails.specs.declared.search.Tail.{Tail}
 use Rattle.tails.specs.declared.search.Tail.the-variants.{At, Nowhere}
 use Rattle.tails.proofs.Made.{Different, made-agrees}
 use Rattle.tails.proofs.Unique.{Agreed, agreed, agrees-one}
-use Rattle.tails.proofs.Found.{rises-sorted, finds, found-key}
+use Rattle.tails.proofs.Found.{rises-sorted, finds, found-key, listed-is}
 use Rattle.tails.proofs.Order.{earlier-less, less-earlier, same-rank}
 use Rattle.tails.proofs.Keyed.{length-keys, getD-taken}
 use Rattle.tails.proofs.Bisect.{below-most, before-is, before-not}
@@ -50,7 +50,7 @@ all-small [] a = refl
 all-small (b ∷ d) a =
     both (ltb b 256) (allBytes d) (lt-ltb b 256 (small b (both-left (allowed b) (allAllowed d) a))) (all-small d (both-right (allowed b) (allAllowed d) a))
 
-well-bytes : (d : List ℕ) → WellFormed d → allBytes d ≡ true
+pub well-bytes : (d : List ℕ) → WellFormed d → allBytes d ≡ true
 well-bytes d w = all-small d (both-right (eqb (length d) 6) (allAllowed d) (form d w))
 
 -- two that are well formed and of one rank are one
@@ -77,6 +77,13 @@ pub one-list-of : (ss : List Slot) (ts us : List ℕ) → isListOf ss ts ≡ tru
 unfolding isListOf
 one-list-of ss ts us a b =
     agrees-one (keysOf ss) ts us (both-right (leb (length ss) 64) (agrees (keysOf ss) ts) a) (both-right (leb (length ss) 64) (agrees (keysOf ss) us) b)
+
+-- the one that is made
+pub list-is : (ss : List Slot) (ts : List ℕ) → isListOf ss ts ≡ true → ts ≡ listOf (keysOf ss)
+unfolding isListOf
+list-is ss ts h =
+    let l = leb-true (length ss) 64 (both-left (leb (length ss) 64) (agrees (keysOf ss) ts) h) in
+    listed-is (keysOf ss) ts (omega (arith, l, length-keys ss)) (both-right (leb (length ss) 64) (agrees (keysOf ss) ts) h)
 
 -- a call leaves a valid board valid
 pub valid-kept : (x : Lent) (e : Event) → ValidBoard (x .slots) (x .area) → ValidBoard (onSlots (call x e) (x .slots)) (onArea (call x e) (x .area))
@@ -147,7 +154,7 @@ module _ (ss : List Slot) (area ts d : List ℕ) (v : ValidBoard ss area) (h : i
       told-at Nowhere n = refl
 
 -- and one that is not well formed is 4
-pub search-four : (ss : List Slot) (ts d : List ℕ) → isListOf ss ts ≡ true → (WellFormed d → ⊥) → searchLent ss ts d .code ≡ 4
+pub search-four : (ss : List Slot) (ts d : List ℕ) → isListOf ss ts ≡ true → (WellFormed d → ⊥) → searchLent ss ts d ≡ refusedSearch 4 0
 unfolding searchLent
 search-four ss ts d h n =
     by-test (isDesignator d)
@@ -155,6 +162,6 @@ search-four ss ts d h n =
     (λ (w : isDesignator d ≡ false). rw (h, w))
 
 -- a list that disagrees is 10, before that
-pub search-ten : (ss : List Slot) (ts d : List ℕ) → isListOf ss ts ≡ false → searchLent ss ts d .code ≡ 10
+pub search-ten : (ss : List Slot) (ts d : List ℕ) → isListOf ss ts ≡ false → searchLent ss ts d ≡ refusedSearch 10 0
 unfolding searchLent
 search-ten ss ts d h = rw h
