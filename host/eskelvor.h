@@ -41,8 +41,9 @@
  * 4.4.0: esk_difference.
  * 4.5.0: esk_report_track.
  * 4.6.0: esk_office_add, and code 13.
- * 4.7.0: the status sheet: esk_sheet_check, esk_sheet_read, esk_sheet_write. */
-#define ESK_VERSION "4.7.0"
+ * 4.7.0: the status sheet: esk_sheet_check, esk_sheet_read, esk_sheet_write.
+ * 4.8.0: the list of a board's used slots: esk_tails_make, esk_tails_find, esk_tails_add, esk_tails_take. */
+#define ESK_VERSION "4.8.0"
 
 #ifdef __cplusplus
 extern "C" {
@@ -743,6 +744,50 @@ typedef struct esk_grant {
  */
 esk_answer esk_office_add(esk_slot *slots, size_t n, uint8_t *area, size_t area_length, const uint8_t *designator,
                           size_t designator_length, const uint8_t *text, size_t length, esk_grant own, esk_grant other);
+
+/* ---- a list of the aircraft that something waits for ---------------------------------------------------------- */
+
+/*
+ * Beside a board a list may be kept: a byte a slot, the numbers of the used slots in rising order of designator, byte by
+ * byte, and 255 behind them. A board has one list and no other, and an empty board's is 255 in every byte. A list that
+ * disagrees with its board in any byte, or has another length, is refused with 10 before all else.
+ */
+
+/* The answer of a search. 16 bytes, no padding. */
+typedef struct esk_tail {
+    size_t place;  /* of a refusal; always 0 */
+    uint8_t code;
+    uint8_t slot;  /* of the aircraft, counted from 0; 0 in a refusal */
+    uint8_t at;    /* with codes 0 and 11: how many of the list come before the aircraft; else 0 */
+    uint8_t spare; /* 0 */
+    uint32_t rest; /* 0 */
+} esk_tail;
+
+/*
+ * Makes the list of n slots, which are lent for reading; the list, list_length bytes, is lent for writing. No text is
+ * looked at. length is 0. Place 0:
+ *   10  more than 64 slots, a list of another length than n, or two used slots of one designator
+ */
+esk_answer esk_tails_make(const esk_slot *slots, size_t n, uint8_t *list, size_t list_length);
+
+/*
+ * Searches for an aircraft by bisecting the list. All is lent for reading, and no text is looked at: of a board that
+ * esk_board_check accepts it finds the slot that a walk over the slots finds. Codes, all at place 0:
+ *   10  the list is not that of the slots
+ *   4   the designator is not six bytes 'A' to 'Z' or '0' to '9'
+ *   11  nothing waits for that aircraft; `at` says where in the list it would stand
+ */
+esk_tail esk_tails_find(const esk_slot *slots, size_t n, const uint8_t *list, size_t list_length,
+                        const uint8_t *designator, size_t designator_length);
+
+/* As esk_board_add; the list, lent for writing, is afterwards that of the board. 10 also where it was not before. */
+esk_answer esk_tails_add(esk_slot *slots, size_t n, uint8_t *area, size_t area_length, uint8_t *list, size_t list_length,
+                         const uint8_t *designator, size_t designator_length, const uint8_t *text, size_t length);
+
+/* As esk_board_take; the list, lent for writing, is afterwards that of the board. 10 also where it was not before. */
+esk_answer esk_tails_take(esk_slot *slots, size_t n, const uint8_t *area, size_t area_length, uint8_t *list,
+                          size_t list_length, const uint8_t *designator, size_t designator_length, uint8_t *out,
+                          size_t room);
 
 /* ---- the journal ------------------------------------------------------------------------------------------------ */
 

@@ -68,7 +68,7 @@ size_t esk_size_of(const char *record)
         RECORD(esk_airports), RECORD(esk_enroute),    RECORD(esk_ascent),   RECORD(esk_descent),
         RECORD(esk_hours),    RECORD(esk_settings),   RECORD(esk_command),  RECORD(esk_command_got),
         RECORD(esk_applied),  RECORD(esk_differing),  RECORD(esk_decided),  RECORD(esk_explained),
-        RECORD(esk_slot),     RECORD(esk_grant),      RECORD(esk_entry),    RECORD(esk_part),
+        RECORD(esk_slot),     RECORD(esk_grant),      RECORD(esk_tail),     RECORD(esk_entry),    RECORD(esk_part),
         RECORD(esk_commute_answer), RECORD(esk_gust_answer),
         RECORD(esk_sheet_box), RECORD(esk_sheet_airport), RECORD(esk_sheet), RECORD(esk_sheet_got),
     };

@@ -102,6 +102,14 @@ static inline void expect(size_t slot, const char *designator, const char *text)
     memcpy(b.want.area + slot * TEXT, text, strlen(text));
 }
 
+/* A number below `end`, the same ones in every run. */
+static inline uint32_t chance(uint32_t end)
+{
+    static uint32_t state = 2463534242u;
+    state ^= state << 13, state ^= state >> 17, state ^= state << 5;
+    return state % end;
+}
+
 /* Document 01's join. */
 #define FIRST "AWR041999999000400000/151/"
 #define SECOND "AWR049199999100400009/300/2301/"

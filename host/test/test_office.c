@@ -84,14 +84,6 @@ static void one_by_one(void)
     }
 }
 
-static uint32_t state = 2463534242u;
-
-static uint32_t chance(uint32_t end)
-{
-    state ^= state << 13, state ^= state >> 17, state ^= state << 5;
-    return state % end;
-}
-
 /* A short command within a grant, in every third one with something that is not. */
 static void make(char *text, const esk_grant *own)
 {

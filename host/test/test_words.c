@@ -96,6 +96,7 @@ static void sizes(void)
     SIZE(esk_explained);
     SIZE(esk_slot);
     SIZE(esk_grant);
+    SIZE(esk_tail);
     SIZE(esk_entry);
     SIZE(esk_part);
     SIZE(esk_commute_answer);
@@ -106,7 +107,7 @@ static void sizes(void)
     SIZE(esk_sheet_got);
     /* as the header's comments say them */
     HOLD(esk_size_of("esk_report") == 624 && esk_size_of("esk_settings") == 614 && esk_size_of("esk_slot") == 8);
-    HOLD(esk_size_of("esk_grant") == 16);
+    HOLD(esk_size_of("esk_grant") == 16 && esk_size_of("esk_tail") == 16);
     HOLD(esk_size_of("esk_entry") == 32 && esk_size_of("esk_part") == 16 && esk_size_of("esk_commute_answer") == 16);
     HOLD(esk_size_of("esk_gust_answer") == 8 && esk_size_of("esk_differing") == 32);
     HOLD(esk_size_of("esk_point") == 24 && esk_size_of("esk_track") == 216);
