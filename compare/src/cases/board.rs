@@ -1,13 +1,14 @@
-//! A board and a run of events on it; after each event every byte of slots, area, guards and output is compared.
+//! A board, the list beside it, and a run of events on it; after each event every byte of slots, area, list, guards and output is
+//! compared.
 
 use super::Case as _;
 use super::{arena, counted, pattern, short, Held, Mismatch, GUARD};
 use crate::asked::Replies;
 use crate::meet;
-use crate::ours::uplink::{Grant, Slot};
+use crate::ours::uplink::{Grant, Slot, Tail};
 use crate::ours::{bytes_of, Answer};
 use crate::second::settings::MOST;
-use crate::second::{board, office, Refusal};
+use crate::second::{board, office, tails, Refusal};
 use crate::tally::Tally;
 use crate::tell::{self, hex, BREAK};
 
@@ -28,12 +29,36 @@ pub enum Event {
         designator: Vec<u8>,
         room: usize,
     },
+    /// The list is made.
+    Make,
+    /// And searched.
+    Find {
+        designator: Vec<u8>,
+    },
+    /// An adding, and a taking, with the list lent beside the board.
+    ListedAdd {
+        designator: Vec<u8>,
+        text: Vec<u8>,
+    },
+    ListedTake {
+        designator: Vec<u8>,
+        room: usize,
+    },
+}
+
+/// What a call answers.
+#[derive(Clone, Copy, Debug, PartialEq)]
+enum Reply {
+    Answer(Answer),
+    Tail(Tail),
 }
 
 #[derive(Clone)]
 pub struct Case {
     pub slots: Vec<Slot>,
     pub area: Vec<u8>,
+    /// Of no byte where no event has a list.
+    pub list: Vec<u8>,
     pub events: Vec<Event>,
 }
 
@@ -41,12 +66,13 @@ pub struct Case {
 struct Board {
     slots: Vec<board::Slot>,
     area: Vec<u8>,
+    list: Vec<u8>,
 }
 
 impl Board {
     /// What an event answers and, for a taking, what it leaves in its room.
     fn event(&mut self, event: &Event) -> (Result<usize, Refusal>, Vec<u8>) {
-        let Board { slots, area } = self;
+        let Board { slots, area, list } = self;
         match event {
             Event::Check => (board::check(slots, area).map(|()| 0), Vec::new()),
             Event::Add { designator, text } => (board::add(slots, area, designator, text), Vec::new()),
@@ -55,16 +81,36 @@ impl Board {
                 (office::add(slots, area, designator, text, [&own, &other]), Vec::new())
             }
             Event::Take { designator, room } => arena(*room, |out| board::take(slots, area, designator, out)),
+            Event::Make => (tails::make(slots, list).map(|()| 0), Vec::new()),
+            Event::Find { designator } => {
+                (tails::find(slots, list, designator).and_then(|found| found.slot), Vec::new())
+            }
+            Event::ListedAdd { designator, text } => (tails::add(slots, area, list, designator, text), Vec::new()),
+            Event::ListedTake { designator, room } => {
+                arena(*room, |out| tails::take(slots, area, list, designator, out))
+            }
         }
     }
 
-    /// The board as host/test/answer_board.c lends it: a guard, the slots, a guard, the area, a guard.
+    /// What the host is answered, before the event.
+    fn reply(&self, event: &Event, answer: Result<usize, Refusal>) -> Reply {
+        match event {
+            Event::Find { designator } => {
+                Reply::Tail(meet::uplink::tail(tails::find(&self.slots, &self.list, designator)))
+            }
+            _ => Reply::Answer(meet::answer(answer)),
+        }
+    }
+
+    /// The board as host/test/answer_board.c lends it: a guard, the slots, a guard, the area, a guard, the list, a guard.
     fn block(&self) -> Vec<u8> {
         let slots: Vec<u8> = self.slots.iter().flat_map(|slot| bytes_of(&meet::uplink::slot(slot)).to_vec()).collect();
-        let mut block = pattern(3 * GUARD + slots.len() + self.area.len());
-        block[GUARD..GUARD + slots.len()].copy_from_slice(&slots);
-        let at = 2 * GUARD + slots.len();
-        block[at..at + self.area.len()].copy_from_slice(&self.area);
+        let mut block = pattern(4 * GUARD + slots.len() + self.area.len() + self.list.len());
+        let mut at = GUARD;
+        for part in [&slots, &self.area, &self.list] {
+            block[at..at + part.len()].copy_from_slice(part);
+            at += part.len() + GUARD;
+        }
         block
     }
 
@@ -72,13 +118,16 @@ impl Board {
     fn is(&self, block: &[u8], guards: &[u8]) -> bool {
         let slots = GUARD + size_of::<Slot>() * self.slots.len();
         let area = slots + GUARD + self.area.len();
+        let list = area + GUARD + self.list.len();
         let held = block[GUARD..slots].chunks_exact(size_of::<Slot>()).zip(&self.slots);
         let same = |range: std::ops::Range<usize>| block[range.clone()] == guards[range];
         held.into_iter().all(|(bytes, slot)| bytes == bytes_of(&meet::uplink::slot(slot)))
             && block[slots + GUARD..area] == self.area[..]
+            && block[area + GUARD..list] == self.list[..]
             && same(0..GUARD)
             && same(slots..slots + GUARD)
             && same(area..area + GUARD)
+            && same(list..list + GUARD)
     }
 }
 
@@ -88,8 +137,10 @@ impl super::Case for Case {
     fn question(&self, into: &mut Vec<u8>) {
         into.extend(short(self.slots.len()));
         into.extend((self.area.len() as u32).to_le_bytes());
+        into.extend(short(self.list.len()));
         self.slots.iter().for_each(|slot| into.extend(bytes_of(slot)));
         into.extend(&self.area);
+        into.extend(&self.list);
         into.extend(short(self.events.len()));
         for event in &self.events {
             match event {
@@ -105,10 +156,20 @@ impl super::Case for Case {
                     counted(into, designator);
                     counted(into, text);
                 }
-                Event::Take { designator, room } => {
-                    into.push(3);
+                Event::Take { designator, room } | Event::ListedTake { designator, room } => {
+                    into.push(if matches!(event, Event::Take { .. }) { 3 } else { 8 });
                     counted(into, designator);
                     into.extend(short(*room));
+                }
+                Event::Make => into.push(5),
+                Event::Find { designator } => {
+                    into.push(6);
+                    counted(into, designator);
+                }
+                Event::ListedAdd { designator, text } => {
+                    into.push(7);
+                    counted(into, designator);
+                    counted(into, text);
                 }
             }
         }
@@ -128,7 +189,8 @@ impl super::Case for Case {
             format!("{BREAK}slot {index}: {name} length {} \"{}\"", slot.length, text.escape_ascii())
         });
         let [count, bytes] = [self.slots.len(), self.area.len()];
-        format!("{events}{BREAK}{count} slots, area of {bytes} bytes{}", slots.collect::<String>())
+        let list = if self.list.is_empty() { String::new() } else { format!(", list {:?}", self.list) };
+        format!("{events}{BREAK}{count} slots, area of {bytes} bytes{list}{}", slots.collect::<String>())
     }
 
     fn parts(&self) -> Vec<Case> {
@@ -147,6 +209,19 @@ impl super::Case for Case {
                 format!("office-add {board} {} {} {own} {other}", hex(designator), hex(text))
             }
             Event::Take { designator, room } => format!("board-take {board} {} {room}", hex(designator)),
+            listed => {
+                let list = hex(&self.list);
+                match listed {
+                    Event::Find { designator } => format!("tails-find {board} {list} {}", hex(designator)),
+                    Event::ListedAdd { designator, text } => {
+                        format!("tails-add {board} {list} {} {}", hex(designator), hex(text))
+                    }
+                    Event::ListedTake { designator, room } => {
+                        format!("tails-take {board} {list} {} {room}", hex(designator))
+                    }
+                    _ => format!("tails-make {board} {list}"),
+                }
+            }
         }
     }
 }
@@ -158,16 +233,20 @@ impl Case {
         let mut ours = second.block();
         let guards = ours.clone();
         for (index, event) in self.events.iter().enumerate() {
+            let before = Board { slots: second.slots.clone(), area: Vec::new(), list: second.list.clone() };
             let (answer, left) = second.event(event);
-            let got: Answer = replies.one();
+            let want = before.reply(event, answer);
+            let got = match want {
+                Reply::Answer(_) => Reply::Answer(replies.one()),
+                Reply::Tail(_) => Reply::Tail(replies.one()),
+            };
             changes(&mut ours, replies);
             let taken = replies.take(left.len());
-            let want = meet::answer(answer);
             if got != want || taken != left || !second.is(&ours, &guards) {
                 let block = second.block();
-                let words = |answer: Answer, of: &[u8], other: &[u8], left: &[u8]| {
+                let words = |answer: Reply, of: &[u8], other: &[u8], left: &[u8]| {
                     let [board, room] = [tell::uplink::difference(of, other), tell::bytes(left)];
-                    format!("{answer:?}{BREAK}slots and area, with guards of {GUARD}: {board}{BREAK}lent {room}")
+                    format!("{answer:?}{BREAK}slots, area and list, with guards of {GUARD}: {board}{BREAK}lent {room}")
                 };
                 let (ours, second) = (words(got, &ours, &block, taken), words(want, &block, &ours, &left));
                 return self.alone(index).mismatch(call(event), ours, second);
@@ -178,7 +257,8 @@ impl Case {
     }
 
     fn board(&self) -> Board {
-        Board { slots: self.slots.iter().map(meet::uplink::meant_slot).collect(), area: self.area.clone() }
+        let slots = self.slots.iter().map(meet::uplink::meant_slot).collect();
+        Board { slots, area: self.area.clone(), list: self.list.clone() }
     }
 
     /// The board as the events before one left it, and that event alone.
@@ -188,7 +268,7 @@ impl Case {
             let _ = board.event(event);
         }
         let slots = board.slots.iter().map(meet::uplink::slot).collect();
-        Case { slots, area: board.area, events: vec![self.events[index].clone()] }
+        Case { slots, area: board.area, list: board.list, events: vec![self.events[index].clone()] }
     }
 }
 
@@ -205,6 +285,10 @@ fn call(event: &Event) -> &'static str {
         Event::Add { .. } => "esk_board_add",
         Event::Office { .. } => "esk_office_add",
         Event::Take { .. } => "esk_board_take",
+        Event::Make => "esk_tails_make",
+        Event::Find { .. } => "esk_tails_find",
+        Event::ListedAdd { .. } => "esk_tails_add",
+        Event::ListedTake { .. } => "esk_tails_take",
     }
 }
 
@@ -216,6 +300,14 @@ fn told(event: &Event) -> String {
             format!("add for {} {} by {own:?} beside {other:?}", designator.escape_ascii(), tell::bytes(text))
         }
         Event::Take { designator, room } => format!("take for {} into {room}", designator.escape_ascii()),
+        Event::Make => "make the list".to_string(),
+        Event::Find { designator } => format!("find {}", designator.escape_ascii()),
+        Event::ListedAdd { designator, text } => {
+            format!("add for {} {} with the list", designator.escape_ascii(), tell::bytes(text))
+        }
+        Event::ListedTake { designator, room } => {
+            format!("take for {} into {room} with the list", designator.escape_ascii())
+        }
     }
 }
 

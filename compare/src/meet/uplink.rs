@@ -12,6 +12,7 @@ use crate::second::join::Fault;
 use crate::second::journal::{Entry, NAME};
 use crate::second::office::Grant;
 use crate::second::settings::*;
+use crate::second::tails::Found;
 use crate::second::Refusal;
 use std::ops::Range;
 
@@ -28,6 +29,17 @@ pub fn part(found: &Result<Range<usize>, Refusal>) -> ours::Part {
     match found {
         Ok(part) => ours::Part { place: part.start, length: part.len() as u32, ..Default::default() },
         Err(Refusal { code, place }) => ours::Part { code: *code, place: *place as usize, ..Default::default() },
+    }
+}
+
+/// What esk_tails_find ought to answer.
+pub fn tail(found: Result<Found, Refusal>) -> ours::Tail {
+    match found {
+        Ok(Found { slot: Ok(slot), before }) => ours::Tail { slot: slot as u8, at: before as u8, ..Default::default() },
+        Ok(Found { slot: Err(Refusal { code, .. }), before }) => {
+            ours::Tail { code, at: before as u8, ..Default::default() }
+        }
+        Err(Refusal { code, place }) => ours::Tail { code, place: place as usize, ..Default::default() },
     }
 }
 

@@ -190,6 +190,17 @@ pub struct Slot {
 
 #[repr(C)]
 #[derive(Clone, Copy, Debug, Default, PartialEq, Eq)]
+pub struct Tail {
+    pub place: usize,
+    pub code: u8,
+    pub slot: u8,
+    pub at: u8,
+    pub spare: u8,
+    pub rest: u32,
+}
+
+#[repr(C)]
+#[derive(Clone, Copy, Debug, Default, PartialEq, Eq)]
 pub struct Grant {
     pub flags: [u8; 7],
     pub downlinks: u8,
@@ -233,6 +244,7 @@ const _: () = {
     assert!(offset_of!(CommuteAnswer, text) == 9 && offset_of!(CommuteAnswer, yes) == 10);
     assert!(offset_of!(CommuteAnswer, flags) == 11 && offset_of!(CommuteAnswer, sections) == 12);
     assert!(size_of::<Slot>() == 8 && offset_of!(Slot, length) == 6);
+    assert!(size_of::<Tail>() == 16 && offset_of!(Tail, slot) == 9 && offset_of!(Tail, rest) == 12);
     assert!(size_of::<Grant>() == 16 && offset_of!(Grant, downlinks) == 7 && offset_of!(Grant, sections) == 8);
     assert!(size_of::<Entry>() == 32 && offset_of!(Entry, offset) == 8 && offset_of!(Entry, text) == 16);
     assert!(offset_of!(Entry, length) == 24 && offset_of!(Entry, code) == 28 && offset_of!(Entry, given) == 29);
@@ -242,6 +254,7 @@ unsafe impl Plain for Settings {}
 unsafe impl Plain for Command {}
 unsafe impl Plain for CommandGot {}
 unsafe impl Plain for Part {}
+unsafe impl Plain for Tail {}
 unsafe impl Plain for Applied {}
 unsafe impl Plain for Differing {}
 unsafe impl Plain for Decided {}

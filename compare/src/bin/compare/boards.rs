@@ -63,7 +63,7 @@ pub fn families(run: &mut Run) {
 pub fn empty(random: &mut Random, n: usize) -> Case {
     let slots = (0..n).map(|_| Slot { designator: left_over(random), length: 0 }).collect();
     let filler = random.byte();
-    Case { slots, area: vec![filler; MOST * n], events: Vec::new() }
+    Case { slots, area: vec![filler; MOST * n], list: Vec::new(), events: Vec::new() }
 }
 
 /// What a free slot may hold for a designator.
@@ -76,7 +76,7 @@ fn left_over(random: &mut Random) -> [u8; 6] {
 }
 
 /// A valid board: so many of a hundred slots are used.
-fn filled(random: &mut Random, n: usize, used: usize, text: impl Fn(&mut Random) -> Vec<u8>) -> Case {
+pub fn filled(random: &mut Random, n: usize, used: usize, text: impl Fn(&mut Random) -> Vec<u8>) -> Case {
     let mut board = empty(random, n);
     for index in 0..n {
         if random.percent(used) {
@@ -99,7 +99,7 @@ pub fn aircraft(index: usize) -> [u8; 6] {
     name.as_bytes().try_into().expect("six bytes")
 }
 
-fn text(random: &mut Random) -> Vec<u8> {
+pub fn text(random: &mut Random) -> Vec<u8> {
     match random.below(20) {
         0 => uplink::full_text(random),
         1..=3 => uplink::text(&uplink::command(random)),

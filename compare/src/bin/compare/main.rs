@@ -17,6 +17,8 @@
 //!     board-check SLOTS AREA
 //!     board-add SLOTS AREA DESIGNATOR TEXT          board-take SLOTS AREA DESIGNATOR ROOM
 //!     office-add SLOTS AREA DESIGNATOR TEXT OWN OTHER
+//!     tails-make SLOTS AREA LIST                    tails-find SLOTS AREA LIST DESIGNATOR
+//!     tails-add SLOTS AREA LIST DESIGNATOR TEXT     tails-take SLOTS AREA LIST DESIGNATOR ROOM
 //!     journal-check BUFFER END                      journal-last BUFFER END
 //!     journal-add BUFFER END DESIGNATOR TEXT        journal-drop BUFFER END COUNT
 //!     journal-print BUFFER END ROOM                 journal-replay BUFFER END DESIGNATOR
@@ -47,6 +49,7 @@ mod reports;
 mod run;
 mod sections;
 mod sheets;
+mod tails;
 mod tracks;
 
 use run::{Options, Run};
@@ -82,6 +85,7 @@ const GROUPS: [Group; 12] = [
     ("board", |run| {
         boards::families(run);
         offices::families(run);
+        tails::families(run);
     }),
     ("journal", journals::families),
     ("gust", gusts::families),

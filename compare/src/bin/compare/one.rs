@@ -27,6 +27,7 @@ pub fn case(words: &[String]) -> Result<i32, String> {
         Some(&"join") => run::one(join_case(&words)?),
         Some(&"commute") => run::one(commute_case(&words)?),
         Some(&("board-check" | "board-add" | "board-take" | "office-add")) => run::one(board_case(&words)?),
+        Some(&("tails-make" | "tails-find" | "tails-add" | "tails-take")) => run::one(tails_case(&words)?),
         Some(word) if word.starts_with("journal-") => run::one(journal_case(&words)?),
         Some(&"gust") => run::one(gust_case(&words)?),
         Some(&("sheet" | "sheet-record")) => run::one(sheet_case(&words)?),
@@ -148,11 +149,33 @@ fn board_case(words: &[&str]) -> Result<board::Case, String> {
         }
         _ => return no_such_case(),
     };
-    let slots = bytes(slots)?;
+    board_with(bytes(slots)?, bytes(area)?, Vec::new(), event)
+}
+
+fn board_with(slots: Vec<u8>, area: Vec<u8>, list: Vec<u8>, event: board::Event) -> Result<board::Case, String> {
     if !slots.len().is_multiple_of(8) {
         return Err("a slot has 8 bytes".to_string());
     }
-    Ok(board::Case { slots: slots.chunks(8).map(of_bytes).collect(), area: bytes(area)?, events: vec![event] })
+    Ok(board::Case { slots: slots.chunks(8).map(of_bytes).collect(), area, list, events: vec![event] })
+}
+
+/// With the list beside the board.
+fn tails_case(words: &[&str]) -> Result<board::Case, String> {
+    let [word, slots, area, list, more @ ..] = words else {
+        return no_such_case();
+    };
+    let event = match (*word, more) {
+        ("tails-make", []) => board::Event::Make,
+        ("tails-find", [designator]) => board::Event::Find { designator: bytes(designator)? },
+        ("tails-add", [designator, text]) => {
+            board::Event::ListedAdd { designator: bytes(designator)?, text: bytes(text)? }
+        }
+        ("tails-take", [designator, at]) => {
+            board::Event::ListedTake { designator: bytes(designator)?, room: room(at)? }
+        }
+        _ => return no_such_case(),
+    };
+    board_with(bytes(slots)?, bytes(area)?, bytes(list)?, event)
 }
 
 fn journal_case(words: &[&str]) -> Result<journal::Case, String> {
