@@ -109,10 +109,88 @@ static void office_add(input from)
     give_back("text", text);
 }
 
+/* A list: what it has more or less bytes than the board has slots (1: one more, 2: one less, else none), then its bytes. */
+static lent take_list(input *from, size_t n)
+{
+    uint8_t list[MOST_SLOTS + 1];
+    size_t odd = take_byte(from), bytes = odd == 1 ? n + 1 : odd == 2 && n > 0 ? n - 1 : n;
+    take_into(from, list, bytes);
+    return lend(list, bytes);
+}
+
+/* Board, list. */
+static void tails_make(input from)
+{
+    board on = take_board(&from);
+    lent list = take_list(&from, on.n);
+    esk_answer ours = esk_tails_make(slots_of(on.slots.ours), on.n, list.ours, list.length);
+    esk_answer second = second_tails_make(slots_of(on.slots.second), on.n, list.second, list.length);
+    hold("answer", &ours, &second, sizeof ours);
+    give_board_back(on);
+    give_back("list", list);
+}
+
+/* Length of the designator, designator, board, list. */
+static void tails_find(input from)
+{
+    size_t length = take_byte(&from) % 9;
+    lent of = lend_next(&from, length);
+    board on = take_board(&from);
+    lent list = take_list(&from, on.n);
+    esk_tail ours = esk_tails_find(slots_of(on.slots.ours), on.n, list.ours, list.length, of.ours, of.length);
+    esk_tail second = second_tails_find(slots_of(on.slots.second), on.n, list.second, list.length, of.second, of.length);
+    hold("answer", &ours, &second, sizeof ours);
+    give_back("designator", of);
+    give_board_back(on);
+    give_back("list", list);
+}
+
+/* Length of the designator, designator, board, list, text. */
+static void tails_add(input from)
+{
+    size_t length = take_byte(&from) % 9;
+    lent of = lend_next(&from, length);
+    board on = take_board(&from);
+    lent list = take_list(&from, on.n);
+    lent text = lend_rest(&from);
+    esk_answer ours = esk_tails_add(slots_of(on.slots.ours), on.n, on.area.ours, on.area.length, list.ours, list.length,
+                                    of.ours, of.length, text.ours, text.length);
+    esk_answer second = second_tails_add(slots_of(on.slots.second), on.n, on.area.second, on.area.length, list.second,
+                                         list.length, of.second, of.length, text.second, text.length);
+    hold("answer", &ours, &second, sizeof ours);
+    give_back("designator", of);
+    give_board_back(on);
+    give_back("list", list);
+    give_back("text", text);
+}
+
+/* Length of the designator, designator, room, board, list. */
+static void tails_take(input from)
+{
+    size_t length = take_byte(&from) % 9;
+    lent of = lend_next(&from, length);
+    lent out = lend_room(take_short(&from) % 1024);
+    board on = take_board(&from);
+    lent list = take_list(&from, on.n);
+    esk_answer ours = esk_tails_take(slots_of(on.slots.ours), on.n, on.area.ours, on.area.length, list.ours, list.length,
+                                     of.ours, of.length, out.ours, out.length);
+    esk_answer second = second_tails_take(slots_of(on.slots.second), on.n, on.area.second, on.area.length, list.second,
+                                          list.length, of.second, of.length, out.second, out.length);
+    hold("answer", &ours, &second, sizeof ours);
+    give_back("designator", of);
+    give_board_back(on);
+    give_back("list", list);
+    give_back("out", out);
+}
+
 const target board_targets[] = {
     {"esk_board_check", "answer slots area", board_check},
     {"esk_board_add", "answer designator slots area text", board_add},
     {"esk_board_take", "answer designator slots area out", board_take},
     {"esk_office_add", "answer designator slots area text", office_add},
+    {"esk_tails_make", "answer slots area list", tails_make},
+    {"esk_tails_find", "answer designator slots area list", tails_find},
+    {"esk_tails_add", "answer designator slots area list text", tails_add},
+    {"esk_tails_take", "answer designator slots area list out", tails_take},
     {NULL, NULL, NULL},
 };

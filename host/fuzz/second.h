@@ -50,6 +50,15 @@ esk_answer second_board_take(esk_slot *slots, size_t n, const uint8_t *area, siz
 esk_answer second_office_add(esk_slot *slots, size_t n, uint8_t *area, size_t area_length, const uint8_t *designator,
                              size_t designator_length, const uint8_t *text, size_t length, esk_grant own,
                              esk_grant other);
+esk_answer second_tails_make(const esk_slot *slots, size_t n, uint8_t *list, size_t list_length);
+esk_tail second_tails_find(const esk_slot *slots, size_t n, const uint8_t *list, size_t list_length,
+                           const uint8_t *designator, size_t designator_length);
+esk_answer second_tails_add(esk_slot *slots, size_t n, uint8_t *area, size_t area_length, uint8_t *list,
+                            size_t list_length, const uint8_t *designator, size_t designator_length, const uint8_t *text,
+                            size_t length);
+esk_answer second_tails_take(esk_slot *slots, size_t n, const uint8_t *area, size_t area_length, uint8_t *list,
+                             size_t list_length, const uint8_t *designator, size_t designator_length, uint8_t *out,
+                             size_t room);
 
 esk_answer second_journal_check(const uint8_t *journal, size_t room, size_t end);
 esk_entry second_journal_last(const uint8_t *journal, size_t room, size_t end);

@@ -4,12 +4,12 @@
 use super::{lent, lent_mut};
 use desk_compare::meet::{self, uplink as meet_up};
 use desk_compare::ours::uplink::{
-    Applied, Command, CommandGot, CommuteAnswer, Decided, Differing, Entry, Explained, Grant, Part, Settings, Slot,
+    Applied, Command, CommandGot, CommuteAnswer, Decided, Differing, Entry, Explained, Grant, Part, Settings, Slot, Tail,
 };
 use desk_compare::ours::Answer;
 use desk_compare::second::decide::Question;
 use desk_compare::second::difference::difference;
-use desk_compare::second::{board, command, commute, config, decide, join, journal, office, part, spell};
+use desk_compare::second::{board, command, commute, config, decide, join, journal, office, part, spell, tails};
 
 /// # Safety
 /// As `lent` and `lent_mut` of each byte string; so it is for every call below.
@@ -183,6 +183,69 @@ pub unsafe extern "C" fn second_office_add(
     let [own, other] = [own, other].map(|grant| meet_up::meant_grant(&grant));
     let add = |slots: &mut [board::Slot]| office::add(slots, area, designator, lent(text, length), [&own, &other]);
     meet::answer(with_slots(slots, n, add))
+}
+
+/// # Safety
+/// As above.
+#[no_mangle]
+pub unsafe extern "C" fn second_tails_make(slots: *const Slot, n: usize, list: *mut u8, list_length: usize) -> Answer {
+    let slots: Vec<board::Slot> = lent(slots, n).iter().map(meet_up::meant_slot).collect();
+    meet::answer(tails::make(&slots, lent_mut(list, list_length)).map(|()| 0))
+}
+
+/// # Safety
+/// As above.
+#[no_mangle]
+pub unsafe extern "C" fn second_tails_find(
+    slots: *const Slot,
+    n: usize,
+    list: *const u8,
+    list_length: usize,
+    designator: *const u8,
+    designator_length: usize,
+) -> Tail {
+    let slots: Vec<board::Slot> = lent(slots, n).iter().map(meet_up::meant_slot).collect();
+    meet_up::tail(tails::find(&slots, lent(list, list_length), lent(designator, designator_length)))
+}
+
+/// # Safety
+/// As above.
+#[no_mangle]
+pub unsafe extern "C" fn second_tails_add(
+    slots: *mut Slot,
+    n: usize,
+    area: *mut u8,
+    area_length: usize,
+    list: *mut u8,
+    list_length: usize,
+    designator: *const u8,
+    designator_length: usize,
+    text: *const u8,
+    length: usize,
+) -> Answer {
+    let (area, list) = (lent_mut(area, area_length), lent_mut(list, list_length));
+    let (of, text) = (lent(designator, designator_length), lent(text, length));
+    meet::answer(with_slots(slots, n, |slots| tails::add(slots, area, list, of, text)))
+}
+
+/// # Safety
+/// As above.
+#[no_mangle]
+pub unsafe extern "C" fn second_tails_take(
+    slots: *mut Slot,
+    n: usize,
+    area: *const u8,
+    area_length: usize,
+    list: *mut u8,
+    list_length: usize,
+    designator: *const u8,
+    designator_length: usize,
+    out: *mut u8,
+    room: usize,
+) -> Answer {
+    let (area, list) = (lent(area, area_length), lent_mut(list, list_length));
+    let (of, out) = (lent(designator, designator_length), lent_mut(out, room));
+    meet::answer(with_slots(slots, n, |slots| tails::take(slots, area, list, of, out)))
 }
 
 /// # Safety

@@ -9,6 +9,7 @@ use desk_compare::random::Random;
 use desk_compare::second::board::{add, check, take, Slot, SLOTS};
 use desk_compare::second::office::{self, Grant};
 use desk_compare::second::settings::MOST;
+use desk_compare::second::tails::{self, Found};
 use desk_compare::second::Refusal;
 use std::hint::black_box;
 
@@ -39,6 +40,26 @@ fn second_office(
 #[inline(never)]
 fn second_take(slots: &mut [Slot], area: &[u8], of: &[u8], out: &mut [u8]) -> Result<usize, Refusal> {
     take(slots, area, of, out)
+}
+
+#[inline(never)]
+fn second_find(slots: &[Slot], list: &[u8], of: &[u8]) -> Result<Found, Refusal> {
+    tails::find(slots, list, of)
+}
+
+#[inline(never)]
+fn second_make(slots: &[Slot], list: &mut [u8]) -> Result<(), Refusal> {
+    tails::make(slots, list)
+}
+
+#[inline(never)]
+fn second_listed_add(slots: &mut [Slot], area: &mut [u8], list: &mut [u8], of: &[u8], text: &[u8]) -> Result<usize, Refusal> {
+    tails::add(slots, area, list, of, text)
+}
+
+#[inline(never)]
+fn second_listed_take(slots: &mut [Slot], area: &[u8], list: &mut [u8], of: &[u8], out: &mut [u8]) -> Result<usize, Refusal> {
+    tails::take(slots, area, list, of, out)
 }
 
 #[derive(Clone)]
@@ -138,6 +159,75 @@ pub fn takes(board: &Board, used: usize, calls: usize) -> [f64; 2] {
     best(|| pass(&calls, &mut ours), || pass(&calls, &mut second))
 }
 
+/// Searches through the list, for each aircraft of the board in turn.
+fn finds(board: &Board) -> [f64; 2] {
+    let slots: Vec<ours::uplink::Slot> = board.slots.iter().map(meet::slot).collect();
+    let list = tails::list(&board.slots);
+    let names: Vec<_> = (0..CALLS).map(designator).collect();
+    best(
+        || pass(&names, |of| linked::tails_find(black_box(&slots), black_box(&list), of)),
+        || pass(&names, |of| second_find(black_box(&board.slots), black_box(&list), of)),
+    )
+}
+
+/// The search without a list: a taking with no room for it, which answers 2 where something waits and 11 where nothing does.
+fn walks(board: &Board) -> [f64; 2] {
+    let mut slots: Vec<ours::uplink::Slot> = board.slots.iter().map(meet::slot).collect();
+    let mut second = board.clone();
+    let names: Vec<_> = (0..CALLS).map(designator).collect();
+    best(
+        || pass(&names, |of| linked::board_take(black_box(&mut slots), &board.area, of, &mut [])),
+        || pass(&names, |of| second_take(black_box(&mut second.slots), &board.area, of, &mut [])),
+    )
+}
+
+fn makes(board: &Board) -> [f64; 2] {
+    let slots: Vec<ours::uplink::Slot> = board.slots.iter().map(meet::slot).collect();
+    let (mut ours, mut second) = ([0; SLOTS], [0; SLOTS]);
+    let calls = vec![(); CALLS];
+    best(
+        || pass(&calls, |()| linked::tails_make(black_box(&slots), black_box(&mut ours))),
+        || pass(&calls, |()| second_make(black_box(&board.slots), black_box(&mut second))),
+    )
+}
+
+/// An adding for a new aircraft and its taking, with the list kept by both: the time of the two.
+fn listed_pairs(board: &Board, texts: &[Vec<u8>]) -> [f64; 2] {
+    let of = *b"ZZ0001";
+    let list = tails::list(&board.slots);
+    let (mut slots, mut area, mut ours_list): (Vec<ours::uplink::Slot>, _, _) =
+        (board.slots.iter().map(meet::slot).collect(), board.area.clone(), list.clone());
+    let (mut second, mut second_list) = (board.clone(), list);
+    let (mut out, mut other) = ([0; MOST], [0; MOST]);
+    let mut ours = |text: &Vec<u8>| {
+        let _ = linked::tails_add(black_box(&mut slots), black_box(&mut area), &mut ours_list, &of, text);
+        linked::tails_take(black_box(&mut slots), black_box(&area), &mut ours_list, &of, &mut out)
+    };
+    let mut second = |text: &Vec<u8>| {
+        let _ = second_listed_add(black_box(&mut second.slots), black_box(&mut second.area), &mut second_list, &of, text);
+        second_listed_take(black_box(&mut second.slots), black_box(&second.area), &mut second_list, &of, &mut other)
+    };
+    best(|| pass(texts, &mut ours), || pass(texts, &mut second))
+}
+
+/// The same two calls without a list.
+fn pairs(board: &Board, texts: &[Vec<u8>]) -> [f64; 2] {
+    let of = *b"ZZ0001";
+    let (mut slots, mut area): (Vec<ours::uplink::Slot>, _) =
+        (board.slots.iter().map(meet::slot).collect(), board.area.clone());
+    let mut second = board.clone();
+    let (mut out, mut other) = ([0; MOST], [0; MOST]);
+    let mut ours = |text: &Vec<u8>| {
+        let _ = linked::board_add(black_box(&mut slots), black_box(&mut area), &of, text);
+        linked::board_take(black_box(&mut slots), black_box(&area), &of, &mut out)
+    };
+    let mut second = |text: &Vec<u8>| {
+        let _ = second_add(black_box(&mut second.slots), black_box(&mut second.area), &of, text);
+        second_take(black_box(&mut second.slots), black_box(&second.area), &of, &mut other)
+    };
+    best(|| pass(texts, &mut ours), || pass(texts, &mut second))
+}
+
 pub fn rows(bench: &Bench) {
     let mut random = Random::new(1, "bench-board");
     let full: Vec<_> = (0..SLOTS).map(|_| full_text(&mut random)).collect();
@@ -152,4 +242,13 @@ pub fn rows(bench: &Bench) {
     bench.row("board add, 64 slots, 3 used", CALLS, None, || adds(&three, 3, &added));
     bench.row("office add, 64 slots, 3 used", CALLS, None, || office_adds(&three, 3, &added));
     bench.row("board take, 64 slots, 3 used", CALLS, None, || takes(&three, 3, CALLS));
+    let short: Vec<_> = (0..SLOTS).map(|_| text(&command_of(&mut random, 0, Lists::Few))).collect();
+    let used = board(&short);
+    bench.row("search by the list, 3 used", CALLS, None, || finds(&three));
+    bench.row("search by the walk, 3 used", CALLS, None, || walks(&three));
+    bench.row("search by the list, 64 used", CALLS, None, || finds(&used));
+    bench.row("search by the walk, 64 used", CALLS, None, || walks(&used));
+    bench.row("list made, 64 used", CALLS, None, || makes(&used));
+    bench.row("add and take with the list, 3 used", CALLS, None, || listed_pairs(&three, &added));
+    bench.row("add and take without, 3 used", CALLS, None, || pairs(&three, &added));
 }

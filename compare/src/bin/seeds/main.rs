@@ -15,7 +15,7 @@ const COUNT: usize = 12;
 /// One input of a call; `index` runs through the forms that differ most.
 type Maker = fn(&mut Random, usize) -> Vec<u8>;
 
-const CALLS: [(&str, Maker); 31] = [
+const CALLS: [(&str, Maker); 35] = [
     ("esk_packed_read", downlink::packed_read),
     ("esk_packed_write", downlink::packed_write),
     ("esk_report_check", downlink::report_text),
@@ -41,6 +41,10 @@ const CALLS: [(&str, Maker); 31] = [
     ("esk_board_add", uplink::board_add),
     ("esk_board_take", uplink::board_take),
     ("esk_office_add", uplink::office_add),
+    ("esk_tails_make", uplink::tails_make),
+    ("esk_tails_find", uplink::tails_find),
+    ("esk_tails_add", uplink::tails_add),
+    ("esk_tails_take", uplink::tails_take),
     ("esk_journal_check", journals::whole),
     ("esk_journal_last", journals::whole),
     ("esk_journal_add", journals::add),

@@ -128,6 +128,34 @@ pub fn office_add(random: &mut Random, index: usize) -> Vec<u8> {
     [own, other, board_add(random, index)].concat()
 }
 
+/// A board as above, and its list, which every fourth time has a byte that is another.
+fn listed(random: &mut Random, index: usize) -> Vec<u8> {
+    let mut list: Vec<u8> = (0..index as u8).filter(|slot| slot % 3 != 2).collect();
+    list.resize(index, 255);
+    if index % 4 == 3 {
+        list[random.below(index)] = random.byte();
+    }
+    [&board(random, index), &[0][..], &list].concat()
+}
+
+pub fn tails_make(random: &mut Random, index: usize) -> Vec<u8> {
+    listed(random, index)
+}
+
+pub fn tails_find(random: &mut Random, index: usize) -> Vec<u8> {
+    let of = designator(random.below(index + 1));
+    [&[6], &of[..], &listed(random, index)].concat()
+}
+
+pub fn tails_add(random: &mut Random, index: usize) -> Vec<u8> {
+    [tails_find(random, index), command_text(random, index)].concat()
+}
+
+pub fn tails_take(random: &mut Random, index: usize) -> Vec<u8> {
+    let of = designator(random.below(index + 1));
+    [&[6], &of[..], &short(MOST), &listed(random, index)].concat()
+}
+
 /// Length of the designator, designator, room, board.
 pub fn board_take(random: &mut Random, index: usize) -> Vec<u8> {
     let of = designator(random.below(index + 1));

@@ -1,7 +1,7 @@
 //! The calls of what goes up.
 
 use desk_compare::ours::uplink::{
-    Applied, Command, CommandGot, CommuteAnswer, Decided, Differing, Entry, Explained, Grant, Part, Settings, Slot,
+    Applied, Command, CommandGot, CommuteAnswer, Decided, Differing, Entry, Explained, Grant, Part, Settings, Slot, Tail,
 };
 use desk_compare::ours::Answer;
 
@@ -63,6 +63,39 @@ extern "C" {
         length: usize,
         own: Grant,
         other: Grant,
+    ) -> Answer;
+    fn esk_tails_find(
+        slots: *const Slot,
+        n: usize,
+        list: *const u8,
+        list_length: usize,
+        designator: *const u8,
+        designator_length: usize,
+    ) -> Tail;
+    fn esk_tails_make(slots: *const Slot, n: usize, list: *mut u8, list_length: usize) -> Answer;
+    fn esk_tails_add(
+        slots: *mut Slot,
+        n: usize,
+        area: *mut u8,
+        area_length: usize,
+        list: *mut u8,
+        list_length: usize,
+        designator: *const u8,
+        designator_length: usize,
+        text: *const u8,
+        length: usize,
+    ) -> Answer;
+    fn esk_tails_take(
+        slots: *mut Slot,
+        n: usize,
+        area: *const u8,
+        area_length: usize,
+        list: *mut u8,
+        list_length: usize,
+        designator: *const u8,
+        designator_length: usize,
+        out: *mut u8,
+        room: usize,
     ) -> Answer;
     fn esk_board_take(
         slots: *mut Slot,
@@ -177,6 +210,33 @@ pub fn office_add(slots: &mut [Slot], area: &mut [u8], designator: &[u8], text: 
     let (slots, area) = (slots.as_mut_ptr(), area.as_mut_ptr());
     let (of, length) = (designator.as_ptr(), designator.len());
     unsafe { esk_office_add(slots, n, area, bytes, of, length, text.as_ptr(), text.len(), own, other) }
+}
+
+#[inline(always)]
+pub fn tails_find(slots: &[Slot], list: &[u8], designator: &[u8]) -> Tail {
+    let (of, length) = (designator.as_ptr(), designator.len());
+    unsafe { esk_tails_find(slots.as_ptr(), slots.len(), list.as_ptr(), list.len(), of, length) }
+}
+
+#[inline(always)]
+pub fn tails_make(slots: &[Slot], list: &mut [u8]) -> Answer {
+    unsafe { esk_tails_make(slots.as_ptr(), slots.len(), list.as_mut_ptr(), list.len()) }
+}
+
+#[inline(always)]
+pub fn tails_add(slots: &mut [Slot], area: &mut [u8], list: &mut [u8], designator: &[u8], text: &[u8]) -> Answer {
+    let (n, bytes, listed) = (slots.len(), area.len(), list.len());
+    let (slots, area, list) = (slots.as_mut_ptr(), area.as_mut_ptr(), list.as_mut_ptr());
+    let (of, length) = (designator.as_ptr(), designator.len());
+    unsafe { esk_tails_add(slots, n, area, bytes, list, listed, of, length, text.as_ptr(), text.len()) }
+}
+
+#[inline(always)]
+pub fn tails_take(slots: &mut [Slot], area: &[u8], list: &mut [u8], designator: &[u8], out: &mut [u8]) -> Answer {
+    let (n, bytes, listed) = (slots.len(), area.len(), list.len());
+    let (slots, area, list) = (slots.as_mut_ptr(), area.as_ptr(), list.as_mut_ptr());
+    let (of, length) = (designator.as_ptr(), designator.len());
+    unsafe { esk_tails_take(slots, n, area, bytes, list, listed, of, length, out.as_mut_ptr(), out.len()) }
 }
 
 #[inline(always)]
