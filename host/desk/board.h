@@ -32,8 +32,11 @@ int board_waiting(board *b, const char *designator, uint8_t *out, size_t *length
  * behind it, and the join is added. Where nothing waits it is an add. */
 int board_return(board *b, const char *designator, const uint8_t *text, size_t length, size_t *waiting);
 
-/* Tells whether a file and its board are sound, and, where `lists` is 1, what waits. */
+/* Tells whether a file and its board are sound, and, where `lists` is 1, what waits, in rising order of designator. */
 int board_look(const char *file, int lists);
+
+/* Tells what waits for the aircraft whose designators begin with `prefix`, up to six bytes, in rising order of designator. */
+int board_find(const char *file, const char *prefix);
 
 /* Tells in words what waits for an aircraft. */
 int board_look_at(const char *file, const char *designator);

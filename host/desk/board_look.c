@@ -6,23 +6,37 @@
 #include <stdio.h>
 #include <string.h>
 
-static void list_slots(const board *b)
+/* Used slots of a board in rising order of designator: those from place `from` of its list up to `to`. */
+typedef struct part {
+    uint8_t list[ESK_BOARD_SLOTS];
+    size_t from, to;
+} part;
+
+/* The used slots of a valid board, all of them. */
+static part all_of(const board *b)
 {
-    for (size_t i = 0; i < b->n; i++) {
+    part all;
+    (void)esk_tails_make(b->slots, b->n, all.list, b->n);
+    all.from = 0;
+    all.to = board_used(b);
+    return all;
+}
+
+static void list_slots(const board *b, const part *which)
+{
+    for (size_t at = which->from; at < which->to; at++) {
+        size_t i = which->list[at];
         const esk_slot *s = &b->slots[i];
-        if (s->length == 0)
-            continue;
         printf("  slot %2lu  %.6s  %3d bytes  %.*s\n", (unsigned long)i + 1, (const char *)s->designator, s->length,
                s->length, (const char *)board_text(b, i));
     }
 }
 
-static void json_slots(const board *b)
+static void json_slots(const board *b, const part *which)
 {
     json_list("waiting");
-    for (size_t i = 0; i < b->n; i++) {
-        if (b->slots[i].length == 0)
-            continue;
+    for (size_t at = which->from; at < which->to; at++) {
+        size_t i = which->list[at];
         json_object(NULL);
         json_number("slot", (long long)i + 1);
         json_text("designator", b->slots[i].designator, 6);
@@ -41,6 +55,7 @@ int board_look(const char *file, int lists)
     int status = board_read(file, &b);
     if (status != FINE)
         return status;
+    part all = all_of(&b);
     if (as_json) {
         json_object(NULL);
         json_bool("accepted", 1);
@@ -48,24 +63,70 @@ int board_look(const char *file, int lists)
         json_number("slots", (long long)b.n);
         json_number("used", (long long)board_used(&b));
         if (lists)
-            json_slots(&b);
+            json_slots(&b, &all);
         json_close();
         return FINE;
     }
     printf("%s: valid, %lu of %lu slots used\n", name_safely(file, name, sizeof name), (unsigned long)board_used(&b),
            (unsigned long)b.n);
     if (lists)
-        list_slots(&b);
+        list_slots(&b, &all);
     return FINE;
 }
 
-/* The slot of an aircraft, once what waits for it was taken from a copy of the board. */
+/*
+ * The part of the list whose designators begin so. The first of them is found by bisecting for the least designator that
+ * begins so: '0' comes before every other byte of a designator.
+ */
+static int part_of(const board *b, const char *prefix, part *which)
+{
+    uint8_t least[6] = "000000";
+    size_t length = strlen(prefix);
+    if (length > sizeof least)
+        return trouble("find", "a designator has six letters or digits; give no more of it");
+    memcpy(least, prefix, length);
+    *which = all_of(b);
+    esk_tail found = esk_tails_find(b->slots, b->n, which->list, b->n, least, sizeof least);
+    if (found.code != ESK_ACCEPTED && found.code != ESK_NOTHING) {
+        origin from = {NULL, "prefix", 0, 0};
+        esk_answer a = {.code = found.code};
+        return refuse(&from, A_DESIGNATOR, a, (const uint8_t *)prefix, length, length);
+    }
+    size_t used = which->to;
+    which->from = which->to = found.at;
+    while (which->to < used && memcmp(b->slots[which->list[which->to]].designator, prefix, length) == 0)
+        which->to++;
+    return FINE;
+}
+
+int board_find(const char *file, const char *prefix)
+{
+    static board b;
+    part which;
+    int status = board_read(file, &b);
+    if (status == FINE)
+        status = part_of(&b, prefix, &which);
+    if (status != FINE)
+        return status;
+    if (!as_json) {
+        list_slots(&b, &which);
+        return FINE;
+    }
+    json_object(NULL);
+    json_bool("accepted", 1);
+    json_number("code", ESK_ACCEPTED);
+    json_word("prefix", prefix);
+    json_number("found", (long long)(which.to - which.from));
+    json_slots(&b, &which);
+    json_close();
+    return FINE;
+}
+
+/* The slot of an aircraft that something waits for. */
 static size_t slot_of(const board *b, const char *designator)
 {
-    size_t slot = 0;
-    while (slot < b->n && (b->slots[slot].length == 0 || memcmp(b->slots[slot].designator, designator, 6) != 0))
-        slot++;
-    return slot;
+    part all = all_of(b);
+    return esk_tails_find(b->slots, b->n, all.list, b->n, (const uint8_t *)designator, 6).slot;
 }
 
 /* What waits for one aircraft, in words. What is taken of the board that was read still waits in the file. */

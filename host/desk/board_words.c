@@ -260,6 +260,8 @@ static int act(call *c, int count, char **words)
         return take(c, count, words);
     if (count < 2 && strcmp(verb, "list") == 0)
         return count == 0 ? board_look(c->file, 1) : board_look_at(c->file, words[0]);
+    if (count == 1 && strcmp(verb, "find") == 0)
+        return board_find(c->file, words[0]);
     if (count == 0 && strcmp(verb, "check") == 0)
         return board_look(c->file, 0);
     return trouble(verb, "no such thing to do with a board; --help tells what there is");
@@ -291,7 +293,7 @@ const subcommand board_subcommand = {
     "FILE create N | add [--office NAME] DESIGNATOR COMMAND..\n"
     "           | take [--to FILE] [--journal FILE] DESIGNATOR\n"
     "           | return DESIGNATOR COMMAND..\n"
-    "           | list [DESIGNATOR] | check | grow N | convert NEW\n"
+    "           | list [DESIGNATOR] | find PREFIX | check | grow N | convert NEW\n"
     "           | grant [OFFICE [--flags F,..] [--sections N,..] [--downlinks]]",
     "Keeps the board of waiting commands in a file",
     "  create N     makes a board of N slots, at most 64; a file that is there stays\n"
@@ -306,7 +308,9 @@ const subcommand board_subcommand = {
     "               disk before the slot is freed; a broken or full one is refused, and\n"
     "               the command still waits\n"
     "  return       puts what was taken back, before all that waits by now\n"
-    "  list         shows what waits; for one aircraft, in words\n"
+    "  list         shows what waits, in rising order of designator; for one aircraft,\n"
+    "               in words\n"
+    "  find PREFIX  shows what waits for the aircraft whose designators begin so\n"
     "  check        says whether the file and its board are sound\n"
     "  grow N       gives the board N slots, no fewer than it has and at most 64;\n"
     "               all that waits stays\n"

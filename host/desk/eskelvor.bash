@@ -80,7 +80,7 @@ _eskelvor() {
     else
         words=$(_eskelvor_values "$before")
         case $subcommand:$((COMP_CWORD - at)):$words in
-        board:2:) words='create add take return list check grow convert grant' ;;
+        board:2:) words='create add take return list find check grow convert grant' ;;
         config:2:) words='convert' ;;
         journal:2:) words='list replay add drop check' ;;
         packed:1:) words='read write' ;;

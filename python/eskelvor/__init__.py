@@ -6,7 +6,7 @@
 
 Reports: ``reports``, ``read_report``, ``write_report``, ``check_report``, ``track``. Commands: ``read_command``, ``write_command``,
 ``check_command``, ``command_fields``, ``section``, ``join``, ``commute``. An aircraft's configuration: ``Configuration``, with
-``apply``, ``difference``, ``decide`` and ``explain``. What waits for aircraft out of coverage: ``Board``. What was taken for them: ``Journal``. One
+``apply``, ``difference``, ``decide`` and ``explain``. What waits for aircraft out of coverage: ``Board``, and ``ListedBoard``, which keeps a list of them. What was taken for them: ``Journal``. One
 figure: ``read_packed``, ``write_packed``. A gust out of an acceleration: ``gust``. A status sheet:
 ``read_sheet``, ``check_sheet``, ``Sheet.text``.
 
@@ -16,7 +16,7 @@ one that the system's loader finds; ``LibraryError`` says where it cannot be use
 """
 
 from ._library import BOARD_SLOTS, COMMAND_BYTES, JOURNAL_BYTES, REPORT_BYTES, LibraryError, library_version
-from ._board import Board, Grant, Waiting
+from ._board import Board, Grant, ListedBoard, Waiting
 from ._commands import (
     NO_CHANGE,
     Airports,
@@ -93,6 +93,7 @@ __all__ = [
     "KINDS",
     "LevelFlight",
     "LibraryError",
+    "ListedBoard",
     "NO_CHANGE",
     "NoFreeSlot",
     "NoRoom",

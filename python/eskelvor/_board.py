@@ -1,11 +1,11 @@
 """The board of commands that wait for aircraft out of coverage, in memory that the caller lends."""
 
 import ctypes
-from typing import FrozenSet, Iterable, Iterator, NamedTuple, Optional, Union
+from typing import FrozenSet, Iterable, Iterator, List, NamedTuple, Optional, Union
 
 from ._commands import Flags
 from ._library import COMMAND_BYTES, RawGrant, Slot, Text, as_bytes, lib, room
-from ._refusals import BoardNotValid, refuse
+from ._refusals import BoardNotValid, NothingWaits, refuse
 
 _SLOT_BYTES = ctypes.sizeof(Slot)
 _OLDER_BYTES = 835  # of text for each slot, before section 7
@@ -149,3 +149,49 @@ class Board:
     def __len__(self) -> int:
         """How many aircraft something waits for."""
         return sum(1 for _ in self)
+
+
+class ListedBoard(Board):
+    """A board with the list of its aircraft beside it, in rising order of designator, which every add and take keeps.
+
+    What it answers is what ``Board`` answers. The memory must not be changed by another meanwhile: the list then disagrees
+    with it, and every call is refused as ``BoardNotValid``.
+    """
+
+    def __init__(self, memory: Union[bytearray, memoryview]) -> None:
+        super().__init__(memory)
+        self._list = (ctypes.c_uint8 * self.slots)()
+        slots, n, _, _ = self._lent()
+        refuse(lib.esk_tails_make(slots, n, self._list, n).code)
+
+    def add(self, designator: Text, text: Text) -> int:
+        name, data = as_bytes(designator), as_bytes(text)
+        answer = lib.esk_tails_add(*self._lent(), self._list, self.slots, name, len(name), data, len(data))
+        refuse(answer.code, answer.place)
+        return answer.length
+
+    def take(self, designator: Text) -> bytes:
+        name, out = as_bytes(designator), room()
+        answer = lib.esk_tails_take(*self._lent(), self._list, self.slots, name, len(name), out, len(out))
+        refuse(answer.code, answer.place)
+        return out.raw[: answer.length]
+
+    def _search(self, name: bytes):
+        slots, n, _, _ = self._lent()
+        return lib.esk_tails_find(slots, n, bytes(self._list), n, name, len(name))
+
+    def find(self, designator: Text) -> Optional[int]:
+        """The slot of an aircraft, by bisecting, without a look at any text; None where nothing waits for it."""
+        found = self._search(as_bytes(designator))
+        if found.code == NothingWaits.code:
+            return None
+        refuse(found.code, found.place)
+        return found.slot
+
+    def designators(self, prefix: str = "") -> List[str]:
+        """The aircraft whose designators begin so, in rising order."""
+        found = self._search(prefix.encode("ascii").ljust(6, b"0"))
+        if found.code != NothingWaits.code:
+            refuse(found.code, found.place)
+        names = [bytes(self._slots[i].designator).decode("ascii") for i in bytes(self._list) if i != 255]
+        return [name for name in names[found.at :] if name.startswith(prefix)]

@@ -11,7 +11,7 @@ from pathlib import Path
 from typing import Dict, List, Optional, Tuple, Type, Union
 
 #: The version of eskelvor.h that this module is written for: the first number must be the library's, the second not above.
-HEADER_VERSION = (4, 7)
+HEADER_VERSION = (4, 8)
 SONAME = "libeskelvor.so.%d" % HEADER_VERSION[0]
 ENVIRONMENT = "ESKELVOR_LIBRARY"
 
@@ -216,6 +216,10 @@ class RawGrant(ctypes.Structure):
     _fields_ = [("flags", _u8 * 7), ("downlinks", _u8), ("sections", _u8 * 8)]
 
 
+class Tail(ctypes.Structure):
+    _fields_ = [("place", _size), ("code", _u8), ("slot", _u8), ("at", _u8), ("spare", _u8), ("rest", _u32)]
+
+
 class RawEntry(ctypes.Structure):
     _fields_ = [
         ("place", _size),
@@ -288,6 +292,7 @@ RECORDS: Dict[str, Type[ctypes.Structure]] = {
     "esk_commute_answer": CommuteAnswer,
     "esk_slot": Slot,
     "esk_grant": RawGrant,
+    "esk_tail": Tail,
     "esk_entry": RawEntry,
     "esk_part": Part,
     "esk_gust_answer": GustAnswer,
@@ -331,6 +336,10 @@ CALLS: Dict[str, Tuple[object, List[object]]] = {
     "esk_board_take": (Answer, [_slots, _size, _room, _size, _bytes, _size, _room, _size]),
     "esk_office_add": (
         Answer, [_slots, _size, _room, _size, _bytes, _size, _bytes, _size, RawGrant, RawGrant]),
+    "esk_tails_make": (Answer, [_slots, _size, _room, _size]),
+    "esk_tails_find": (Tail, [_slots, _size, _bytes, _size, _bytes, _size]),
+    "esk_tails_add": (Answer, [_slots, _size, _room, _size, _room, _size, _bytes, _size, _bytes, _size]),
+    "esk_tails_take": (Answer, [_slots, _size, _room, _size, _room, _size, _bytes, _size, _room, _size]),
     "esk_journal_check": (Answer, _journal),
     "esk_journal_last": (RawEntry, _journal),
     "esk_journal_add": (Answer, [*_journal, _bytes, _size, _bytes, _size]),

@@ -296,3 +296,52 @@ class Night(Case):
 
     def test_a_full_night(self) -> None:
         self.play(64, 3000, 0.2, 2)
+
+
+class ListedBoards(Case):
+    def test_by_hand(self) -> None:
+        board = eskelvor.ListedBoard(bytearray(Board.size(4)))
+        self.assertEqual(board.designators(), [])
+        self.assertIsNone(board.find("XY0001"))
+        for name in ["XY0005", "XY0001", "AB0003"]:
+            self.assertEqual(board.add(name, FIRST), len(FIRST))
+        self.assertEqual(board.add("XY0005", SECOND), len(BOTH))
+        self.assertEqual(board.designators(), ["AB0003", "XY0001", "XY0005"])
+        self.assertEqual(board.designators("XY"), ["XY0001", "XY0005"])
+        self.assertEqual(board.designators("XY0002"), [])
+        self.assertEqual([board.find(name) for name in ["XY0005", "XY0001", "AB0003", "AB0004"]], [0, 1, 2, None])
+        with self.assertRaises(eskelvor.NothingWaits):
+            board.take("AB0004")
+        with self.assertRaises(eskelvor.Refusal) as refused:
+            board.find("xy")
+        self.assertEqual(refused.exception.code, 4)
+        self.assertEqual(board.take("XY0005"), BOTH)
+        self.assertEqual(board.designators(), ["AB0003", "XY0001"])
+
+    def test_memory_that_another_changed(self) -> None:
+        memory = bytearray(Board.size(2))
+        board = eskelvor.ListedBoard(memory)
+        Board(memory).add("XY0001", FIRST)
+        was = bytes(memory)
+        for call in (lambda: board.find("XY0001"), lambda: board.add("XY0001", FIRST), lambda: board.take("XY0001")):
+            with self.assertRaises(eskelvor.BoardNotValid):
+                call()
+        self.assertEqual(bytes(memory), was)
+        self.assertEqual(eskelvor.ListedBoard(memory).designators(), ["XY0001"])
+
+    def test_a_night(self) -> None:
+        dice = random.Random(9)
+        one, other = bytearray(Board.size(9)), bytearray(Board.size(9))
+        listed, plain = eskelvor.ListedBoard(one), Board(other)
+        names = ["%s%04d" % (dice.choice(["AA", "ZZ", "M0"]), i) for i in range(14)]
+        for _ in range(600):
+            name, text = dice.choice(names), dice.choice([FIRST, SECOND, b"AWR04"])
+            takes, told = dice.random() < 0.4, []
+            for board in (listed, plain):
+                try:
+                    told.append(board.take(name) if takes else board.add(name, text))
+                except eskelvor.Refusal as refused:
+                    told.append((refused.code, refused.place))
+            self.assertEqual(told[0], told[1])
+            self.assertEqual(one, other)
+            self.assertEqual(listed.designators(), sorted(waiting.designator for waiting in plain))

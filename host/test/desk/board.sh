@@ -54,6 +54,39 @@ err_is 'eskelvor: XY0003: refused: code 11 at byte 0: nothing waits for that air
 answers 1 'no designator' board b list XY3
 err_has "XY3: $six"
 answers 2 'two of them' board b list XY0001 XY0002
+# In rising order of designator, and those that begin so
+answers 0 'a board out of order' board tails create 5
+for tail in XY0002 AB0001 XY0011 AB0002; do
+    answers 0 "$tail" board tails add $tail $first
+done
+one="  26 bytes  $first"
+answers 0 'in rising order of designator' board tails list
+out_is 'tails: valid, 4 of 5 slots used' "  slot  2  AB0001 $one" "  slot  4  AB0002 $one" "  slot  1  XY0002 $one" \
+    "  slot  3  XY0011 $one"
+answers 0 'those that begin so' board tails find XY00
+out_is "  slot  1  XY0002 $one" "  slot  3  XY0011 $one"
+answers 0 'one letter' board tails find A
+out_is "  slot  2  AB0001 $one" "  slot  4  AB0002 $one"
+answers 0 'all six' board tails find AB0002
+out_is "  slot  4  AB0002 $one"
+answers 0 'no letter: all' board tails find ''
+out_is "  slot  2  AB0001 $one" "  slot  4  AB0002 $one" "  slot  1  XY0002 $one" "  slot  3  XY0011 $one"
+for none in 0 AA AB0003 M XY0003 XZ Z; do
+    answers 0 "none begins with $none" board tails find $none
+    out_is
+done
+answers 0 'for a machine' board tails find --json XY
+json_has results.0.prefix=XY results.0.found=2 results.0.waiting.0.designator=XY0002 results.0.waiting.1.slot=3 status=0
+answers 0 'none, for a machine' board tails find --json Q
+json_has results.0.found=0 status=0
+answers 1 'small letters' board tails find xy
+err_has 'code 4 at byte 0'
+answers 2 'seven bytes' board tails find XY00022
+answers 2 'no prefix' board tails find
+answers 2 'two of them' board tails find X Y
+answers 0 'taken out of the middle' board tails take AB0002
+answers 0 'the others are still found' board tails find AB
+out_is "  slot  2  AB0001 $one"
 cmp -s b before || fail 'looking changed the board'
 
 # More slots: all that waits stays, in its slot
