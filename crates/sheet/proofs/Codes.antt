@@ -35,6 +35,28 @@ textCodes = 3 ∷ 4 ∷ 5 ∷ 6 ∷ 8 ∷ []
 abbrev pub recordCodes : List ℕ
 recordCodes = 4 ∷ 5 ∷ 2 ∷ []
 
+-- whatever a test decides, what holds of both answers' codes holds of its answer's
+code-of : (t : Bool) (a b : Word) → cond t a b .code ≡ cond t (a .code) (b .code)
+code-of true a b = refl
+code-of false a b = refl
+
+one-of : (codes : List ℕ) (t : Bool) (m n : ℕ) → isOneOf codes (cond t m n) ≡ cond t (isOneOf codes m) (isOneOf codes n)
+one-of codes true m n = refl
+one-of codes false m n = refl
+
+both : (t : Bool) → cond t true true ≡ true
+both true = refl
+both false = refl
+
+-- a code is 0, or a refusal's
+seen-coded : (codes : List ℕ) (code place : ℕ) → isOneOf (0 ∷ codes) code ≡ true → coded codes (seen code place) ≡ true
+unfolding isOneOf
+seen-coded codes code place = by (eqb code 0)
+  where
+    by : (t : Bool) → (t || isOneOf codes code) ≡ true → coded codes (cond t Fine (Bad code place)) ≡ true
+    by true e = refl
+    by false e = e
+
 then-coded : (codes : List ℕ) (a b : Seen) → coded codes a ≡ true → coded codes b ≡ true → coded codes (a andThen b) ≡ true
 then-coded codes Fine b p q = q
 then-coded codes (Bad code place) b p q = p
@@ -44,74 +66,57 @@ unfolding each
 each-coded codes f h k zero = refl
 each-coded codes f h k (suc n) = then-coded codes (f k) (each f (suc k) n) (h k) (each-coded codes f h (suc k) n)
 
+must-coded : (codes : List ℕ) (t : Bool) (code place : ℕ) → isOneOf codes code ≡ true → coded codes (must t code place) ≡ true
+must-coded codes true code place e = refl
+must-coded codes false code place e = e
+
+-- 0 and five codes are all that a part of a text gives
+module _ (codes : List ℕ) (none : isOneOf codes 0 ≡ true) (three : isOneOf codes 3 ≡ true) (four : isOneOf codes 4 ≡ true)
+    (five : isOneOf codes 5 ≡ true) (six : isOneOf codes 6 ≡ true) (eight : isOneOf codes 8 ≡ true) where
+  fixed-given : (t s : List ℕ) (at : ℕ) → isOneOf codes (fixedCode t s at) ≡ true
+  unfolding fixedCode
+  fixed-given t s at = simp (one-of, none, three, eight, both)
+
+  digits-given : (l : Limits) (below : Bool) (ds : List ℕ) → isOneOf codes (digitsRead l below ds .code) ≡ true
+  unfolding digitsRead
+  digits-given l below ds = simp (code-of, one-of, none, four, five, six, both)
+
+  bytes-given : (form : Form) (f : List ℕ) → isOneOf codes (bytesRead form f .code) ≡ true
+  unfolding bytesRead numberRead signedRead
+  bytes-given (Name w) f = simp (code-of, one-of, none, four, both)
+  bytes-given Switch f = simp (code-of, one-of, none, four, both)
+  bytes-given (Digit most) f = simp (code-of, one-of, none, four, both)
+  bytes-given (Number w l) f = simp (code-of, one-of, digits-given, both)
+
+  field-given : (form : Form) (s : List ℕ) (at : ℕ) → isOneOf codes (fieldRead form s at .code) ≡ true
+  unfolding fieldRead
+  field-given form s at = simp (code-of, one-of, bytes-given, four, eight, both)
+
+-- and 0 and two all that one of a record does
+module _ (codes : List ℕ) (none : isOneOf codes 0 ≡ true) (four : isOneOf codes 4 ≡ true) (five : isOneOf codes 5 ≡ true) where
+  held-given : (form : Form) (v : List ℕ) → isOneOf codes (heldCode form v) ≡ true
+  unfolding heldCode
+  held-given (Name w) v = simp (one-of, none, four, both)
+  held-given Switch v = simp (one-of, none, four, both)
+  held-given (Digit most) v = simp (one-of, none, four, both)
+  held-given (Number w l) v = simp (one-of, none, five, both)
+
 fixed-coded : (t s : List ℕ) (at : ℕ) → coded textCodes (seen (fixedCode t s at) at) ≡ true
-unfolding fixedCode isOneOf
-fixed-coded t s at = by (leb (at + length t) (length s)) (sameBytes (part at (length t) s) t)
-  where
-    by : (p q : Bool) → coded textCodes (seen (cond p (cond q 0 3) 8) at) ≡ true
-    by true true = refl
-    by true false = refl
-    by false q = refl
-
-digits-coded : (l : Limits) (below : Bool) (ds : List ℕ) (at : ℕ) → coded textCodes (seen (digitsRead l below ds .code) at) ≡ true
-unfolding digitsRead isOneOf
-digits-coded l below ds at =
-    by (ltb 0 (length ds) && allDigits ds) (eqb (getD ds 0 0) 48 && (below || ltb 1 (length ds))) (within l below (value ds)) (cond below (65536 - value ds) (value ds))
-  where
-    by : (p q r : Bool) (v : ℕ) → coded textCodes (seen (cond p (cond q (refused 6) (cond r (record { code = 0; word = v }) (refused 5))) (refused 4) .code) at) ≡ true
-    by true true r v = refl
-    by true false true v = refl
-    by true false false v = refl
-    by false q r v = refl
-
-signed-coded : (l : Limits) (t : List ℕ) (at : ℕ) → coded textCodes (seen (signedRead l t .code) at) ≡ true
-unfolding signedRead
-signed-coded l t at = by (eqb (getD t 0 0) 45)
-  where
-    by : (p : Bool) → coded textCodes (seen (cond p (digitsRead l true (drop 1 t)) (digitsRead l false t) .code) at) ≡ true
-    by true = digits-coded l true (drop 1 t) at
-    by false = digits-coded l false t at
-
-one-coded : (p : Bool) (v at : ℕ) → coded textCodes (seen (cond p (one v) (refused 4) .code) at) ≡ true
 unfolding isOneOf
-one-coded true v at = refl
-one-coded false v at = refl
-
-bytes-coded : (form : Form) (f : List ℕ) (at : ℕ) → coded textCodes (seen (bytesRead form f .code) at) ≡ true
-unfolding bytesRead numberRead isOneOf
-bytes-coded (Name w) f at = one-coded (allAllowed f) 0 at
-bytes-coded Switch f at = by (eqb (getD f 0 0) 68) (eqb (getD f 0 0) 82)
-  where
-    by : (p q : Bool) → coded textCodes (seen (cond p (one 0) (cond q (one 1) (refused 4)) .code) at) ≡ true
-    by true q = refl
-    by false true = refl
-    by false false = refl
-bytes-coded (Digit most) f at = one-coded (between 48 (48 + most) (getD f 0 0)) (getD f 0 0 - 48) at
-bytes-coded (Number w l) f at = signed-coded l (trim f) at
-
-field-coded : (form : Form) (s : List ℕ) (at : ℕ) → coded textCodes (seen (fieldRead form s at .code) at) ≡ true
-unfolding fieldRead isOneOf
-field-coded form s at = by (leb (at + widthOf form) (length s))
-  where
-    by : (p : Bool) → coded textCodes (seen (cond p (bytesRead form (part at (widthOf form) s)) (refused 8) .code) at) ≡ true
-    by true = bytes-coded form (part at (widthOf form) s) at
-    by false = refl
+fixed-coded t s at = seen-coded textCodes (fixedCode t s at) at (fixed-given (0 ∷ textCodes) refl refl refl refl refl refl t s at)
 
 cell-coded : (s : List ℕ) (c : Cell) → coded textCodes (checkCell s c) ≡ true
-unfolding checkCell
+unfolding checkCell isOneOf
 cell-coded s c =
     let last = cond (c .ends) (seen (fixedCode lineEnd s (fieldEnd c)) (fieldEnd c)) Fine in
-    let field = seen (fieldRead (c .form) s (fieldAt c) .code) (fieldAt c) in
+    let code = fieldRead (c .form) s (fieldAt c) .code in
+    let field = seen code (fieldAt c) in
     then-coded textCodes (seen (fixedCode (labelOf c) s (c .at)) (c .at)) (field andThen last) (fixed-coded (labelOf c) s (c .at))
-    (then-coded textCodes field last (field-coded (c .form) s (fieldAt c)) (by (c .ends)))
+    (then-coded textCodes field last (seen-coded textCodes code (fieldAt c) (field-given (0 ∷ textCodes) refl refl refl refl refl refl (c .form) s (fieldAt c))) (by (c .ends)))
   where
     by : (t : Bool) → coded textCodes (cond t (seen (fixedCode lineEnd s (fieldEnd c)) (fieldEnd c)) Fine) ≡ true
     by true = fixed-coded lineEnd s (fieldEnd c)
     by false = refl
-
-must-coded : (codes : List ℕ) (t : Bool) (code place : ℕ) → isOneOf codes code ≡ true → coded codes (must t code place) ≡ true
-must-coded codes true code place e = refl
-must-coded codes false code place e = e
 
 -- a text is refused with 3, 4, 5, 6 or 8
 pub text-codes : (s : List ℕ) → coded textCodes (checkSheet s) ≡ true
@@ -121,33 +126,11 @@ text-codes s =
     (each-coded textCodes (λ k. checkCell s (cellAt k)) (λ (k : ℕ). cell-coded s (cellAt k)) 0 167)
     (must-coded textCodes (eqb (length s) 913) 8 913 refl)
 
-held-coded : (form : Form) (v : List ℕ) (at : ℕ) → coded recordCodes (seen (heldCode form v) at) ≡ true
-unfolding heldCode isOneOf
-held-coded (Name w) v at = by (allAllowed v)
-  where
-    by : (p : Bool) → coded recordCodes (seen (cond p 0 4) at) ≡ true
-    by true = refl
-    by false = refl
-held-coded Switch v at = by (leb (getD v 0 0) 1)
-  where
-    by : (p : Bool) → coded recordCodes (seen (cond p 0 4) at) ≡ true
-    by true = refl
-    by false = refl
-held-coded (Digit most) v at = by (leb (getD v 0 0) most)
-  where
-    by : (p : Bool) → coded recordCodes (seen (cond p 0 4) at) ≡ true
-    by true = refl
-    by false = refl
-held-coded (Number w l) v at = by (within l (isBelow (getD v 0 0)) (sizeOf (getD v 0 0)))
-  where
-    by : (p : Bool) → coded recordCodes (seen (cond p 0 5) at) ≡ true
-    by true = refl
-    by false = refl
-
 -- a record with 4, 5 or 2
 pub record-codes : (x : Sheet) (room : ℕ) → coded recordCodes (writeSeen x room) ≡ true
 unfolding writeSeen allowedSheet allowedCell isOneOf
 record-codes x room =
+    let held = held-given (0 ∷ recordCodes) refl refl refl in
     then-coded recordCodes (each (allowedCell x) 0 167) (must (leb 913 room) 2 0)
-    (each-coded recordCodes (allowedCell x) (λ (k : ℕ). held-coded (cellAt k .form) (heldAt x k) (fieldAt (cellAt k))) 0 167)
+    (each-coded recordCodes (allowedCell x) (λ (k : ℕ). seen-coded recordCodes (heldCode (cellAt k .form) (heldAt x k)) (fieldAt (cellAt k)) (held (cellAt k .form) (heldAt x k))) 0 167)
     (must-coded recordCodes (leb 913 room) 2 0 refl)

@@ -29,7 +29,7 @@ use Rattle.text.specs.Parts.{part}
 use Rattle.text.proofs.Parts.{part-bytes}
 use Rattle.text.proofs.Cases.{by-eq, by-le, both-left, both-right}
 use Rattle.text.proofs.Checks.{bad-fine}
-use Rattle.sheet.proofs.Small.{every}
+use Rattle.sheet.proofs.Small.{every, not-held}
 use Rattle.sheet.proofs.Each.{each-fine}
 
 -- ---- by form
@@ -45,9 +45,6 @@ isFour (Name w) = eqb w 4
 isFour Switch = false
 isFour (Digit most) = false
 isFour (Number w l) = false
-
-not-held {ℓ} : {P : Type ℓ} → false ≡ true → P
-not-held e = let z : _≡_ {A = ℕ} 0 1 = ap (λ (t : Bool). cond t 1 0) e in absurd (omega arith)
 
 pub word-held : (f : Form) (h : Held) → isWord f ≡ true → heldIs f h ≡ h .word ∷ []
 unfolding heldIs
@@ -168,7 +165,7 @@ sizes-more k (suc n) =
     let q : k + suc n ≡ suc k + n = omega arith in
     rw (e, q) (omega (arith, sizes-more (suc k) n))
 
-sizes-add : (k m n : ℕ) → sizes k m ≤ sizes k (m + n)
+pub sizes-add : (k m n : ℕ) → sizes k m ≤ sizes k (m + n)
 sizes-add k m zero = let e : m + 0 ≡ m = omega arith in rw e (omega arith)
 sizes-add k m (suc n) =
     let e : m + suc n ≡ m + n + 1 = omega arith in

@@ -28,6 +28,23 @@ module _ (f : ℕ → Seen) where
   unfolding each
   each-stop k n code place h e = rw (left k n h, e)
 
+  -- the first refusal
+  pub each-first : (k n code place i : ℕ) → i ≤ k → k < i + n → ((j : ℕ) → i ≤ j → j < k → f j ≡ Fine) → f k ≡ Bad code place → each f i n ≡ Bad code place
+  unfolding each
+  each-first k zero code place i low high before e = absurd (omega arith)
+  each-first k (suc n) code place i low high before e =
+      by-eq i k
+      (λ (q : i ≡ k). rw (q, e))
+      (λ (q : i ≡ k → ⊥).
+      rw (before i (omega arith) (omega arith))
+      (each-first k n code place (suc i) (omega arith) (omega arith) (λ (j : ℕ) (l : suc i ≤ j) (m : j < k). before j (omega arith) m) e))
+
+  -- all fine
+  pub each-all : (n i : ℕ) → ((j : ℕ) → i ≤ j → j < i + n → f j ≡ Fine) → each f i n ≡ Fine
+  unfolding each
+  each-all zero i h = refl
+  each-all (suc n) i h = rw (h i (omega arith) (omega arith)) (each-all n (suc i) (λ (j : ℕ) (l : suc i ≤ j) (m : j < suc i + n). h j (omega arith) (omega arith)))
+
   -- where all are fine, each is
   pub each-fine : (k n : ℕ) → each f k n ≡ Fine → (i : ℕ) → k ≤ i → i < k + n → f i ≡ Fine
   unfolding each

@@ -10,4 +10,5 @@ pub mod Spelling
 pub mod TextOfRead
 pub mod Spelt
 pub mod ReadOfText
+pub mod Ends
 pub mod Codes

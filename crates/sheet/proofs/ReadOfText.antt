@@ -30,17 +30,11 @@ use Rattle.sheet.specs.Number.{refused, isBelow, sizeOf, within, numberR
 use Rattle.sheet.specs.Layout.{widthOf, cellAt, boxCell, airportCell}
 use Rattle.sheet.specs.Inner.{smallForm, sizeOfCell}
 use Rattle.sheet.specs.Sheet.{seen, fieldAt, fieldEnd, labelOf, lineEnd, fixedCode, one, digitRead, switchRead, nameRead, bytesRead, fieldRead, each, checkCell, checkSheet, wordAt, nameCell, airportByte, airportOf, sheetAt, heldAt, heldCode, allowedSheet, fieldText, cellText, joined, heldText, sheetText}
-use Rattle.sheet.proofs.Small.{every, cell-small, small-parts, small-number}
+use Rattle.sheet.proofs.Small.{every, not-held, cell-small, small-parts, small-number}
 use Rattle.sheet.proofs.Contents.{sizes, sizes-more, sizes-all, joined-more, label-length, isWord, isFour, word-cell, name-cell, status-cell, number-length, cell-length, allowed-held, ends-length}
-use Rattle.sheet.proofs.Filled.{values-length}
+use Rattle.sheet.proofs.Each.{each-all}
 use Rattle.sheet.proofs.Spelt.{spelt-read}
 use Rattle.sheet.proofs.TextOfRead.{places, name-byte, status-byte}
-
-no-code {ℓ} : {P : Type ℓ} (n : ℕ) → suc n ≡ 0 → P
-no-code n e = absurd (omega arith)
-
-not-held {ℓ} : {P : Type ℓ} → false ≡ true → P
-not-held e = let z : _≡_ {A = ℕ} 0 1 = ap (λ (t : Bool). cond t 1 0) e in absurd (omega arith)
 
 -- ---- a field
 
@@ -57,7 +51,7 @@ roomy-cells = every (λ k. roomy (cellAt k .form)) 167 refl
 
 code-held : (t : Bool) (n : ℕ) → cond t 0 (suc n) ≡ 0 → t ≡ true
 code-held true n e = refl
-code-held false n e = no-code n e
+code-held false n e = absurd (omega arith)
 
 switch-back : (w : ℕ) → w ≤ 1 → switchRead (cond (eqb w 0) 68 82) ≡ one w
 switch-back w h = by-eq w 0 (λ (e : w ≡ 0). rw e) (λ (n : w ≡ 0 → ⊥). let e : w ≡ 1 = omega arith in rw e)
@@ -308,15 +302,11 @@ module _ (x : Sheet) (sized : Sized x) (fine : allowedSheet x ≡ Fine) where
       rw (fixed-fine (labelOf (cellAt k)) (sheetText x) (cellAt k .at) (label-stands k h), code)
       (ends-fine (cellAt k .ends) (sheetText x) (fieldEnd (cellAt k)) (end-stands k h))
 
-  each-cell : (k n : ℕ) → k + n ≤ 167 → each (λ j. checkCell (sheetText x) (cellAt j)) k n ≡ Fine
-  unfolding each
-  each-cell k zero h = refl
-  each-cell k (suc n) h = rw (cell-fine k (omega arith)) (each-cell (suc k) n (omega arith))
-
   -- the text of an allowed record is accepted
   pub text-accepted : checkSheet (sheetText x) ≡ Fine
   unfolding checkSheet
-  text-accepted = rw (each-cell 0 167 (omega arith), text-length)
+  text-accepted =
+      rw (each-all (λ j. checkCell (sheetText x) (cellAt j)) 167 0 (λ (j : ℕ) (l : 0 ≤ j) (m : j < 0 + 167). cell-fine j (omega arith)), text-length)
 
   -- and each of its words is read back
   word-back : (k w : ℕ) → k < 167 → heldAt x k ≡ w ∷ [] → isWord (cellAt k .form) ≡ true → w < 65536 → wordAt (sheetText x) k ≡ w

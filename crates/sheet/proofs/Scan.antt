@@ -14,7 +14,7 @@ use Rattle.text.proofs.Cases.{both-left, both-right}
 use Rattle.packed.specs.Packed.{trim}
 use Rattle.field.specs.Decimal.{isDigit, allDigits, value, valueFrom}
 use Rattle.sheet.specs.declared.Limits.{Limits}
-use Rattle.sheet.specs.Number.{refused, within, digitsRead, signedRead, blanked, marked}
+use Rattle.sheet.specs.Number.{refused, within, zeroFirst, digitsRead, signedRead, blanked, marked}
 
 pub next : (l : List ℕ) (i : ℕ) → i < length l → drop i l ≡ getD l i 0 ∷ drop (i + 1) l
 next l i h = rw (add-one, drop-cons l i 0)
@@ -133,10 +133,10 @@ value-least [] n = omega arith
 value-least (b ∷ ds) n = omega (arith, value-least ds (n * 10 + (b - 48)))
 
 -- digits that begin with none are worth more than nothing
-pub value-positive : (ds : List ℕ) (more : Bool) → ltb 0 (length ds) ≡ true → allDigits ds ≡ true → (eqb (getD ds 0 0) 48 && (true || more)) ≡ false → 0 < value ds
+pub value-positive : (ds : List ℕ) → ltb 0 (length ds) ≡ true → allDigits ds ≡ true → zeroFirst true ds ≡ false → 0 < value ds
 unfolding allDigits valueFrom
-value-positive [] more some all e = let z : _≡_ {A = ℕ} 0 1 = ap (λ (t : Bool). cond t 1 0) some in absurd (omega arith)
-value-positive (b ∷ ds) more some all e =
+value-positive [] some all e = let z : _≡_ {A = ℕ} 0 1 = ap (λ (t : Bool). cond t 1 0) some in absurd (omega arith)
+value-positive (b ∷ ds) some all e =
     let low : 48 ≤ b = digit-low b (both-left (isDigit b) (allDigits ds) all) in
     let other : b ≡ 48 → ⊥ = eqb-false b 48 (one-left (eqb b 48) e) in
     omega (arith, value-least ds (0 * 10 + (b - 48)))

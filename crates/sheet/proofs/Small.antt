@@ -12,14 +12,22 @@ use Rattle.sheet.specs.declared.Limits.{Limits}
 use Rattle.sheet.specs.declared.Form.{Form}
 use Rattle.sheet.specs.declared.Form.the-variants.{Name, Switch, Digit, Number}
 use Rattle.sheet.specs.declared.Cell.{Cell}
+use Rattle.sheet.specs.declared.Word.{Word}
 use Rattle.sheet.specs.Layout.{widthOf, cellAt, boxCell, airportCell}
 use Rattle.sheet.specs.Inner.{smallForm, smallCell}
 use lib.ListN.{length, getD}
-use mathlib.Core.List.{List}
+use mathlib.Core.List.{List, _∷_}
 use Rattle.text.specs.Parts.{part}
 use Rattle.text.specs.Names.{between}
+use Rattle.text.specs.Equal.{sameBytes}
+use Rattle.text.proofs.Equal.{same-equal}
+use Rattle.packed.specs.Packed.{trim}
 use Rattle.sheet.specs.Number.{refused}
-use Rattle.sheet.specs.Sheet.{fieldAt, nameCell, wordAt, fieldRead, bytesRead, digitRead}
+use Rattle.sheet.specs.Sheet.{labelOf, fieldAt, numeral, nameCell, wordAt, fieldRead, bytesRead, digitRead}
+
+-- a test that fails does not hold
+pub not-held {ℓ} : {P : Type ℓ} → false ≡ true → P
+not-held e = let z : _≡_ {A = ℕ} 0 1 = ap (λ (t : Bool). cond t 1 0) e in absurd (omega arith)
 
 -- a test that antt computes at each number below n
 pub every : (test : ℕ → Bool) (n : ℕ) → values (λ k. cond (test k) 1 0) 0 n ≡ values (λ k. 1) 0 n → (k : ℕ) → k < n → test k ≡ true
@@ -76,6 +84,14 @@ isStatus Switch = false
 isStatus (Digit most) = eqb most 1
 isStatus (Number w l) = false
 
+-- the fixed group before an airport's name has its number, 1 to 50: 65 is `A`
+labels : (n : ℕ) → n < 50 → sameBytes (trim (labelOf (cellAt (nameCell n)))) (65 ∷ numeral (suc n)) ≡ true
+unfolding cellAt boxCell airportCell trim sameBytes
+labels = every (λ n. sameBytes (trim (labelOf (cellAt (nameCell n)))) (65 ∷ numeral (suc n))) 50 refl
+
+pub airport-label : (n : ℕ) → n < 50 → trim (labelOf (cellAt (nameCell n))) ≡ 65 ∷ numeral (suc n)
+airport-label n h = same-equal (trim (labelOf (cellAt (nameCell n)))) (65 ∷ numeral (suc n)) (labels n h)
+
 -- a name's place, which ends four bytes on
 pub name-near : (n : ℕ) → n < 50 → leb (fieldAt (cellAt (nameCell n)) + 4) 913 ≡ true
 unfolding cellAt boxCell airportCell
@@ -87,14 +103,14 @@ status-form = every (λ n. isStatus (cellAt (suc (nameCell n)) .form)) 50 refl
 
 word-small : (f : Form) (s : List ℕ) (at : ℕ) → isStatus f ≡ true → fieldRead f s at .word ≤ 9
 unfolding fieldRead bytesRead widthOf
-word-small (Name w) s at e = let z : _≡_ {A = ℕ} 0 1 = ap (λ (t : Bool). cond t 1 0) e in absurd (omega arith)
-word-small Switch s at e = let z : _≡_ {A = ℕ} 0 1 = ap (λ (t : Bool). cond t 1 0) e in absurd (omega arith)
-word-small (Number w l) s at e = let z : _≡_ {A = ℕ} 0 1 = ap (λ (t : Bool). cond t 1 0) e in absurd (omega arith)
-word-small (Digit most) s at e = by-room (leb (at + 1) (length s)) (getD (part at 1 s) 0 0) (eqb-true most 1 e)
+word-small (Name w) s at e = not-held e
+word-small Switch s at e = not-held e
+word-small (Number w l) s at e = not-held e
+word-small (Digit most) s at e = by-room (leb (at + 1) (length s)) (getD (part at 1 s) 0 0) _ (omega arith) (eqb-true most 1 e)
   where
-    by-room : (t : Bool) (b : ℕ) → most ≡ 1 → cond t (digitRead most b) (refused 8) .word ≤ 9
-    by-room false b q = omega arith
-    by-room true b q =
+    by-room : (t : Bool) (b : ℕ) (other : Word) → other .word ≤ 9 → most ≡ 1 → cond t (digitRead most b) other .word ≤ 9
+    by-room false b other small q = small
+    by-room true b other small q =
         by-test (between 48 (48 + most) b)
         (λ (h : between 48 (48 + most) b ≡ true). rw h (omega (arith, leb-true b (48 + most) (both-right (leb 48 b) (leb b (48 + most)) h))))
         (λ (h : between 48 (48 + most) b ≡ false). rw h (omega arith))

@@ -13,7 +13,7 @@ use Rattle.field.specs.Decimal.{isDigit, allDigits, value, valueFrom, decimal}
 use Rattle.field.proofs.Decimal.{digit-low, digit-high, decimal-value}
 use Rattle.sheet.specs.declared.Limits.{Limits}
 use Rattle.sheet.specs.declared.Word.{Word}
-use Rattle.sheet.specs.Number.{wordOf, isBelow, sizeOf, within, refused, digitsRead, signedRead, numberRead, blanked, marked, numberText}
+use Rattle.sheet.specs.Number.{wordOf, isBelow, sizeOf, within, refused, zeroFirst, digitsRead, signedRead, numberRead, blanked, marked, numberText}
 use Rattle.sheet.proofs.Scan.{value-positive, within-small}
 
 -- n times a byte before a text
@@ -81,25 +81,22 @@ mark-pad (suc n) d r e = ap (λ (t : List ℕ). 32 ∷ t) (mark-pad n d r e)
 pub record Digits (l : Limits) (below : Bool) (ds : List ℕ) (x : Word) : Type 0 where
   pub some : ltb 0 (length ds) ≡ true
   pub all : allDigits ds ≡ true
-  pub least : (eqb (getD ds 0 0) 48 && (below || ltb 1 (length ds))) ≡ false
+  pub least : zeroFirst below ds ≡ false
   pub inside : within l below (value ds) ≡ true
   pub is : x .word ≡ wordOf below (value ds)
-
-no-code {ℓ} : {P : Type ℓ} (n : ℕ) → suc n ≡ 0 → P
-no-code n e = absurd (omega arith)
 
 picked : (p q r : Bool) (v : ℕ) → cond p (cond q (refused 6) (cond r (record { code = 0; word = v }) (refused 5))) (refused 4) .code ≡ 0
     → (p ≡ true) × ((q ≡ false) × (r ≡ true))
 picked true false true v e = (refl, (refl, refl))
-picked true false false v e = no-code 4 e
-picked true true r v e = no-code 5 e
-picked false q r v e = no-code 3 e
+picked true false false v e = absurd (omega arith)
+picked true true r v e = absurd (omega arith)
+picked false q r v e = absurd (omega arith)
 
 digits-of : (l : Limits) (below : Bool) (ds : List ℕ) → digitsRead l below ds .code ≡ 0 → Digits l below ds (digitsRead l below ds)
 unfolding digitsRead
 digits-of l below ds e =
     let p = ltb 0 (length ds) && allDigits ds in
-    let q = eqb (getD ds 0 0) 48 && (below || ltb 1 (length ds)) in
+    let q = zeroFirst below ds in
     let r = within l below (value ds) in
     let f = picked p q r (wordOf below (value ds)) e in
     record {
@@ -145,7 +142,7 @@ module _ (l : Limits) (small : (l .below ≤ 32768) × (l .most ≤ 32767)) (w n
   below-spelt [] x h long = no-some (h .some)
   below-spelt (d ∷ r) x h long =
       let v = value (d ∷ r) in
-      let low : 0 < v = value-positive (d ∷ r) (ltb 1 (length (d ∷ r))) (h .some) (h .all) (h .least) in
+      let low : 0 < v = value-positive (d ∷ r) (h .some) (h .all) (h .least) in
       let high : v ≤ 32768 = within-small l true v small (h .inside) in
       let size : sizeOf (65536 - v) ≡ v = size-below v low high in
       let digit = digit-low d (first-digit d r (h .all)) in

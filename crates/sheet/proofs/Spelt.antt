@@ -13,7 +13,7 @@ use Rattle.field.specs.Decimal.{isDigit, allDigits, value, valueFrom, decimal}
 use Rattle.field.proofs.Decimal.{digit-low, digit-high, decimal-length, decimal-digits, decimal-value, value-decimal}
 use Rattle.sheet.specs.declared.Limits.{Limits}
 use Rattle.sheet.specs.declared.Word.{Word}
-use Rattle.sheet.specs.Number.{wordOf, isBelow, sizeOf, within, refused, digitsRead, signedRead, numberRead, blanked, marked, numberText}
+use Rattle.sheet.specs.Number.{wordOf, isBelow, sizeOf, within, refused, zeroFirst, digitsRead, signedRead, numberRead, blanked, marked, numberText}
 use Rattle.sheet.proofs.Spelling.{pad, pad-digits, pad-value, blank-pad, mark-pad, text-below, text-above, first-digit}
 
 -- ---- zeros before the first other digit
@@ -83,7 +83,7 @@ trim-pad (suc n) b t e = trim-pad n b t e
 -- ---- reading the text of a number
 
 digits-fine : (l : Limits) (below : Bool) (ds : List ℕ) → ltb 0 (length ds) ≡ true → allDigits ds ≡ true
-    → (eqb (getD ds 0 0) 48 && (below || ltb 1 (length ds))) ≡ false → within l below (value ds) ≡ true
+    → zeroFirst below ds ≡ false → within l below (value ds) ≡ true
     → digitsRead l below ds ≡ record { code = 0; word = wordOf below (value ds) }
 unfolding digitsRead
 digits-fine l below ds some all least inside = rw (some, all, least, inside)

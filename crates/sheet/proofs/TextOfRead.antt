@@ -31,7 +31,7 @@ use Rattle.sheet.specs.Number.{refused, numberRead, numberText}
 use Rattle.sheet.specs.Layout.{widthOf, cellAt, boxCell, airportCell}
 use Rattle.sheet.specs.Inner.{smallForm, sizeOfCell}
 use Rattle.sheet.specs.Sheet.{seen, fieldAt, fieldEnd, labelOf, lineEnd, fixedCode, one, digitRead, switchRead, bytesRead, fieldRead, checkCell, checkSheet, wordAt, nameCell, airportByte, airportOf, sheetAt, heldAt, fieldText, cellText, joined, heldText, sheetText}
-use Rattle.sheet.proofs.Small.{every, cell-small, small-parts, small-number}
+use Rattle.sheet.proofs.Small.{every, not-held, cell-small, small-parts, small-number}
 use Rattle.sheet.proofs.Contents.{seen-fine, sizes, sizes-more, sizes-all, joined-more, label-length, isWord, isFour, word-cell, name-cell, status-cell, part-four}
 use Rattle.sheet.proofs.Checked.{checked-length, checked-cell}
 use Rattle.sheet.proofs.Filled.{values-at, values-length}
@@ -46,9 +46,6 @@ contentOf Switch f = bytesRead Switch f .word ∷ []
 contentOf (Digit most) f = bytesRead (Digit most) f .word ∷ []
 contentOf (Number w l) f = bytesRead (Number w l) f .word ∷ []
 
-no-code {ℓ} : {P : Type ℓ} (n : ℕ) → suc n ≡ 0 → P
-no-code n e = absurd (omega arith)
-
 one-byte : (f : List ℕ) → length f ≡ 1 → f ≡ getD f 0 0 ∷ []
 one-byte [] e = absurd (omega arith)
 one-byte (b ∷ []) e = refl
@@ -61,13 +58,13 @@ switch-spelt b e =
     (λ (p : eqb b 68 ≡ false).
     by-test (eqb b 82)
     (λ (q : eqb b 82 ≡ true). rw (p, q) (sym (eqb-true b 82 q)))
-    (λ (q : eqb b 82 ≡ false). no-code 3 (rw (p, q) at e)))
+    (λ (q : eqb b 82 ≡ false). absurd (omega (arith, rw (p, q) at e))))
 
 digit-spelt : (most b : ℕ) → digitRead most b .code ≡ 0 → 48 + digitRead most b .word ≡ b
 digit-spelt most b e =
     by-test (between 48 (48 + most) b)
     (λ (p : between 48 (48 + most) b ≡ true). rw p (omega (arith, leb-true 48 b (both-left (leb 48 b) (leb b (48 + most)) p))))
-    (λ (p : between 48 (48 + most) b ≡ false). no-code 3 (rw p at e))
+    (λ (p : between 48 (48 + most) b ≡ false). absurd (omega (arith, rw p at e)))
 
 pub field-spelt : (form : Form) (f : List ℕ) → smallForm form ≡ true → length f ≡ widthOf form → bytesRead form f .code ≡ 0
     → fieldText form (contentOf form f) ≡ f
@@ -88,8 +85,8 @@ fixed-there t s at e =
     (λ (h : at + length t ≤ length s).
     by-test (sameBytes (part at (length t) s) t)
     (λ (q : sameBytes (part at (length t) s) t ≡ true). (h, same-equal (part at (length t) s) t q))
-    (λ (q : sameBytes (part at (length t) s) t ≡ false). no-code 2 (rw (le-leb (at + length t) (length s) h, q) at e)))
-    (λ (h : length s < at + length t). no-code 7 (rw (lt-leb (at + length t) (length s) h) at e))
+    (λ (q : sameBytes (part at (length t) s) t ≡ false). absurd (omega (arith, rw (le-leb (at + length t) (length s) h, q) at e))))
+    (λ (h : length s < at + length t). absurd (omega (arith, rw (lt-leb (at + length t) (length s) h) at e)))
 
 -- a field that is there
 pub field-there : (form : Form) (s : List ℕ) (at : ℕ) → fieldRead form s at .code ≡ 0
@@ -98,16 +95,16 @@ unfolding fieldRead
 field-there form s at e =
     by-le (at + widthOf form) (length s)
     (λ (h : at + widthOf form ≤ length s). (h, rw (le-leb (at + widthOf form) (length s) h)))
-    (λ (h : length s < at + widthOf form). no-code 7 (rw (lt-leb (at + widthOf form) (length s) h) at e))
+    (λ (h : length s < at + widthOf form). absurd (omega (arith, rw (lt-leb (at + widthOf form) (length s) h) at e)))
 
 module _ (s : List ℕ) (c : Cell) (fine : checkCell s c ≡ Fine) where
-  last-seen : Seen
+  unfoldable pub last-seen : Seen
   last-seen = cond (c .ends) (seen (fixedCode lineEnd s (fieldEnd c)) (fieldEnd c)) Fine
 
-  field-seen : Seen
+  unfoldable pub field-seen : Seen
   field-seen = seen (fieldRead (c .form) s (fieldAt c) .code) (fieldAt c)
 
-  three : (seen (fixedCode (labelOf c) s (c .at)) (c .at) ≡ Fine) × ((field-seen ≡ Fine) × (last-seen ≡ Fine))
+  pub three : (seen (fixedCode (labelOf c) s (c .at)) (c .at) ≡ Fine) × ((field-seen ≡ Fine) × (last-seen ≡ Fine))
   unfolding checkCell field-seen last-seen
   three =
       let first = both-fine (seen (fixedCode (labelOf c) s (c .at)) (c .at)) (field-seen andThen last-seen) fine in
@@ -146,7 +143,7 @@ module _ (s : List ℕ) (c : Cell) (fine : checkCell s c ≡ Fine) where
 
 word-content : (form : Form) (f : List ℕ) → isWord form ≡ true → contentOf form f ≡ bytesRead form f .word ∷ []
 unfolding contentOf
-word-content (Name w) f e = let z : _≡_ {A = ℕ} 0 1 = ap (λ (t : Bool). cond t 1 0) e in absurd (omega arith)
+word-content (Name w) f e = not-held e
 word-content Switch f e = refl
 word-content (Digit most) f e = refl
 word-content (Number w l) f e = refl
@@ -154,16 +151,16 @@ word-content (Number w l) f e = refl
 name-content : (form : Form) (s : List ℕ) (at : ℕ) → isFour form ≡ true → contentOf form (part at (widthOf form) s) ≡ part at 4 s
 unfolding contentOf widthOf
 name-content (Name w) s at e = ap (λ (n : ℕ). part at n s) (eqb-true w 4 e)
-name-content Switch s at e = let z : _≡_ {A = ℕ} 0 1 = ap (λ (t : Bool). cond t 1 0) e in absurd (omega arith)
-name-content (Digit most) s at e = let z : _≡_ {A = ℕ} 0 1 = ap (λ (t : Bool). cond t 1 0) e in absurd (omega arith)
-name-content (Number w l) s at e = let z : _≡_ {A = ℕ} 0 1 = ap (λ (t : Bool). cond t 1 0) e in absurd (omega arith)
+name-content Switch s at e = not-held e
+name-content (Digit most) s at e = not-held e
+name-content (Number w l) s at e = not-held e
 
 four-wide : (form : Form) → isFour form ≡ true → widthOf form ≡ 4
 unfolding widthOf
 four-wide (Name w) e = eqb-true w 4 e
-four-wide Switch e = let z : _≡_ {A = ℕ} 0 1 = ap (λ (t : Bool). cond t 1 0) e in absurd (omega arith)
-four-wide (Digit most) e = let z : _≡_ {A = ℕ} 0 1 = ap (λ (t : Bool). cond t 1 0) e in absurd (omega arith)
-four-wide (Number w l) e = let z : _≡_ {A = ℕ} 0 1 = ap (λ (t : Bool). cond t 1 0) e in absurd (omega arith)
+four-wide Switch e = not-held e
+four-wide (Digit most) e = not-held e
+four-wide (Number w l) e = not-held e
 
 -- a byte of an airport's name, and its status
 pub name-byte : (s : List ℕ) (n j : ℕ) → j < 4 → airportByte s (5 * n + j) ≡ getD s (fieldAt (cellAt (nameCell n)) + j) 0

@@ -28,11 +28,15 @@ refused code = record { code = code; word = 0 }
 
 -- ---- Reading: 4, then 6, then 5
 
+-- 48 is `0`: it stands before other digits, or behind `-`
+abbrev pub zeroFirst : Bool → List ℕ → Bool
+zeroFirst below ds = eqb (getD ds 0 0) 48 && (below || ltb 1 (length ds))
+
 -- one digit or more, else 4; a zero before other digits or behind `-` is 6; a number outside the limits is 5
 unfoldable pub digitsRead : Limits → Bool → List ℕ → Word
 digitsRead l below ds =
     cond (ltb 0 (length ds) && allDigits ds)
-    (cond (eqb (getD ds 0 0) 48 && (below || ltb 1 (length ds))) (refused 6)
+    (cond (zeroFirst below ds) (refused 6)
     (cond (within l below (value ds)) (record { code = 0; word = wordOf below (value ds) })
     (refused 5)))
     (refused 4)

@@ -34,6 +34,13 @@ fieldAt c = c .at + c .labelled
 abbrev pub fieldEnd : Cell → ℕ
 fieldEnd c = fieldAt c + widthOf (c .form)
 
+abbrev pub cellEnd : Cell → ℕ
+cellEnd c = fieldEnd c + cond (c .ends) 2 0
+
+-- where the field begins that has byte n of a cell: its fixed group, its field, or its CR LF
+abbrev pub beginsAt : Cell → ℕ → ℕ
+beginsAt c n = cond (ltb n (fieldAt c)) (c .at) (cond (ltb n (fieldEnd c)) (fieldAt c) (fieldEnd c))
+
 -- no refusal is code 0
 abbrev pub seen : ℕ → ℕ → Seen
 seen code place = cond (eqb code 0) Fine (Bad code place)
@@ -90,6 +97,10 @@ wordAt s k = fieldRead (cellAt k .form) s (fieldAt (cellAt k)) .word
 -- an airport, 0 to 49, by row and column; the cell of its name, which the cell of its status follows
 abbrev pub nameCell : ℕ → ℕ
 nameCell n = boxesEnd + 2 * (5 * (n % 10) + n / 10)
+
+-- an airport's number as its fixed group has it: two digits, or one and a space
+abbrev pub numeral : ℕ → List ℕ
+numeral n = cond (ltb n 10) ((48 + n) ∷ 32 ∷ []) ((48 + n / 10) ∷ (48 + n % 10) ∷ [])
 
 -- five bytes to an airport: its name, its status
 unfoldable pub airportByte : List ℕ → ℕ → ℕ

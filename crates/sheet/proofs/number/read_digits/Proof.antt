@@ -67,7 +67,7 @@ word-of-requires c κs =
     let a = c .before .before .before .before .before .before .before .before .before in
     let ds = now (a .args .ds) in (
       within-small _ _ _ (a .pre .1) (sym (c .before .is-within .ensures) ∙ not-false _ (c .if4 .left)),
-      (λ e. rw value-is (value-positive ds (ltb 1 (length ds)) (some (c .before .before .before .before .before .before .before)) (digits (c .before .before .before .before .before)) (rw e at (c .before .before .before .if3 .left)))),
+      (λ e. rw value-is (value-positive ds (some (c .before .before .before .before .before .before .before)) (digits (c .before .before .before .before .before)) (rw e at (c .before .before .before .if3 .left)))),
     )
 
 returns-5 : tie.Need-returns-5
