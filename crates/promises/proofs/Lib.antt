@@ -26,6 +26,7 @@ mod Sections
 mod Sevens
 pub mod Tails
 mod Takings
+pub mod Sheet
 pub mod Track
 mod Waiting
 mod Waits

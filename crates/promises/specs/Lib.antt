@@ -17,6 +17,7 @@ pub mod Packed
 pub mod Part
 pub mod Report
 pub mod Sections
+pub mod Sheet
 pub mod Tails
 pub mod Track
 pub mod Zero

@@ -1,14 +1,13 @@
 -- What an accepted text is.
-use mathlib.Core.Path.{_≡_, refl, sym, ap, _∙_}
+use mathlib.Core.Path.{_≡_}
 use mathlib.Core.List.{List}
-use Prim.Native.Nat.{ℕ, zero, suc, _+_, _≤_, _<_}
+use Prim.Native.Nat.{ℕ, _<_}
 use native.Mathlib.Omega.{arith}
 use lib.Dec.{eqb}
 use lib.ListN.{length}
 use borrow.Author.Tests.{eqb-true}
-use Rattle.text.specs.declared.Seen.{Seen}
-use Rattle.text.specs.declared.Seen.the-variants.{Fine, Bad}
-use Rattle.text.specs.Checks.{must, _andThen_}
+use Rattle.text.specs.declared.Seen.the-variants.{Fine}
+use Rattle.text.specs.Checks.{must}
 use Rattle.text.proofs.Checks.{must-held, both-fine}
 use Rattle.sheet.specs.Layout.{cellAt}
 use Rattle.sheet.specs.Sheet.{each, checkCell, checkSheet}

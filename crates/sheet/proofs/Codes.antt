@@ -1,28 +1,24 @@
--- Which codes are given: of a text 3, 4, 5, 6 and 8, of a record 4, 5 and 2. 1 and 7 are given by neither.
-use mathlib.Core.Path.{_≡_, refl, sym, ap, _∙_}
-use mathlib.Core.Bool.{Bool, true, false, cond, _&&_, _||_}
+-- Which codes are given: of a text 3, 4, 5, 6 and 8, of a record 4 and 5, of its room 2. 1 and 7 are not.
+use mathlib.Core.Path.{_≡_, refl}
+use mathlib.Core.Bool.{Bool, true, false, cond, _||_}
 use mathlib.Core.List.{List, [], _∷_}
-use Prim.Native.Nat.{ℕ, zero, suc, _+_, _-_, _≤_}
-use lib.Dec.{leb, ltb, eqb}
-use lib.ListN.{length, getD, drop}
+use Prim.Native.Nat.{ℕ, zero, suc}
+use lib.Dec.{eqb}
+use lib.ListN.{length}
 use Rattle.text.specs.Parts.{part}
-use Rattle.text.specs.Equal.{sameBytes}
-use Rattle.text.specs.Names.{between, allAllowed}
 use Rattle.text.specs.Bytes.{isOneOf}
 use Rattle.text.specs.declared.Seen.{Seen}
 use Rattle.text.specs.declared.Seen.the-variants.{Fine, Bad}
 use Rattle.text.specs.Checks.{must, _andThen_}
-use Rattle.field.specs.Decimal.{allDigits, value}
-use Rattle.packed.specs.Packed.{trim}
 use Rattle.sheet.specs.declared.Limits.{Limits}
 use Rattle.sheet.specs.declared.Form.{Form}
 use Rattle.sheet.specs.declared.Form.the-variants.{Name, Switch, Digit, Number}
 use Rattle.sheet.specs.declared.Cell.{Cell}
 use Rattle.sheet.specs.declared.Word.{Word}
 use Rattle.sheet.specs.declared.Sheet.{Sheet}
-use Rattle.sheet.specs.Number.{refused, isBelow, sizeOf, within, digitsRead, signedRead, numberRead}
-use Rattle.sheet.specs.Layout.{widthOf, cellAt}
-use Rattle.sheet.specs.Sheet.{seen, fieldAt, fieldEnd, labelOf, lineEnd, fixedCode, one, bytesRead, fieldRead, each, checkCell, checkSheet, heldAt, heldCode, allowedCell, allowedSheet, writeSeen}
+use Rattle.sheet.specs.Number.{refused, digitsRead, signedRead, numberRead}
+use Rattle.sheet.specs.Layout.{cellAt}
+use Rattle.sheet.specs.Sheet.{seen, fieldAt, fieldEnd, labelOf, lineEnd, fixedCode, one, bytesRead, fieldRead, each, checkCell, checkSheet, heldAt, heldCode, allowedCell, allowedSheet}
 
 -- a refusal has one of these codes
 abbrev pub coded : List ℕ → Seen → Bool
@@ -33,7 +29,7 @@ abbrev pub textCodes : List ℕ
 textCodes = 3 ∷ 4 ∷ 5 ∷ 6 ∷ 8 ∷ []
 
 abbrev pub recordCodes : List ℕ
-recordCodes = 4 ∷ 5 ∷ 2 ∷ []
+recordCodes = 4 ∷ 5 ∷ []
 
 -- whatever a test decides, what holds of both answers' codes holds of its answer's
 code-of : (t : Bool) (a b : Word) → cond t a b .code ≡ cond t (a .code) (b .code)
@@ -65,10 +61,6 @@ each-coded : (codes : List ℕ) (f : ℕ → Seen) → ((k : ℕ) → coded code
 unfolding each
 each-coded codes f h k zero = refl
 each-coded codes f h k (suc n) = then-coded codes (f k) (each f (suc k) n) (h k) (each-coded codes f h (suc k) n)
-
-must-coded : (codes : List ℕ) (t : Bool) (code place : ℕ) → isOneOf codes code ≡ true → coded codes (must t code place) ≡ true
-must-coded codes true code place e = refl
-must-coded codes false code place e = e
 
 -- 0 and five codes are all that a part of a text gives
 module _ (codes : List ℕ) (none : isOneOf codes 0 ≡ true) (three : isOneOf codes 3 ≡ true) (four : isOneOf codes 4 ≡ true)
@@ -124,13 +116,15 @@ unfolding checkSheet isOneOf
 text-codes s =
     then-coded textCodes (each (λ k. checkCell s (cellAt k)) 0 167) (must (eqb (length s) 913) 8 913)
     (each-coded textCodes (λ k. checkCell s (cellAt k)) (λ (k : ℕ). cell-coded s (cellAt k)) 0 167)
-    (must-coded textCodes (eqb (length s) 913) 8 913 refl)
+    (by (eqb (length s) 913))
+  where
+    by : (t : Bool) → coded textCodes (must t 8 913) ≡ true
+    by true = refl
+    by false = refl
 
--- a record with 4, 5 or 2
-pub record-codes : (x : Sheet) (room : ℕ) → coded recordCodes (writeSeen x room) ≡ true
-unfolding writeSeen allowedSheet allowedCell isOneOf
-record-codes x room =
+-- a record with 4 or 5
+pub record-codes : (x : Sheet) → coded recordCodes (allowedSheet x) ≡ true
+unfolding allowedSheet allowedCell isOneOf
+record-codes x =
     let held = held-given (0 ∷ recordCodes) refl refl refl in
-    then-coded recordCodes (each (allowedCell x) 0 167) (must (leb 913 room) 2 0)
-    (each-coded recordCodes (allowedCell x) (λ (k : ℕ). seen-coded recordCodes (heldCode (cellAt k .form) (heldAt x k)) (fieldAt (cellAt k)) (held (cellAt k .form) (heldAt x k))) 0 167)
-    (must-coded recordCodes (leb 913 room) 2 0 refl)
+    each-coded recordCodes (allowedCell x) (λ (k : ℕ). seen-coded recordCodes (heldCode (cellAt k .form) (heldAt x k)) (fieldAt (cellAt k)) (held (cellAt k .form) (heldAt x k))) 0 167

@@ -4,16 +4,13 @@ use mathlib.Core.Bool.{Bool, true, false, cond, _&&_}
 use mathlib.Core.List.{List, [], _∷_, _++_, append-assoc, append-nil}
 use Prim.Native.Nat.{ℕ, zero, suc, _+_, _-_, _*_, _/_, _%_, _≤_, _<_}
 use native.Mathlib.Omega.{arith}
-use native.Mathlib.Nat.{add-zero, add-suc, suc-add, zero-add}
-use lib.Dec.{leb, eqb}
-use lib.ListN.{length, getD, set, take, drop, length-append, replicate}
+use native.Mathlib.Nat.{add-zero, zero-add}
+use lib.Dec.{leb, ltb, eqb}
+use lib.ListN.{length, getD, set, take, length-append}
 use lib.Seq.{length-take-le}
-use borrow.Author.Tests.{leb-true, eqb-true, ne-eqb, lt-leb}
-use Rattle.text.specs.Table.{values}
-use Rattle.text.proofs.Table.{agree}
+use borrow.Author.Tests.{leb-true, eq-eqb, eqb-true, ne-eqb, lt-ltb, le-ltb, lt-leb}
 use Rattle.field.specs.Decimal.{decimal}
 use Rattle.field.proofs.Decimal.{decimal-length}
-use Rattle.sheet.specs.declared.Limits.{Limits}
 use Rattle.sheet.specs.declared.Form.{Form}
 use Rattle.sheet.specs.declared.Form.the-variants.{Name, Switch, Digit, Number}
 use Rattle.sheet.specs.declared.Cell.{Cell}
@@ -22,14 +19,13 @@ use Rattle.sheet.specs.declared.Sheet.{Sheet}
 use Rattle.sheet.specs.Number.{isBelow, sizeOf, blanked, marked, numberText}
 use Rattle.sheet.specs.Layout.{widthOf, cellAt, boxCell, airportCell}
 use Rattle.sheet.specs.Inner.{heldIs, heldForm, sizeOfCell}
-use Rattle.sheet.specs.Sheet.{seen, fieldAt, allowedSheet, allowedCell, heldAt, heldCode, fieldText, cellText, lineEnd, labelOf, joined, heldText}
-use Rattle.text.specs.declared.Seen.{Seen}
-use Rattle.text.specs.declared.Seen.the-variants.{Fine, Bad}
+use Rattle.sheet.specs.Sheet.{seen, fieldAt, nameCell, airportOf, allowedSheet, allowedCell, heldAt, heldCode, fieldText, cellText, lineEnd, labelOf, joined}
+use Rattle.text.specs.declared.Seen.the-variants.{Fine}
 use Rattle.text.specs.Parts.{part}
 use Rattle.text.proofs.Parts.{part-bytes}
 use Rattle.text.proofs.Cases.{by-eq, by-le, both-left, both-right}
 use Rattle.text.proofs.Checks.{bad-fine}
-use Rattle.sheet.proofs.Small.{every, not-held}
+use Rattle.sheet.proofs.Small.{every, not-held, isStatus}
 use Rattle.sheet.proofs.Each.{each-fine}
 
 -- ---- by form
@@ -70,9 +66,9 @@ name-cells : (m : ℕ) → m < 50 → isFour (cellAt (67 + 2 * m) .form) ≡ tru
 unfolding cellAt boxCell airportCell
 name-cells = every (λ m. isFour (cellAt (67 + 2 * m) .form)) 50 refl
 
-status-cells : (m : ℕ) → m < 50 → isWord (cellAt (68 + 2 * m) .form) ≡ true
+status-cells : (m : ℕ) → m < 50 → isStatus (cellAt (68 + 2 * m) .form) ≡ true
 unfolding cellAt boxCell airportCell
-status-cells = every (λ m. isWord (cellAt (68 + 2 * m) .form)) 50 refl
+status-cells = every (λ m. isStatus (cellAt (68 + 2 * m) .form)) 50 refl
 
 pub held-forms : (k : ℕ) → k < 167 → heldForm (cellAt k .form) ≡ true
 unfolding cellAt boxCell airportCell heldForm
@@ -88,11 +84,20 @@ name-cell k h l e =
     let is : 67 + 2 * m ≡ k = omega arith in
     ap (λ (j : ℕ). isFour (cellAt j .form)) (sym is) ∙ name-cells m (omega arith)
 
-pub status-cell : (k : ℕ) → 67 ≤ k → k < 167 → ((k - 67) % 2 ≡ 0 → ⊥) → isWord (cellAt k .form) ≡ true
-status-cell k h l e =
+pub status-is : (k : ℕ) → 67 ≤ k → k < 167 → ((k - 67) % 2 ≡ 0 → ⊥) → isStatus (cellAt k .form) ≡ true
+status-is k h l e =
     let m : ℕ = (k - 67) / 2 in
     let is : 68 + 2 * m ≡ k = omega arith in
-    ap (λ (j : ℕ). isWord (cellAt j .form)) (sym is) ∙ status-cells m (omega arith)
+    ap (λ (j : ℕ). isStatus (cellAt j .form)) (sym is) ∙ status-cells m (omega arith)
+
+status-word : (f : Form) → isStatus f ≡ true → isWord f ≡ true
+status-word (Name w) e = e
+status-word Switch e = refl
+status-word (Digit most) e = refl
+status-word (Number w l) e = refl
+
+pub status-cell : (k : ℕ) → 67 ≤ k → k < 167 → ((k - 67) % 2 ≡ 0 → ⊥) → isWord (cellAt k .form) ≡ true
+status-cell k h l e = status-word (cellAt k .form) (status-is k h l e)
 
 -- ---- lengths
 
@@ -224,6 +229,52 @@ digit-held most v e code =
     (λ (h : getD v 0 0 ≤ most). omega (arith, leb-true most 9 e))
     (λ (h : most < getD v 0 0). let z : _≡_ {A = ℕ} 4 0 = rw (lt-leb (getD v 0 0) most h) at code in absurd (omega arith))
 
+-- a code that is 0 was given by a test that held
+pub code-held : (t : Bool) (n : ℕ) → cond t 0 (suc n) ≡ 0 → t ≡ true
+code-held true n e = refl
+code-held false n e = absurd (omega arith)
+
+-- a status of an allowed record
+pub status-held : (f : Form) (w : ℕ) → isStatus f ≡ true → heldCode f (w ∷ []) ≡ 0 → w ≤ 1
+unfolding heldCode
+status-held (Name n) w e code = not-held e
+status-held Switch w e code = not-held e
+status-held (Digit most) w e code = omega (arith, leb-true w most (code-held (leb w most) 3 code), eqb-true most 1 e)
+status-held (Number n l) w e code = not-held e
+
 -- CR LF behind a text
 pub two-bytes : (t : List ℕ) (a b : ℕ) → (t ++ (a ∷ [])) ++ (b ∷ []) ≡ t ++ (a ∷ b ∷ [])
 two-bytes t a b = append-assoc t (a ∷ []) (b ∷ [])
+
+-- ---- what a cell holds, by its number
+
+pub number-held : (x : Sheet) (k : ℕ) → 0 < k → k < 17 → heldAt x k ≡ getD (x .numbers) (k - 1) 0 ∷ []
+unfolding heldAt
+number-held x k h l = rw (ne-eqb k 0 (λ (e : k ≡ 0). omega arith), lt-ltb k 17 l)
+
+pub edge-held : (x : Sheet) (k : ℕ) → 17 ≤ k → k < 67 → heldAt x k ≡ getD (x .boxes) (k - 17) 0 ∷ []
+unfolding heldAt
+edge-held x k h l = rw (ne-eqb k 0 (λ (e : k ≡ 0). omega arith), le-ltb k 17 h, lt-ltb k 67 l)
+
+pub name-of : (x : Sheet) (k : ℕ) → 67 ≤ k → (k - 67) % 2 ≡ 0 → heldAt x k ≡ part (5 * airportOf (k - 67)) 4 (x .airports)
+unfolding heldAt
+name-of x k h e = rw (ne-eqb k 0 (λ (e : k ≡ 0). omega arith), le-ltb k 17 (omega arith), le-ltb k 67 h, eq-eqb ((k - 67) % 2) 0 e)
+
+pub status-of : (x : Sheet) (k : ℕ) → 67 ≤ k → ((k - 67) % 2 ≡ 0 → ⊥) → heldAt x k ≡ getD (x .airports) (5 * airportOf (k - 67) + 4) 0 ∷ []
+unfolding heldAt
+status-of x k h e = rw (ne-eqb k 0 (λ (e : k ≡ 0). omega arith), le-ltb k 17 (omega arith), le-ltb k 67 h, ne-eqb ((k - 67) % 2) 0 e)
+
+pub first-of : (x : Sheet) → heldAt x 0 ≡ x .designator
+unfolding heldAt
+first-of x = refl
+
+-- ---- the airport of a cell, and the cell of an airport
+
+pub airports-few : (m : ℕ) → m < 100 → ltb (airportOf m) 50 ≡ true
+airports-few = every (λ m. ltb (airportOf m) 50) 100 refl
+
+pub airport-back : (n : ℕ) → n < 50 → eqb (airportOf (nameCell n - 67)) n ≡ true
+airport-back = every (λ n. eqb (airportOf (nameCell n - 67)) n) 50 refl
+
+pub airport-next : (n : ℕ) → n < 50 → eqb (airportOf (suc (nameCell n) - 67)) n ≡ true
+airport-next = every (λ n. eqb (airportOf (suc (nameCell n) - 67)) n) 50 refl

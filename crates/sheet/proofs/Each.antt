@@ -1,11 +1,10 @@
 -- Checks one after the other.
-use mathlib.Core.Path.{_≡_, refl, sym, ap, _∙_}
+use mathlib.Core.Path.{_≡_, refl}
 use Prim.Native.Nat.{ℕ, zero, suc, _+_, _-_, _≤_, _<_}
 use native.Mathlib.Omega.{arith}
 use native.Mathlib.Numerals.{add-one}
 use Rattle.text.specs.declared.Seen.{Seen}
 use Rattle.text.specs.declared.Seen.the-variants.{Fine, Bad}
-use Rattle.text.specs.Checks.{_andThen_}
 use Rattle.text.proofs.Checks.{both-fine}
 use Rattle.text.proofs.Cases.{by-eq}
 use Rattle.sheet.specs.Sheet.{each}

@@ -1,19 +1,15 @@
 -- A sheet that ends early, and one that goes on: 8, where the unfinished field begins or at the first extra byte.
 use mathlib.Core.Path.{_≡_, refl, sym, ap, _∙_}
 use mathlib.Core.Bool.{Bool, true, false, cond}
-use mathlib.Core.List.{List, [], _++_}
+use mathlib.Core.List.{List, _++_}
 use Prim.Native.Nat.{ℕ, zero, suc, _+_, _-_, _≤_, _<_}
 use native.Mathlib.Omega.{arith}
 use native.Mathlib.Nat.{zero-add}
-use lib.Dec.{leb, ltb, eqb}
 use lib.ListN.{length, take, drop, length-append, length-drop}
 use lib.Seq.{take-append-le, drop-append-le}
 use borrow.Author.Tests.{ne-eqb, lt-ltb, le-ltb, le-leb, lt-leb, eqb-true}
 use Rattle.text.specs.Parts.{part}
-use Rattle.text.specs.Equal.{sameBytes}
-use Rattle.text.specs.declared.Seen.{Seen}
 use Rattle.text.specs.declared.Seen.the-variants.{Fine, Bad}
-use Rattle.text.specs.Checks.{must, _andThen_}
 use Rattle.text.proofs.Cases.{by-lt}
 use Rattle.sheet.specs.declared.Form.{Form}
 use Rattle.sheet.specs.declared.Cell.{Cell}
@@ -21,18 +17,13 @@ use Rattle.sheet.specs.declared.Word.{Word}
 use Rattle.sheet.specs.Number.{refused}
 use Rattle.sheet.specs.Layout.{widthOf, cellAt}
 use Rattle.sheet.specs.Inner.{sizeOfCell}
-use Rattle.sheet.specs.Sheet.{seen, fieldAt, fieldEnd, cellEnd, beginsAt, labelOf, lineEnd, fixedCode, bytesRead, fieldRead, each, checkCell, checkSheet}
+use Rattle.sheet.specs.Sheet.{seen, fieldAt, fieldEnd, cellEnd, beginsAt, Has, labelOf, lineEnd, fixedCode, fieldRead, each, checkCell, checkSheet}
 use Rattle.sheet.proofs.Each.{each-first, each-all}
 use Rattle.sheet.proofs.Checked.{checked-length, checked-cell}
 use Rattle.sheet.proofs.Contents.{seen-fine, sizes, sizes-more, sizes-add, sizes-all, label-length}
 use Rattle.sheet.proofs.TextOfRead.{places, three, field-fine}
 
 -- ---- which cell a byte stands in
-
-pub record Has (k n : ℕ) : Type 0 where
-  pub few : k < 167
-  pub low : cellAt k .at ≤ n
-  pub high : n < cellEnd (cellAt k)
 
 -- a cell begins where those before it end, and ends where the next one begins
 begins : (k : ℕ) → k < 167 → cellAt k .at ≡ sizes 0 k

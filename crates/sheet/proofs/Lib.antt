@@ -10,5 +10,7 @@ pub mod Spelling
 pub mod TextOfRead
 pub mod Spelt
 pub mod ReadOfText
+pub mod Allowed
+pub mod Printed
 pub mod Ends
 pub mod Codes

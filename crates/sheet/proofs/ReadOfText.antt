@@ -1,37 +1,33 @@
 -- An allowed record is the record of its text, and that text is accepted.
 use mathlib.Core.Path.{_≡_, refl, sym, ap, _∙_}
 use mathlib.Core.Bool.{Bool, true, false, cond, _&&_, _||_}
-use mathlib.Core.List.{List, [], _∷_, _++_, append-assoc, append-nil}
+use mathlib.Core.List.{List, [], _∷_, _++_, append-assoc}
 use Prim.Native.Nat.{ℕ, zero, suc, _+_, _-_, _*_, _/_, _%_, _^_, _≤_, _<_}
 use native.Mathlib.Omega.{arith}
 use native.Mathlib.Nat.{add-zero, zero-add}
 use lib.Dec.{leb, ltb, eqb}
-use lib.ListN.{length, getD, take, drop, length-append}
-use lib.Seq.{length-take-le, take-all, getD-take, getD-drop}
-use borrow.Author.Tests.{eq-eqb, ne-eqb, lt-ltb, le-ltb, le-leb, lt-leb, leb-true, ltb-true, eqb-true}
+use lib.ListN.{length, getD, drop, length-append}
+use lib.Seq.{getD-take, getD-drop}
+use borrow.Author.Tests.{ne-eqb, le-leb, leb-true, ltb-true, eqb-true}
 use Rattle.text.specs.Parts.{part}
-use Rattle.text.specs.Equal.{sameBytes}
-use Rattle.text.specs.Names.{between, allAllowed}
+use Rattle.text.specs.Names.{allAllowed}
 use Rattle.text.specs.Table.{values}
-use Rattle.text.specs.declared.Seen.{Seen}
-use Rattle.text.specs.declared.Seen.the-variants.{Fine, Bad}
-use Rattle.text.specs.Checks.{must, _andThen_}
-use Rattle.text.proofs.Cases.{by-test, by-eq, by-lt, by-le, both-left, both-right}
+use Rattle.text.specs.declared.Seen.the-variants.{Fine}
+use Rattle.text.proofs.Cases.{by-eq, by-lt, both-left, both-right}
 use Rattle.text.proofs.Equal.{equal-same}
 use Rattle.text.proofs.Stands.{Stands, stands-middle, stands-left, stands-right}
 use Rattle.field.proofs.Decimal.{part-long}
-use Rattle.sheet.specs.declared.Limits.{Limits}
 use Rattle.sheet.specs.declared.Form.{Form}
 use Rattle.sheet.specs.declared.Form.the-variants.{Name, Switch, Digit, Number}
-use Rattle.sheet.specs.declared.Cell.{Cell}
 use Rattle.sheet.specs.declared.Word.{Word}
 use Rattle.sheet.specs.declared.Sheet.{Sheet}
-use Rattle.sheet.specs.Number.{refused, isBelow, sizeOf, within, numberRead, numberText}
+use Rattle.sheet.specs.Number.{isBelow, sizeOf, within}
 use Rattle.sheet.specs.Layout.{widthOf, cellAt, boxCell, airportCell}
-use Rattle.sheet.specs.Inner.{smallForm, sizeOfCell}
-use Rattle.sheet.specs.Sheet.{seen, fieldAt, fieldEnd, labelOf, lineEnd, fixedCode, one, digitRead, switchRead, nameRead, bytesRead, fieldRead, each, checkCell, checkSheet, wordAt, nameCell, airportByte, airportOf, sheetAt, heldAt, heldCode, allowedSheet, fieldText, cellText, joined, heldText, sheetText}
-use Rattle.sheet.proofs.Small.{every, not-held, cell-small, small-parts, small-number}
-use Rattle.sheet.proofs.Contents.{sizes, sizes-more, sizes-all, joined-more, label-length, isWord, isFour, word-cell, name-cell, status-cell, number-length, cell-length, allowed-held, ends-length}
+use Rattle.sheet.specs.Allowed.{Sized}
+use Rattle.sheet.specs.Inner.{sizeOfCell}
+use Rattle.sheet.specs.Sheet.{seen, fieldAt, fieldEnd, labelOf, lineEnd, fixedCode, one, digitRead, switchRead, bytesRead, fieldRead, each, checkCell, checkSheet, wordAt, nameCell, airportByte, airportOf, sheetAt, heldAt, heldCode, allowedSheet, fieldText, cellText, joined, heldText, sheetText}
+use Rattle.sheet.proofs.Small.{every, not-held}
+use Rattle.sheet.proofs.Contents.{sizes, sizes-more, sizes-all, joined-more, label-length, isWord, isFour, word-cell, name-cell, status-cell, status-is, status-held, code-held, number-length, cell-length, allowed-held, number-held, edge-held, name-of, status-of, first-of, airports-few, airport-back, airport-next}
 use Rattle.sheet.proofs.Each.{each-all}
 use Rattle.sheet.proofs.Spelt.{spelt-read}
 use Rattle.sheet.proofs.TextOfRead.{places, name-byte, status-byte}
@@ -48,10 +44,6 @@ roomy (Number w l) = ltb 0 w && (ltb (l .most) (10 ^ w) && (ltb (l .below) (10 ^
 roomy-cells : (k : ℕ) → k < 167 → roomy (cellAt k .form) ≡ true
 unfolding cellAt boxCell airportCell
 roomy-cells = every (λ k. roomy (cellAt k .form)) 167 refl
-
-code-held : (t : Bool) (n : ℕ) → cond t 0 (suc n) ≡ 0 → t ≡ true
-code-held true n e = refl
-code-held false n e = absurd (omega arith)
 
 switch-back : (w : ℕ) → w ≤ 1 → switchRead (cond (eqb w 0) 68 82) ≡ one w
 switch-back w h = by-eq w 0 (λ (e : w ≡ 0). rw e) (λ (n : w ≡ 0 → ⊥). let e : w ≡ 1 = omega arith in rw e)
@@ -116,16 +108,7 @@ joined-add f i (suc n) m =
 moved-stands : (t s u : List ℕ) (a b : ℕ) → u ≡ s → b ≡ a → Stands t u b → Stands t s a
 moved-stands t s u a b p q h = rw (← p, ← q) h
 
--- ---- a record as C hands it over
-
-pub record Sized (x : Sheet) : Type 0 where
-  pub numbers : length (x .numbers) ≡ 16
-  pub boxes : length (x .boxes) ≡ 50
-  pub designator : length (x .designator) ≡ 6
-  pub airports : length (x .airports) ≡ 250
-  pub words : (i : ℕ) → getD (x .numbers) i 0 < 65536
-  pub edges : (i : ℕ) → getD (x .boxes) i 0 < 65536
-  pub bytes : (i : ℕ) → getD (x .airports) i 0 < 65536
+-- ---- what a cell holds
 
 abbrev isNameOf : ℕ → Form → Bool
 isNameOf n (Name w) = eqb w n
@@ -151,9 +134,6 @@ first-name : isNameOf 6 (cellAt 0 .form) ≡ true
 unfolding cellAt
 first-name = refl
 
-few-airports : (m : ℕ) → m < 100 → ltb (airportOf m) 50 ≡ true
-few-airports = every (λ m. ltb (airportOf m) 50) 100 refl
-
 ends-fine : (t : Bool) (s : List ℕ) (at : ℕ) → Stands (cond t lineEnd []) s at → cond t (seen (fixedCode lineEnd s at) at) Fine ≡ Fine
 ends-fine true s at h = rw (fixed-fine lineEnd s at h)
 ends-fine false s at h = refl
@@ -165,34 +145,7 @@ values-are f from (a ∷ l) h =
     let rest = values-are f (suc from) l (λ (i : ℕ) (q : i < length l). let e : suc from + i ≡ from + suc i = omega arith in ap f e ∙ h (suc i) (omega arith)) in
     rw (first, rest)
 
-airport-back : (n : ℕ) → n < 50 → eqb (airportOf (nameCell n - 67)) n ≡ true
-airport-back = every (λ n. eqb (airportOf (nameCell n - 67)) n) 50 refl
-
-airport-next : (n : ℕ) → n < 50 → eqb (airportOf (suc (nameCell n) - 67)) n ≡ true
-airport-next = every (λ n. eqb (airportOf (suc (nameCell n) - 67)) n) 50 refl
-
 module _ (x : Sheet) (sized : Sized x) (fine : allowedSheet x ≡ Fine) where
-  -- what a cell of a word holds
-  number-held : (k : ℕ) → 0 < k → k < 17 → heldAt x k ≡ getD (x .numbers) (k - 1) 0 ∷ []
-  unfolding heldAt
-  number-held k h l = rw (ne-eqb k 0 (λ (e : k ≡ 0). omega arith), lt-ltb k 17 l)
-
-  edge-held : (k : ℕ) → 17 ≤ k → k < 67 → heldAt x k ≡ getD (x .boxes) (k - 17) 0 ∷ []
-  unfolding heldAt
-  edge-held k h l = rw (ne-eqb k 0 (λ (e : k ≡ 0). omega arith), le-ltb k 17 h, lt-ltb k 67 l)
-
-  name-of : (k : ℕ) → 67 ≤ k → (k - 67) % 2 ≡ 0 → heldAt x k ≡ part (5 * airportOf (k - 67)) 4 (x .airports)
-  unfolding heldAt
-  name-of k h e = rw (ne-eqb k 0 (λ (e : k ≡ 0). omega arith), le-ltb k 17 (omega arith), le-ltb k 67 h, eq-eqb ((k - 67) % 2) 0 e)
-
-  status-of : (k : ℕ) → 67 ≤ k → ((k - 67) % 2 ≡ 0 → ⊥) → heldAt x k ≡ getD (x .airports) (5 * airportOf (k - 67) + 4) 0 ∷ []
-  unfolding heldAt
-  status-of k h e = rw (ne-eqb k 0 (λ (e : k ≡ 0). omega arith), le-ltb k 17 (omega arith), le-ltb k 67 h, ne-eqb ((k - 67) % 2) 0 e)
-
-  first-of : heldAt x 0 ≡ x .designator
-  unfolding heldAt
-  first-of = refl
-
   -- a cell's field is as wide as it says, and is accepted
   Told : ℕ → Type 0
   Told k = (bytesRead (cellAt k .form) (fieldText (cellAt k .form) (heldAt x k)) .code ≡ 0) × (length (fieldText (cellAt k .form) (heldAt x k)) ≡ widthOf (cellAt k .form))
@@ -212,24 +165,29 @@ module _ (x : Sheet) (sized : Sized x) (fine : allowedSheet x ≡ Fine) where
   unfolding Told
   told-name k n h e long = let t = name-read (cellAt k .form) n (heldAt x k) e long (allowed-held x fine k h) in (t .0, t .1 .0)
 
+  status-small : (k : ℕ) → 67 ≤ k → k < 167 → ((k - 67) % 2 ≡ 0 → ⊥) → getD (x .airports) (5 * airportOf (k - 67) + 4) 0 < 65536
+  status-small k q h e =
+      let code = rw (status-of x k q e) at (allowed-held x fine k h) in
+      omega (arith, status-held (cellAt k .form) (getD (x .airports) (5 * airportOf (k - 67) + 4) 0) (status-is k q h e) code)
+
   told : (k : ℕ) → k < 167 → Told k
   told k h =
       by-eq k 0
-      (λ (e : k ≡ 0). told-name k 6 h (rw e first-name) (rw e (ap length first-of ∙ sized .designator)))
+      (λ (e : k ≡ 0). told-name k 6 h (rw e first-name) (rw e (ap length (first-of x) ∙ sized .designator)))
       (λ (n : k ≡ 0 → ⊥).
       by-lt k 17
-      (λ (l : k < 17). told-word k (getD (x .numbers) (k - 1) 0) h (number-held k (omega arith) l) (word-cell k (omega arith) (omega arith)) (sized .words (k - 1)))
+      (λ (l : k < 17). told-word k (getD (x .numbers) (k - 1) 0) h (number-held x k (omega arith) l) (word-cell k (omega arith) (omega arith)) (sized .words (k - 1) (omega arith)))
       (λ (m : 17 ≤ k).
       by-lt k 67
-      (λ (l : k < 67). told-word k (getD (x .boxes) (k - 17) 0) h (edge-held k m l) (word-cell k (omega arith) l) (sized .edges (k - 17)))
+      (λ (l : k < 67). told-word k (getD (x .boxes) (k - 17) 0) h (edge-held x k m l) (word-cell k (omega arith) l) (sized .edges (k - 17) (omega arith)))
       (λ (q : 67 ≤ k).
       let a : ℕ = airportOf (k - 67) in
-      let few : a < 50 = ltb-true a 50 (few-airports (k - 67) (omega arith)) in
+      let few : a < 50 = ltb-true a 50 (airports-few (k - 67) (omega arith)) in
       by-eq ((k - 67) % 2) 0
       (λ (e : (k - 67) % 2 ≡ 0).
-      told-name k 4 h (four-name (cellAt k .form) (name-cell k q h e)) (ap length (name-of k q e) ∙ part-long (x .airports) (5 * a) 4 (omega (arith, sized .airports))))
+      told-name k 4 h (four-name (cellAt k .form) (name-cell k q h e)) (ap length (name-of x k q e) ∙ part-long (x .airports) (5 * a) 4 (omega (arith, sized .airports))))
       (λ (e : (k - 67) % 2 ≡ 0 → ⊥).
-      told-word k (getD (x .airports) (5 * a + 4) 0) h (status-of k q e) (status-cell k q h e) (sized .bytes (5 * a + 4))))))
+      told-word k (getD (x .airports) (5 * a + 4) 0) h (status-of x k q e) (status-cell k q h e) (status-small k q h e)))))
 
   held-length : (k : ℕ) → k < 167 → length (heldText x k) ≡ sizeOfCell (cellAt k)
   unfolding Told
@@ -315,14 +273,14 @@ module _ (x : Sheet) (sized : Sized x) (fine : allowedSheet x ≡ Fine) where
   numbers-back : (i : ℕ) → i < 16 → wordAt (sheetText x) (1 + i) ≡ getD (x .numbers) i 0
   numbers-back i h =
       let e : 1 + i - 1 ≡ i = omega arith in
-      word-back (1 + i) (getD (x .numbers) i 0) (omega arith) (number-held (1 + i) (omega arith) (omega arith) ∙ ap (λ (j : ℕ). getD (x .numbers) j 0 ∷ []) e)
-      (word-cell (1 + i) (omega arith) (omega arith)) (sized .words i)
+      word-back (1 + i) (getD (x .numbers) i 0) (omega arith) (number-held x (1 + i) (omega arith) (omega arith) ∙ ap (λ (j : ℕ). getD (x .numbers) j 0 ∷ []) e)
+      (word-cell (1 + i) (omega arith) (omega arith)) (sized .words i h)
 
   boxes-back : (i : ℕ) → i < 50 → wordAt (sheetText x) (17 + i) ≡ getD (x .boxes) i 0
   boxes-back i h =
       let e : 17 + i - 17 ≡ i = omega arith in
-      word-back (17 + i) (getD (x .boxes) i 0) (omega arith) (edge-held (17 + i) (omega arith) (omega arith) ∙ ap (λ (j : ℕ). getD (x .boxes) j 0 ∷ []) e)
-      (word-cell (17 + i) (omega arith) (omega arith)) (sized .edges i)
+      word-back (17 + i) (getD (x .boxes) i 0) (omega arith) (edge-held x (17 + i) (omega arith) (omega arith) ∙ ap (λ (j : ℕ). getD (x .boxes) j 0 ∷ []) e)
+      (word-cell (17 + i) (omega arith) (omega arith)) (sized .edges i h)
 
   -- a name stands at its place
   name-part : (k n : ℕ) → k < 167 → isNameOf n (cellAt k .form) ≡ true → length (heldAt x k) ≡ n → part (fieldAt (cellAt k)) n (sheetText x) ≡ heldAt x k
@@ -332,7 +290,7 @@ module _ (x : Sheet) (sized : Sized x) (fine : allowedSheet x ≡ Fine) where
       ap (λ (m : ℕ). part (fieldAt (cellAt k)) m (sheetText x)) (sym wide) ∙ field-stands k h .same ∙ same
 
   designator-back : part (fieldAt (cellAt 0)) 6 (sheetText x) ≡ x .designator
-  designator-back = name-part 0 6 (omega arith) first-name (ap length first-of ∙ sized .designator) ∙ first-of
+  designator-back = name-part 0 6 (omega arith) first-name (ap length (first-of x) ∙ sized .designator) ∙ first-of x
 
   airports-back : (i : ℕ) → i < 250 → airportByte (sheetText x) i ≡ getD (x .airports) i 0
   airports-back i h =
@@ -351,12 +309,12 @@ module _ (x : Sheet) (sized : Sized x) (fine : allowedSheet x ≡ Fine) where
       let at : 5 * n + 4 ≡ i = omega arith in
       ap (airportByte (sheetText x)) (sym at)
       ∙ status-byte (sheetText x) n
-      ∙ word-back (suc k) (getD (x .airports) (5 * airportOf (suc k - 67) + 4) 0) high (status-of (suc k) (omega arith) odd) (status-cell (suc k) (omega arith) high odd) (sized .bytes (5 * airportOf (suc k - 67) + 4))
+      ∙ word-back (suc k) (getD (x .airports) (5 * airportOf (suc k - 67) + 4) 0) high (status-of x (suc k) (omega arith) odd) (status-cell (suc k) (omega arith) high odd) (status-small (suc k) (omega arith) high odd)
       ∙ ap (λ (m : ℕ). getD (x .airports) (5 * m + 4) 0) next
       ∙ ap (λ (m : ℕ). getD (x .airports) m 0) at)
       (λ (e : j ≡ 4 → ⊥).
       let few : j < 4 = omega arith in
-      let four = name-of k low even ∙ ap (λ (m : ℕ). part (5 * m) 4 (x .airports)) back in
+      let four = name-of x k low even ∙ ap (λ (m : ℕ). part (5 * m) 4 (x .airports)) back in
       let long : length (heldAt x k) ≡ 4 = ap length four ∙ part-long (x .airports) (5 * n) 4 (omega (arith, sized .airports)) in
       let same = name-part k 4 (omega arith) (four-name (cellAt k .form) (name-cell k low (omega arith) even)) long ∙ four in
       ap (airportByte (sheetText x)) (sym is)

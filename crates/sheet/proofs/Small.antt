@@ -1,7 +1,7 @@
 -- Each cell's numbers are small: one computed test over the cells, and what it says of one.
-use mathlib.Core.Path.{_≡_, refl, sym, ap, _∙_}
+use mathlib.Core.Path.{_≡_, refl, ap}
 use mathlib.Core.Bool.{Bool, true, false, cond, _&&_}
-use Prim.Native.Nat.{ℕ, zero, suc, _+_, _-_, _*_, _/_, _%_, _≤_, _<_}
+use Prim.Native.Nat.{ℕ, suc, _+_, _≤_, _<_}
 use native.Mathlib.Omega.{arith}
 use lib.Dec.{leb, eqb}
 use borrow.Author.Tests.{leb-true, eqb-true}
@@ -22,7 +22,6 @@ use Rattle.text.specs.Names.{between}
 use Rattle.text.specs.Equal.{sameBytes}
 use Rattle.text.proofs.Equal.{same-equal}
 use Rattle.packed.specs.Packed.{trim}
-use Rattle.sheet.specs.Number.{refused}
 use Rattle.sheet.specs.Sheet.{labelOf, fieldAt, numeral, nameCell, wordAt, fieldRead, bytesRead, digitRead}
 
 -- a test that fails does not hold

@@ -2,15 +2,15 @@
 use mathlib.Core.Path.{_≡_, refl, sym, ap, _∙_}
 use mathlib.Core.Bool.{Bool, true, false, cond, _&&_, _||_}
 use mathlib.Core.List.{List, [], _∷_}
-use Prim.Native.Nat.{ℕ, zero, suc, _+_, _-_, _*_, _≤_, _<_}
+use Prim.Native.Nat.{ℕ, zero, suc, _+_, _-_, _≤_, _<_}
 use native.Mathlib.Omega.{arith}
 use lib.Dec.{leb, ltb, eqb}
 use lib.ListN.{length, getD, drop}
-use borrow.Author.Tests.{eq-eqb, ne-eqb, lt-ltb, le-leb, lt-leb, leb-true, ltb-true, eqb-true, eqb-false}
+use borrow.Author.Tests.{ne-eqb, lt-ltb, le-leb, lt-leb, leb-true, ltb-true, eqb-true}
 use Rattle.text.proofs.Cases.{by-test, both-left, both-right}
 use Rattle.packed.specs.Packed.{trim}
 use Rattle.field.specs.Decimal.{isDigit, allDigits, value, valueFrom, decimal}
-use Rattle.field.proofs.Decimal.{digit-low, digit-high, decimal-value}
+use Rattle.field.proofs.Decimal.{digit-low, decimal-value}
 use Rattle.sheet.specs.declared.Limits.{Limits}
 use Rattle.sheet.specs.declared.Word.{Word}
 use Rattle.sheet.specs.Number.{wordOf, isBelow, sizeOf, within, refused, zeroFirst, digitsRead, signedRead, numberRead, blanked, marked, numberText}
@@ -189,3 +189,35 @@ one-spelling l f small e = by (trim f) refl (lead-length f) e ∙ lead-is f
         (λ (q : eqb b 45 ≡ false).
         let g = rw q at e in
         rw q (above-spelt l small (length f) (lead f) (b ∷ t) (digitsRead l false (b ∷ t)) (digits-of l false (b ∷ t) g) long))
+
+-- ---- what is read
+
+digits-within : (l : Limits) → (l .below ≤ 32768) × (l .most ≤ 32767) → (below : Bool) (ds : List ℕ) (x : Word) → Digits l below ds x
+    → (x .word < 65536) × (within l (isBelow (x .word)) (sizeOf (x .word)) ≡ true)
+digits-within l small true ds x h =
+    let v = value ds in
+    let low : 0 < v = value-positive ds (h .some) (h .all) (h .least) in
+    let high : v ≤ 32768 = within-small l true v small (h .inside) in
+    let back : 65536 - (65536 - v) ≡ v = omega arith in
+    rw (h .is, le-leb 32768 (65536 - v) (omega arith), back) (omega arith, h .inside)
+digits-within l small false ds x h =
+    let v = value ds in
+    let high : v ≤ 32767 = within-least l v (small .1) (h .inside) in
+    rw (h .is, lt-leb 32768 v (omega arith)) (omega arith, h .inside)
+
+-- an accepted field is a number within the limits, in 16 bits
+pub read-within : (l : Limits) (f : List ℕ) → (l .below ≤ 32768) × (l .most ≤ 32767) → numberRead l f .code ≡ 0
+    → (numberRead l f .word < 65536) × (within l (isBelow (numberRead l f .word)) (sizeOf (numberRead l f .word)) ≡ true)
+unfolding numberRead signedRead
+read-within l f small e = by (trim f) e
+  where
+    by : (t : List ℕ) → signedRead l t .code ≡ 0
+        → (signedRead l t .word < 65536) × (within l (isBelow (signedRead l t .word)) (sizeOf (signedRead l t .word)) ≡ true)
+    by t e =
+        by-test (eqb (getD t 0 0) 45)
+        (λ (q : eqb (getD t 0 0) 45 ≡ true).
+        let g = rw q at e in
+        rw q (digits-within l small true (drop 1 t) (digitsRead l true (drop 1 t)) (digits-of l true (drop 1 t) g)))
+        (λ (q : eqb (getD t 0 0) 45 ≡ false).
+        let g = rw q at e in
+        rw q (digits-within l small false t (digitsRead l false t) (digits-of l false t g)))

@@ -1,19 +1,18 @@
 -- A number within its limits is what its text is read as.
 use mathlib.Core.Path.{_≡_, refl, sym, ap, _∙_}
-use mathlib.Core.Bool.{Bool, true, false, cond, _&&_, _||_}
+use mathlib.Core.Bool.{Bool, true, false, cond, _&&_}
 use mathlib.Core.List.{List, [], _∷_}
-use Prim.Native.Nat.{ℕ, zero, suc, _+_, _-_, _*_, _^_, _≤_, _<_}
+use Prim.Native.Nat.{ℕ, zero, suc, _-_, _^_, _≤_, _<_}
 use native.Mathlib.Omega.{arith}
 use lib.Dec.{leb, ltb, eqb}
-use lib.ListN.{length, getD, drop}
-use borrow.Author.Tests.{eq-eqb, ne-eqb, lt-ltb, le-ltb, le-leb, lt-leb, leb-true, leb-false, ltb-true, eqb-true, eqb-false}
-use Rattle.text.proofs.Cases.{by-test, by-eq, both-left, both-right}
+use lib.ListN.{length, getD}
+use borrow.Author.Tests.{ne-eqb, lt-ltb, le-leb, leb-true, ltb-true, eqb-true}
+use Rattle.text.proofs.Cases.{by-test, both-right}
 use Rattle.packed.specs.Packed.{trim}
 use Rattle.field.specs.Decimal.{isDigit, allDigits, value, valueFrom, decimal}
-use Rattle.field.proofs.Decimal.{digit-low, digit-high, decimal-length, decimal-digits, decimal-value, value-decimal}
+use Rattle.field.proofs.Decimal.{digit-low, decimal-length, decimal-digits, decimal-value, value-decimal}
 use Rattle.sheet.specs.declared.Limits.{Limits}
-use Rattle.sheet.specs.declared.Word.{Word}
-use Rattle.sheet.specs.Number.{wordOf, isBelow, sizeOf, within, refused, zeroFirst, digitsRead, signedRead, numberRead, blanked, marked, numberText}
+use Rattle.sheet.specs.Number.{wordOf, isBelow, sizeOf, within, zeroFirst, digitsRead, signedRead, numberRead, blanked, marked, numberText}
 use Rattle.sheet.proofs.Spelling.{pad, pad-digits, pad-value, blank-pad, mark-pad, text-below, text-above, first-digit}
 
 -- ---- zeros before the first other digit

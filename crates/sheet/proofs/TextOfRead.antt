@@ -1,38 +1,37 @@
 -- An accepted text is the text of its record: one spelling for each record.
 use mathlib.Core.Path.{_≡_, refl, sym, ap, _∙_}
-use mathlib.Core.Bool.{Bool, true, false, cond, _&&_}
-use mathlib.Core.List.{List, [], _∷_, _++_, append-assoc, append-nil}
+use mathlib.Core.Bool.{Bool, true, false, cond}
+use mathlib.Core.List.{List, [], _∷_, _++_}
 use Prim.Native.Nat.{ℕ, zero, suc, _+_, _-_, _*_, _/_, _%_, _≤_, _<_}
 use native.Mathlib.Omega.{arith}
-use native.Mathlib.Nat.{add-zero, add-assoc, zero-add}
-use lib.Dec.{leb, ltb, eqb}
-use lib.ListN.{length, getD, take, drop}
-use lib.Seq.{take-all, length-take-le}
+use native.Mathlib.Nat.{add-zero, zero-add}
+use lib.Dec.{leb, eqb}
+use lib.ListN.{length, getD}
+use lib.Seq.{take-all}
 use borrow.Author.Tests.{eq-eqb, ne-eqb, lt-ltb, le-ltb, le-leb, lt-leb, leb-true, ltb-true, eqb-true}
 use Rattle.text.specs.Parts.{part}
 use Rattle.text.specs.Equal.{sameBytes}
-use Rattle.text.specs.Names.{between, allAllowed}
+use Rattle.text.specs.Names.{between}
 use Rattle.text.specs.Table.{values}
 use Rattle.text.specs.declared.Seen.{Seen}
-use Rattle.text.specs.declared.Seen.the-variants.{Fine, Bad}
+use Rattle.text.specs.declared.Seen.the-variants.{Fine}
 use Rattle.text.specs.Checks.{_andThen_}
-use Rattle.text.proofs.Cases.{by-test, by-eq, by-lt, by-le, both-left, both-right}
+use Rattle.text.proofs.Cases.{by-test, by-eq, by-lt, by-le, both-left}
 use Rattle.text.proofs.Checks.{both-fine}
 use Rattle.text.proofs.Equal.{same-equal}
 use Rattle.text.proofs.Stands.{part-add}
 use Rattle.field.proofs.Decimal.{part-long}
-use Rattle.sheet.specs.declared.Limits.{Limits}
 use Rattle.sheet.specs.declared.Form.{Form}
 use Rattle.sheet.specs.declared.Form.the-variants.{Name, Switch, Digit, Number}
 use Rattle.sheet.specs.declared.Cell.{Cell}
 use Rattle.sheet.specs.declared.Word.{Word}
 use Rattle.sheet.specs.declared.Sheet.{Sheet}
-use Rattle.sheet.specs.Number.{refused, numberRead, numberText}
+use Rattle.sheet.specs.Number.{numberRead, numberText}
 use Rattle.sheet.specs.Layout.{widthOf, cellAt, boxCell, airportCell}
 use Rattle.sheet.specs.Inner.{smallForm, sizeOfCell}
 use Rattle.sheet.specs.Sheet.{seen, fieldAt, fieldEnd, labelOf, lineEnd, fixedCode, one, digitRead, switchRead, bytesRead, fieldRead, checkCell, checkSheet, wordAt, nameCell, airportByte, airportOf, sheetAt, heldAt, fieldText, cellText, joined, heldText, sheetText}
 use Rattle.sheet.proofs.Small.{every, not-held, cell-small, small-parts, small-number}
-use Rattle.sheet.proofs.Contents.{seen-fine, sizes, sizes-more, sizes-all, joined-more, label-length, isWord, isFour, word-cell, name-cell, status-cell, part-four}
+use Rattle.sheet.proofs.Contents.{seen-fine, sizes, sizes-more, sizes-all, joined-more, label-length, isWord, isFour, word-cell, name-cell, status-cell, part-four, airports-few}
 use Rattle.sheet.proofs.Checked.{checked-length, checked-cell}
 use Rattle.sheet.proofs.Filled.{values-at, values-length}
 use Rattle.sheet.proofs.Spelling.{one-spelling}
@@ -184,10 +183,7 @@ name-cells-back = every (λ m. eqb (nameCell (airportOf (2 * m))) (67 + 2 * m)) 
 status-cells-back : (m : ℕ) → m < 50 → eqb (nameCell (airportOf (2 * m + 1))) (67 + 2 * m) ≡ true
 status-cells-back = every (λ m. eqb (nameCell (airportOf (2 * m + 1))) (67 + 2 * m)) 50 refl
 
-airports-few : (m : ℕ) → m < 100 → ltb (airportOf m) 50 ≡ true
-airports-few = every (λ m. ltb (airportOf m) 50) 100 refl
-
-first-cell : (cellAt 0 .form ≡ Name 6) × (fieldAt (cellAt 0) ≡ 15)
+pub first-cell : (cellAt 0 .form ≡ Name 6) × (fieldAt (cellAt 0) ≡ 15)
 unfolding cellAt
 first-cell = (refl, refl)
 
@@ -206,7 +202,7 @@ places = every (λ k. eqb (cellAt k .at) (sizes 0 k)) 167 refl
 
 module _ (s : List ℕ) (fine : checkSheet s ≡ Fine) where
   -- a word is what its field is read as
-  word-is : (k : ℕ) → k < 167 → wordAt s k ≡ bytesRead (cellAt k .form) (part (fieldAt (cellAt k)) (widthOf (cellAt k .form)) s) .word
+  pub word-is : (k : ℕ) → k < 167 → wordAt s k ≡ bytesRead (cellAt k .form) (part (fieldAt (cellAt k)) (widthOf (cellAt k .form)) s) .word
   word-is k h =
       ap (λ (x : Word). x .word) (field-there (cellAt k .form) s (fieldAt (cellAt k)) (field-fine s (cellAt k) (checked-cell s fine k h)) .1)
 
@@ -231,6 +227,13 @@ module _ (s : List ℕ) (fine : checkSheet s ≡ Fine) where
       ∙ rw (zero-byte, byte 1 (omega arith), byte 2 (omega arith), byte 3 (omega arith)) (part-four s at near)
       ∙ ap (λ (j : ℕ). part (fieldAt (cellAt j)) 4 s) is
       ∙ sym (name-content (cellAt k .form) s (fieldAt (cellAt k)) e)
+
+  -- an airport's name is the bytes behind the fixed group that has its number
+  pub name-there : (n : ℕ) → n < 50 → part (5 * n) 4 (sheetAt s .airports) ≡ part (fieldAt (cellAt (nameCell n))) 4 s
+  unfolding sheetAt
+  name-there n h =
+      let four = name-cell (nameCell n) (omega arith) (omega arith) (omega arith) in
+      name-back (nameCell n) n (omega arith) h refl four ∙ name-content (cellAt (nameCell n) .form) s (fieldAt (cellAt (nameCell n))) four
 
   -- what a cell holds of the record is what its field is read as
   pub held-back : (k : ℕ) → k < 167

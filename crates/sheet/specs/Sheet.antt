@@ -1,9 +1,9 @@
 -- The sheet: its check, its record, its text.
-use mathlib.Core.Bool.{Bool, true, false, cond, _&&_, _||_}
+use mathlib.Core.Bool.{cond}
 use mathlib.Core.List.{List, [], _∷_, _++_}
-use Prim.Native.Nat.{ℕ, zero, suc, _+_, _-_, _*_, _/_, _%_}
+use Prim.Native.Nat.{ℕ, zero, suc, _+_, _-_, _*_, _/_, _%_, _≤_, _<_}
 use lib.Dec.{leb, ltb, eqb}
-use lib.ListN.{length, getD, take, drop, replicate}
+use lib.ListN.{length, getD, take, replicate}
 use Rattle.text.specs.Parts.{part}
 use Rattle.text.specs.Equal.{sameBytes}
 use Rattle.text.specs.Names.{between, allAllowed}
@@ -36,6 +36,12 @@ fieldEnd c = fieldAt c + widthOf (c .form)
 
 abbrev pub cellEnd : Cell → ℕ
 cellEnd c = fieldEnd c + cond (c .ends) 2 0
+
+-- byte n stands in cell k
+pub record Has (k n : ℕ) : Type 0 where
+  pub few : k < cellCount
+  pub low : cellAt k .at ≤ n
+  pub high : n < cellEnd (cellAt k)
 
 -- where the field begins that has byte n of a cell: its fixed group, its field, or its CR LF
 abbrev pub beginsAt : Cell → ℕ → ℕ
