@@ -15,6 +15,7 @@ static_assert(std::is_trivially_copyable<esk_report>::value && std::is_standard_
 static_assert(sizeof(esk_settings) == 614 && sizeof(esk_command) == 624 && sizeof(esk_slot) == 8, "as in C");
 static_assert(sizeof(esk_entry) == 32 && std::is_trivially_copyable<esk_entry>::value, "as in C");
 static_assert(sizeof(esk_part) == 16 && std::is_trivially_copyable<esk_part>::value, "as in C");
+static_assert(sizeof(esk_sheet_got) == 408 && std::is_trivially_copyable<esk_sheet>::value, "as in C");
 static_assert(sizeof(esk_gust_answer) == 8 && std::is_trivially_copyable<esk_gust_answer>::value, "as in C");
 
 static const uint8_t *at(std::string_view text) { return reinterpret_cast<const uint8_t *>(text.data()); }
@@ -153,6 +154,25 @@ static void gust()
     HOLD(esk_gust(36, 10000, 54321, 1303, 101).gust == 0 && esk_gust(36, 10000, 54321, 1303, 101).code == ESK_RANGE);
 }
 
+// A sheet of ten boxes and fifty airports alike, read to a record of 388 bytes by value and written back.
+static void sheets()
+{
+    std::array<uint8_t, 913> out{};
+    esk_sheet sheet{};
+    sheet.ascent_interval1 = sheet.ascent_interval2 = sheet.descent_interval1 = sheet.descent_interval2 = 10;
+    sheet.boxes[9].longitude2 = -10800;
+    memcpy(sheet.designator, "AU0115", 6);
+    for (auto &airport : sheet.airports) memcpy(airport.icao, "0000", 4);
+    esk_answer a = esk_sheet_write(sheet, out.data(), out.size());
+    HOLD(a.code == ESK_ACCEPTED && a.length == out.size() && text_in(out, 23) == "- AMDARSTATUS3 AU0115\r\n"sv);
+    const esk_sheet_got got = esk_sheet_read(out.data(), out.size());
+    HOLD(got.answer.code == ESK_ACCEPTED && memcmp(&got.sheet, &sheet, sizeof sheet) == 0);
+    HOLD(esk_sheet_check(out.data(), out.size() - 1).code == ESK_END && esk_sheet_check(out.data(), out.size()).code == ESK_ACCEPTED);
+    sheet.boxes[9].longitude2 = -10801;
+    a = esk_sheet_write(sheet, out.data(), out.size());
+    HOLD(a.code == ESK_RANGE && a.place == 83 + 32 * 9 + 22);
+}
+
 int main()
 {
     packed();
@@ -162,6 +182,7 @@ int main()
     board();
     journal();
     gust();
+    sheets();
     HOLD(esk_version() == std::string_view{ESK_VERSION});
     printf("test_cpp: %lu checks passed\n", checks);
     return 0;

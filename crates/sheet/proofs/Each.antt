@@ -5,6 +5,7 @@ use native.Mathlib.Omega.{arith}
 use native.Mathlib.Numerals.{add-one}
 use Rattle.text.specs.declared.Seen.{Seen}
 use Rattle.text.specs.declared.Seen.the-variants.{Fine, Bad}
+use Rattle.text.specs.Checks.{_andThen_}
 use Rattle.text.proofs.Checks.{both-fine}
 use Rattle.text.proofs.Cases.{by-eq}
 use Rattle.sheet.specs.Sheet.{each}
@@ -43,6 +44,19 @@ module _ (f : ℕ → Seen) where
   unfolding each
   each-all zero i h = refl
   each-all (suc n) i h = rw (h i (omega arith) (omega arith)) (each-all n (suc i) (λ (j : ℕ) (l : suc i ≤ j) (m : j < suc i + n). h j (omega arith) (omega arith)))
+
+  -- one part of them, then the other
+  pub each-add : (m n k : ℕ) → each f k (m + n) ≡ (each f k m andThen each f (k + m) n)
+  unfolding each
+  each-add zero n k = let e : 0 + n ≡ n = omega arith in let z : k + 0 ≡ k = omega arith in rw (e, z)
+  each-add (suc m) n k =
+      let e : suc m + n ≡ suc (m + n) = omega arith in
+      let z : k + suc m ≡ suc k + m = omega arith in
+      rw (e, z, each-add m n (suc k)) (by (f k))
+    where
+      by : (x : Seen) → (x andThen (each f (suc k) m andThen each f (suc k + m) n)) ≡ ((x andThen each f (suc k) m) andThen each f (suc k + m) n)
+      by Fine = refl
+      by (Bad code place) = refl
 
   -- where all are fine, each is
   pub each-fine : (k n : ℕ) → each f k n ≡ Fine → (i : ℕ) → k ≤ i → i < k + n → f i ≡ Fine

@@ -2,6 +2,7 @@
 pub mod Choice
 pub mod Scan
 pub mod Small
+pub mod Short
 pub mod Each
 pub mod Filled
 pub mod Checked

@@ -7,31 +7,14 @@ use native.Mathlib.Omega.{arith}
 use native.Mathlib.Numerals.{add-one}
 use lib.Dec.{leb, ltb, eqb}
 use lib.ListN.{length, getD, set, take, drop, length-drop, drop-of-length-le, take-append-drop}
-use lib.Seq.{drop-cons, drop-set-lt, take-suc, take-suc-set, set-split, take-all}
+use lib.Seq.{drop-set-lt, take-suc, take-suc-set, set-split}
 use borrow.Author.Tests.{eq-eqb, ne-eqb, eqb-false, leb-true}
 use Rattle.field.proofs.Decimal.{digit-low}
 use Rattle.text.proofs.Cases.{both-left, both-right}
-use Rattle.packed.specs.Packed.{trim}
+use Rattle.packed.proofs.Scan.{next}
 use Rattle.field.specs.Decimal.{isDigit, allDigits, value, valueFrom}
 use Rattle.sheet.specs.declared.Limits.{Limits}
 use Rattle.sheet.specs.Number.{refused, within, zeroFirst, digitsRead, signedRead, blanked, marked}
-
-pub next : (l : List ℕ) (i : ℕ) → i < length l → drop i l ≡ getD l i 0 ∷ drop (i + 1) l
-next l i h = rw (add-one, drop-cons l i 0)
-
--- ---- leading spaces
-
-pub trim-space : (l : List ℕ) (i : ℕ) → i < length l → getD l i 0 ≡ 32 → trim (drop i l) ≡ trim (drop (i + 1) l)
-unfolding trim
-trim-space l i h e = rw (next l i h, eq-eqb (getD l i 0) 32 e)
-
-pub trim-other : (l : List ℕ) (i : ℕ) → i < length l → (getD l i 0 ≡ 32 → ⊥) → trim (drop i l) ≡ drop i l
-unfolding trim
-trim-other l i h e = rw (next l i h, ne-eqb (getD l i 0) 32 e)
-
-pub trim-end : (l : List ℕ) (i : ℕ) → length l ≤ i → trim (drop i l) ≡ drop i l
-unfolding trim
-trim-end l i h = rw (drop-of-length-le l h)
 
 -- ---- digits
 
@@ -43,13 +26,6 @@ digits-turn t s i h = rw (next s i h) (sym (and-assoc t (isDigit (getD s i 0)) (
 pub digits-end : (t : Bool) (s : List ℕ) (i : ℕ) → length s ≤ i → (t && allDigits (drop i s)) ≡ t
 unfolding allDigits
 digits-end t s i h = rw (drop-of-length-le s {i = i} h) (and-true t)
-
-pub digits-next : (s : List ℕ) (i : ℕ) → i < length s → allDigits (drop i s) ≡ true
-    → (isDigit (getD s i 0) ≡ true) × (allDigits (drop (i + 1) s) ≡ true)
-unfolding allDigits
-digits-next s i h e =
-    let split : (isDigit (getD s i 0) && allDigits (drop (i + 1) s)) ≡ true = rw (next s i h) at e in
-    (both-left (isDigit (getD s i 0)) _ split, both-right (isDigit (getD s i 0)) _ split)
 
 pub value-turn : (s : List ℕ) (i n : ℕ) → i < length s → valueFrom n (drop i s) ≡ valueFrom (n * 10 + (getD s i 0 - 48)) (drop (i + 1) s)
 unfolding valueFrom
@@ -112,12 +88,6 @@ short-marked (b ∷ c ∷ l) h = absurd (omega arith)
 
 pub mark-end : (l : List ℕ) (i : ℕ) → length l ≤ i + 1 → take i l ++ marked (drop i l) ≡ l
 mark-end l i h = rw (short-marked (drop i l) (omega (arith, length-drop i l))) (take-append-drop i l)
-
--- ---- parts
-
--- the part of a slice from a place to its end
-pub tail : (l : List ℕ) (i : ℕ) → take (length l - i) (drop i l) ≡ drop i l
-tail l i = take-all (length l - i) (drop i l) (omega (arith, length-drop i l))
 
 -- nothing is no number
 pub empty-read : (l : Limits) (t : List ℕ) → length t ≤ 0 → signedRead l t ≡ refused 4

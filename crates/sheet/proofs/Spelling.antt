@@ -109,13 +109,10 @@ digits-of l below ds e =
 
 -- ---- words
 
-pub text-below : (w x : ℕ) → isBelow x ≡ true → numberText w x ≡ marked (blanked (decimal w (sizeOf x)))
+pub text-is : (w x : ℕ) (below : Bool) → isBelow x ≡ below
+    → numberText w x ≡ cond below (marked (blanked (decimal w (sizeOf x)))) (blanked (decimal w (sizeOf x)))
 unfolding numberText
-text-below w x e = ap (λ (t : Bool). cond t (marked (blanked (decimal w (sizeOf x)))) (blanked (decimal w (sizeOf x)))) e
-
-pub text-above : (w x : ℕ) → isBelow x ≡ false → numberText w x ≡ blanked (decimal w (sizeOf x))
-unfolding numberText
-text-above w x e = ap (λ (t : Bool). cond t (marked (blanked (decimal w (sizeOf x)))) (blanked (decimal w (sizeOf x)))) e
+text-is w x below e = ap (λ (t : Bool). cond t (marked (blanked (decimal w (sizeOf x)))) (blanked (decimal w (sizeOf x)))) e
 
 size-below : (v : ℕ) → 0 < v → v ≤ 32768 → sizeOf (65536 - v) ≡ v
 size-below v p h = rw (le-leb 32768 (65536 - v) (omega arith)) (omega arith)
@@ -147,7 +144,7 @@ module _ (l : Limits) (small : (l .below ≤ 32768) × (l .most ≤ 32767)) (w n
       let size : sizeOf (65536 - v) ≡ v = size-below v low high in
       let digit = digit-low d (first-digit d r (h .all)) in
       ap (numberText w) (h .is)
-      ∙ text-below w (65536 - v) (le-leb 32768 (65536 - v) (omega arith))
+      ∙ text-is w (65536 - v) true (le-leb 32768 (65536 - v) (omega arith))
       ∙ ap (λ (k : ℕ). marked (blanked (decimal w k))) size
       ∙ ap (λ (t : List ℕ). marked (blanked t)) (decimal-pad (suc n) w (d ∷ r) long (h .all))
       ∙ ap marked (blank-pad (suc n) d r (fewer (eqb d 48) (ltb 1 (length (d ∷ r))) (h .least)))
@@ -164,7 +161,7 @@ module _ (l : Limits) (small : (l .below ≤ 32768) × (l .most ≤ 32767)) (w n
       let v = value (d ∷ r) in
       let high : v ≤ 32767 = within-least l v (small .1) (h .inside) in
       ap (numberText w) (h .is)
-      ∙ text-above w v (lt-leb 32768 v (omega arith))
+      ∙ text-is w v false (lt-leb 32768 v (omega arith))
       ∙ ap (λ (k : ℕ). blanked (decimal w k)) (size-above v high)
       ∙ ap blanked (decimal-pad n w (d ∷ r) long (h .all))
       ∙ blank-pad n d r (h .least)

@@ -13,7 +13,7 @@ use Rattle.field.specs.Decimal.{isDigit, allDigits, value, valueFrom, decimal}
 use Rattle.field.proofs.Decimal.{digit-low, decimal-length, decimal-digits, decimal-value, value-decimal}
 use Rattle.sheet.specs.declared.Limits.{Limits}
 use Rattle.sheet.specs.Number.{wordOf, isBelow, sizeOf, within, zeroFirst, digitsRead, signedRead, numberRead, blanked, marked, numberText}
-use Rattle.sheet.proofs.Spelling.{pad, pad-digits, pad-value, blank-pad, mark-pad, text-below, text-above, first-digit}
+use Rattle.sheet.proofs.Spelling.{pad, pad-digits, pad-value, blank-pad, mark-pad, text-is, first-digit}
 
 -- ---- zeros before the first other digit
 
@@ -169,12 +169,12 @@ spelt-read l w x some most signs least word inside =
     let wide : 1 < w = signs (omega arith) in
     let w-is : suc (w - 1) ≡ w = omega arith in
     let back : 65536 - v ≡ x = omega arith in
-    ap (numberRead l) (text-below w x e ∙ ap (λ (k : ℕ). marked (blanked (decimal w k))) size ∙ ap (λ (k : ℕ). marked (blanked (decimal k v))) (sym w-is))
+    ap (numberRead l) (text-is w x true e ∙ ap (λ (k : ℕ). marked (blanked (decimal w k))) size ∙ ap (λ (k : ℕ). marked (blanked (decimal k v))) (sym w-is))
     ∙ below-read l (w - 1) v (omega arith) (omega (arith, least)) (omega arith) (rw (le-leb v (l .below) few))
     ∙ ap (λ (k : ℕ). record { code = 0; word = k }) back)
     (λ (e : isBelow x ≡ false).
     let size : sizeOf x ≡ x = rw e in
     let range : (leb (l .least) x && leb x (l .most)) ≡ true = rw e at inside in
     let few : x ≤ l .most = leb-true x (l .most) (both-right (leb (l .least) x) (leb x (l .most)) range) in
-    ap (numberRead l) (text-above w x e ∙ ap (λ (k : ℕ). blanked (decimal w k)) size)
+    ap (numberRead l) (text-is w x false e ∙ ap (λ (k : ℕ). blanked (decimal w k)) size)
     ∙ above-read l w x some (omega (arith, most)) range)

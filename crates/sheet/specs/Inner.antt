@@ -1,7 +1,7 @@
 -- What the inner functions ask for. No promise to a caller rests on these names.
-use mathlib.Core.Bool.{Bool, true, cond, _&&_}
+use mathlib.Core.Bool.{Bool, true, false, cond, _&&_}
 use mathlib.Core.List.{List, [], _∷_}
-use Prim.Native.Nat.{ℕ, _+_, _*_, _%_}
+use Prim.Native.Nat.{ℕ, _+_, _*_, _%_, _≤_, _<_}
 use lib.ListN.{getD, take}
 use mathlib.Core.Path.{_≡_}
 use Rattle.text.specs.Parts.{part}
@@ -22,6 +22,19 @@ smallForm (Number w l) = leb w 6 && (leb (l .below) 32768 && leb (l .most) 32767
 
 unfoldable pub smallCell : Cell → Bool
 smallCell c = leb (c .at) 2000 && (leb (c .labelled) 16 && smallForm (c .form))
+
+-- ---- Checking
+
+-- whether byte i of n bytes at a place is another than b
+abbrev pub otherAt : List ℕ → ℕ → ℕ → ℕ → ℕ → Bool → Type 0
+otherAt s at i n b r = (r ≡ true → (i < n) × (getD s (at + i) 0 ≡ b → ⊥)) × (r ≡ false → i < n → getD s (at + i) 0 ≡ b)
+
+-- the two cells of an airport
+abbrev pub isPortName : Cell → Type 0
+isPortName c = (c .labelled ≤ 4) × ((c .form ≡ Name 4) × (c .ends ≡ false))
+
+abbrev pub isPortStatus : Cell → Type 0
+isPortStatus c = (c .labelled ≤ 4) × (c .form ≡ Digit 1)
 
 -- ---- Writing
 

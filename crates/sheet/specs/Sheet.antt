@@ -1,5 +1,5 @@
 -- The sheet: its check, its record, its text.
-use mathlib.Core.Bool.{cond}
+use mathlib.Core.Bool.{Bool, cond}
 use mathlib.Core.List.{List, [], _∷_, _++_}
 use Prim.Native.Nat.{ℕ, zero, suc, _+_, _-_, _*_, _/_, _%_, _≤_, _<_}
 use lib.Dec.{leb, ltb, eqb}
@@ -85,11 +85,14 @@ bytesRead (Number w l) f = numberRead l f
 unfoldable pub fieldRead : Form → List ℕ → ℕ → Word
 fieldRead form s at = cond (leb (at + widthOf form) (length s)) (bytesRead form (part at (widthOf form) s)) (refused 8)
 
+-- a field at a place, and CR LF where it ends a line
+abbrev pub fieldSeen : List ℕ → ℕ → Form → Bool → Seen
+fieldSeen s at form ends =
+    seen (fieldRead form s at .code) at
+    andThen cond ends (seen (fixedCode lineEnd s (at + widthOf form)) (at + widthOf form)) Fine
+
 unfoldable pub checkCell : List ℕ → Cell → Seen
-checkCell s c =
-    seen (fixedCode (labelOf c) s (c .at)) (c .at)
-    andThen seen (fieldRead (c .form) s (fieldAt c) .code) (fieldAt c)
-    andThen cond (c .ends) (seen (fixedCode lineEnd s (fieldEnd c)) (fieldEnd c)) Fine
+checkCell s c = seen (fixedCode (labelOf c) s (c .at)) (c .at) andThen fieldSeen s (fieldAt c) (c .form) (c .ends)
 
 -- cell by cell, and nothing behind the last
 unfoldable pub checkSheet : List ℕ → Seen

@@ -157,7 +157,7 @@ fn name_cell(at: usize, column: usize, n: usize) -> Cell
 }
 
 // An airport is two cells.
-fn airport_cell(k: usize) -> Cell
+pub fn airport_cell(k: usize) -> Cell
     requires { ⌜ k < 100 ⌝ }
     ensures { λ r. ⌜ r ≡ airportCell k ⌝ }
 {

@@ -29,6 +29,12 @@ pub struct Cell {
     pub ends: bool,
 }
 
+// Whether bytes are all digits, and what they spell.
+pub struct Told {
+    pub all: bool,
+    pub value: usize,
+}
+
 // What a field holds, or the code of its refusal and 0.
 pub struct Word {
     pub code: u8,

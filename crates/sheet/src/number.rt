@@ -1,63 +1,40 @@
 // A number of the sheet, by its field's bytes.
 use crate::Limits;
+use crate::Told;
 use crate::Word;
 use field::digits::is_digit;
 use field::write::put_decimal;
+use packed::read::behind_spaces;
 ghost use mathlib.Core.Path.{_≡_};
 ghost use mathlib.Core.Bool.{true};
 ghost use Prim.Native.Nat.{_-_, _≤_, _<_};
-ghost use lib.ListN.{length, drop};
-ghost use Rattle.packed.specs.Packed.{trim};
+ghost use lib.ListN.{length};
 ghost use Rattle.field.specs.Decimal.{allDigits, value};
 ghost use Rattle.sheet.specs.Number.{wordOf, isBelow, sizeOf, within, refused, digitsRead, signedRead, numberRead, blanked, marked, numberText};
 
-// Where the field goes on behind its leading spaces.
-fn behind_spaces(f: &[u8]) -> usize
-    ensures { λ r. ⌜ (r ≤ length (now (f .entry))) × (drop r (now (f .entry)) ≡ trim (now (f .entry))) ⌝ }
-{
-    let mut i = 0;
-    while i < f.len() {
-        if f[i] != b' ' {
-            return i;
-        }
-        i += 1;
-    }
-    i
-}
-
-// Whether every byte is a digit.
-fn all_digits(ds: &[u8]) -> bool
-    ensures { λ r. ⌜ r ≡ allDigits (now (ds .entry)) ⌝ }
-{
-    let mut fine = true;
-    let mut i = 0;
-    while i < ds.len() {
-        fine = fine & is_digit(ds[i]);
-        i += 1;
-    }
-    fine
-}
-
 fn worth(b: u8) -> usize
-    requires { ⌜ 48 ≤ b ⌝ }
-    ensures { λ r. ⌜ r ≡ b - 48 ⌝ }
+    ensures { λ r. ⌜ (r ≡ b - 48) × (r ≤ 207) ⌝ }
 {
+    if b < 48 {
+        return 0;
+    }
     (b as usize) - 48
 }
 
-// What up to six digits spell.
-fn value_of(ds: &[u8]) -> usize
+// Whether every byte is a digit, and what up to six of them spell, in one pass.
+fn digits_in(ds: &[u8]) -> Told
     requires { ⌜ length (now ds) ≤ 6 ⌝ }
-    requires { ⌜ allDigits (now ds) ≡ true ⌝ }
-    ensures { λ r. ⌜ r ≡ value (now (ds .entry)) ⌝ }
+    ensures { λ r. ⌜ (r .all ≡ allDigits (now (ds .entry))) × (r .value ≡ value (now (ds .entry))) ⌝ }
 {
+    let mut all = true;
     let mut n: usize = 0;
     let mut i = 0;
     while i < ds.len() {
+        all = all & is_digit(ds[i]);
         n = n * 10 + worth(ds[i]);
         i += 1;
     }
-    n
+    Told { all, value: n }
 }
 
 fn is_within(l: Limits, below: bool, v: usize) -> bool
@@ -95,13 +72,14 @@ fn read_digits(l: Limits, below: bool, ds: &[u8]) -> Word
     if ds.len() == 0 {
         return no(4);
     }
-    if !all_digits(ds) {
+    let told = digits_in(ds);
+    if !told.all {
         return no(4);
     }
     if (ds[0] == b'0') & (below | (1 < ds.len())) {
         return no(6);
     }
-    let v = value_of(ds);
+    let v = told.value;
     if !is_within(l, below, v) {
         return no(5);
     }

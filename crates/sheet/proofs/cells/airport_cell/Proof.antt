@@ -2,10 +2,9 @@ use borrow.Author.Needs.{needs}
 use Rattle.sheet.proofs.cells.airport_cell.Statement.{statement}
 use Rattle.sheet.proofs.cells.airport_cell.Tie as tie
 use Rattle.sheet.specs.Layout.{airportCell}
-use borrow.Author.Tests.{eq-eqb, ne-eqb, lt-ltb, le-ltb, le-leb, lt-leb, leb-true, leb-false}
 use native.Mathlib.Omega.{arith}
-use Prim.Native.Nat.{ℕ, zero, suc, _+_, _-_, _*_, _/_, _%_, _^_, _≤_, _<_}
-use mathlib.Core.Path.{_≡_, refl, sym, ap, _∙_}
+use Prim.Native.Nat.{_%_}
+use mathlib.Core.Path.{_≡_}
 
 mul-at : tie.Need-mul-at
 mul-at c = search needs

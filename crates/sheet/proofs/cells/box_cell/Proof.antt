@@ -3,8 +3,8 @@ use Rattle.sheet.proofs.cells.box_cell.Statement.{statement}
 use Rattle.sheet.proofs.cells.box_cell.Tie as tie
 use Rattle.sheet.specs.Layout.{boxCell}
 use native.Mathlib.Omega.{arith}
-use Prim.Native.Nat.{ℕ, zero, suc, _+_, _-_, _*_, _/_, _%_, _^_, _≤_, _<_}
-use mathlib.Core.Path.{_≡_, refl, sym, ap, _∙_}
+use Prim.Native.Nat.{_%_}
+use mathlib.Core.Path.{_≡_}
 use Rattle.sheet.proofs.Choice.{Other, the-last}
 
 mul-at : tie.Need-mul-at

@@ -2,10 +2,7 @@ use borrow.Author.Needs.{needs}
 use Rattle.sheet.proofs.cells.cell_at.Statement.{statement}
 use Rattle.sheet.proofs.cells.cell_at.Tie as tie
 use Rattle.sheet.specs.Layout.{cellAt}
-use borrow.Author.Tests.{eq-eqb, ne-eqb, lt-ltb, le-ltb, le-leb, lt-leb, leb-true, leb-false}
-use native.Mathlib.Omega.{arith}
-use Prim.Native.Nat.{ℕ, zero, suc, _+_, _-_, _*_, _/_, _%_, _^_, _≤_, _<_}
-use mathlib.Core.Path.{_≡_, refl, sym, ap, _∙_}
+use borrow.Author.Tests.{lt-ltb, le-ltb}
 
 head-cell-requires : tie.Need-head-cell-requires
 head-cell-requires c κs = search needs

@@ -1,10 +1,10 @@
 use borrow.Author.Needs.{needs}
 use Rattle.sheet.proofs.cells.name_cell.Statement.{statement}
 use Rattle.sheet.proofs.cells.name_cell.Tie as tie
-use borrow.Author.Tests.{eq-eqb, ne-eqb, lt-ltb, le-ltb, le-leb, lt-leb, leb-true, leb-false}
+use borrow.Author.Tests.{eq-eqb, ne-eqb, lt-ltb, le-ltb}
 use native.Mathlib.Omega.{arith}
-use Prim.Native.Nat.{ℕ, zero, suc, _+_, _-_, _*_, _/_, _%_, _^_, _≤_, _<_}
-use mathlib.Core.Path.{_≡_, refl, sym, ap, _∙_}
+use Prim.Native.Nat.{_-_}
+use mathlib.Core.Path.{_≡_}
 
 figure-requires : tie.Need-figure-requires
 figure-requires c κs = search needs

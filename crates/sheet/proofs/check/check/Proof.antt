@@ -1,8 +1,8 @@
 use borrow.Author.Needs.{needs}
 use Rattle.sheet.proofs.check.check.Statement.{statement}
 use Rattle.sheet.proofs.check.check.Tie as tie
-use borrow.Author.Tests.{eq-eqb, ne-eqb, lt-ltb, le-ltb, le-leb, lt-leb, leb-true, leb-false, not-true, not-false}
-use mathlib.Core.Path.{_≡_, refl, sym, ap, _∙_}
+use borrow.Author.Tests.{eq-eqb, ne-eqb}
+use mathlib.Core.Path.{sym, _∙_}
 use Rattle.sheet.specs.Sheet.{checkSheet}
 
 check-cells-requires : tie.Need-check-cells-requires

@@ -1,19 +1,17 @@
 use borrow.Author.Needs.{needs}
 use Rattle.sheet.proofs.check.check_cell.Statement.{statement}
 use Rattle.sheet.proofs.check.check_cell.Tie as tie
-use borrow.Author.Tests.{eq-eqb, ne-eqb, lt-ltb, le-ltb, le-leb, lt-leb, leb-true, leb-false, not-true, not-false}
+use borrow.Author.Tests.{eq-eqb, ne-eqb}
 use native.Mathlib.Omega.{arith}
-use Prim.Native.Nat.{ℕ, zero, suc, _+_, _-_, _*_, _/_, _%_, _^_, _≤_, _<_}
-use mathlib.Core.Path.{_≡_, refl, sym, ap, _∙_}
+use Prim.Native.Nat.{ℕ, _-_, _≤_}
+use mathlib.Core.Path.{_≡_, ap, _∙_}
 use denote.Ref.{now}
-use lib.ListN.{length, getD, take, drop}
-use Rattle.sheet.proofs.Small.{cell-small, small-digit, small-number, small-width, small-parts, isStatus, name-near, status-form}
+use lib.ListN.{length, take}
+use Rattle.sheet.proofs.Small.{small-parts}
 use lib.Seq.{length-take-le}
 use Rattle.sheet.specs.Sheet.{checkCell, fixedCode, labelOf}
-use Rattle.sheet.specs.Layout.{widthOf}
 use Rattle.sheet.specs.Inner.{smallForm}
 use mathlib.Core.Bool.{true}
-use mathlib.Core.List.{List}
 
 -- its numbers are small
 parts : (c : tie.Start) → (c .args .c .at ≤ 2000) × ((c .args .c .labelled ≤ 16) × (smallForm (c .args .c .form) ≡ true))
@@ -50,36 +48,15 @@ returns : tie.Need-returns
 unfolding checkCell
 returns c = rw (← fixed (c .before), ne-eqb (c .before .fixed-code .result) 0 (c .if1 .taken))
 
-add-p : tie.Need-add-p
-add-p c = let s = c .before .before .before .before .before .before in omega (arith, parts s .0, parts s .1 .0)
+add-check-field : tie.Need-add-check-field
+add-check-field c = let s = c .before .before .before .before .before .before in omega (arith, parts s .0, parts s .1 .0)
 
-read-field-requires : tie.Need-read-field-requires
-read-field-requires c κs = let s = c .before .before .before .before .before .before in (parts s .1 .1, omega (arith, parts s .0, parts s .1 .0))
+check-field-requires : tie.Need-check-field-requires
+check-field-requires c κs = let s = c .before .before .before .before .before .before in (parts s .1 .1, omega (arith, parts s .0, parts s .1 .0))
 
 returns-2 : tie.Need-returns-2
 unfolding checkCell
-returns-2 c = rw (← fixed (c .before .before .before), eq-eqb (c .before .before .before .fixed-code .result) 0 (c .before .before .if1 .left), ← c .before .read-field .ensures, ne-eqb (c .before .read-field .result .code) 0 (c .if2 .taken))
-
-width-of-requires : tie.Need-width-of-requires
-width-of-requires c κs = search needs
-
-add-line-end : tie.Need-add-line-end
-add-line-end c = let s = c .before .before .before .before .before .before .before .before .before .before in omega (arith, parts s .0, parts s .1 .0, small-width _ (parts s .1 .1), c .width-of .ensures)
-
-line-end-requires : tie.Need-line-end-requires
-line-end-requires c κs = let s = c .before .before .before .before .before .before .before .before .before .before in omega (arith, parts s .0, parts s .1 .0, small-width _ (parts s .1 .1), c .width-of .ensures)
-
-returns-3 : tie.Need-returns-3
-unfolding checkCell
-returns-3 c =
-    let e = c .before .before .before in
-    rw (c .line-end .ensures, c .before .width-of .ensures, ← fixed (e .before .before .before), eq-eqb (e .before .before .before .fixed-code .result) 0 (e .before .before .if1 .left), ← e .before .read-field .ensures, eq-eqb (e .before .read-field .result .code) 0 (e .if2 .left), c .before .before .if3 .taken)
-
-returns-4 : tie.Need-returns-4
-unfolding checkCell
-returns-4 c =
-    let e = c .before in
-    rw (← fixed (e .before .before .before), eq-eqb (e .before .before .before .fixed-code .result) 0 (e .before .before .if1 .left), ← e .before .read-field .ensures, eq-eqb (e .before .read-field .result .code) 0 (e .if2 .left), c .if3 .left)
+returns-2 c = rw (← fixed (c .before .before), eq-eqb (c .before .before .fixed-code .result) 0 (c .before .if1 .left)) (c .check-field .ensures)
 
 pub check-cell-spec : {M : Type 1} → statement M
 check-cell-spec =
@@ -90,11 +67,6 @@ check-cell-spec =
     part-fixed-code-end
     fixed-code-requires
     returns
-    add-p
-    read-field-requires
-    returns-2
-    width-of-requires
-    add-line-end
-    line-end-requires
-    returns-3
-    returns-4)
+    add-check-field
+    check-field-requires
+    returns-2)

@@ -2,13 +2,13 @@ use borrow.Author.Needs.{needs}
 use Rattle.sheet.proofs.check.fixed_code.Statement.{statement}
 use Rattle.sheet.proofs.check.fixed_code.Tie as tie
 use Rattle.sheet.specs.Sheet.{fixedCode}
-use borrow.Author.Tests.{eq-eqb, ne-eqb, lt-ltb, le-ltb, le-leb, lt-leb, leb-true, leb-false}
+use borrow.Author.Tests.{le-leb, lt-leb}
 use native.Mathlib.Omega.{arith}
-use Prim.Native.Nat.{ℕ, zero, suc, _+_, _-_, _*_, _/_, _%_, _^_, _≤_, _<_}
-use mathlib.Core.Path.{_≡_, refl, sym, ap, _∙_}
+use Prim.Native.Nat.{_+_, _-_}
+use mathlib.Core.Path.{_≡_, sym, _∙_}
 use denote.Ref.{now}
-use lib.ListN.{length, getD, take, drop}
-use mathlib.Core.Bool.{Bool, true, false, cond, _&&_}
+use lib.ListN.{length, take, drop}
+use mathlib.Core.Bool.{true, false}
 use Rattle.text.specs.Equal.{sameBytes}
 
 add-end : tie.Need-add-end

@@ -1,7 +1,6 @@
 use borrow.Author.Needs.{needs}
 use Rattle.sheet.proofs.check.line_end.Statement.{statement}
 use Rattle.sheet.proofs.check.line_end.Tie as tie
-use mathlib.Core.Path.{_≡_, refl, sym, ap, _∙_}
 
 slice-aggregate-fixed-code : tie.Need-slice-aggregate-fixed-code
 slice-aggregate-fixed-code c = search needs

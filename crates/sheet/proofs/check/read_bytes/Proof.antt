@@ -2,11 +2,8 @@ use borrow.Author.Needs.{needs}
 use Rattle.sheet.proofs.check.read_bytes.Statement.{statement}
 use Rattle.sheet.proofs.check.read_bytes.Tie as tie
 use native.Mathlib.Omega.{arith}
-use Prim.Native.Nat.{ℕ, zero, suc, _+_, _-_, _*_, _/_, _%_, _^_, _≤_, _<_}
-use mathlib.Core.Path.{_≡_, refl, sym, ap, _∙_}
-use denote.Ref.{now}
-use lib.ListN.{length, getD, take, drop}
-use Rattle.sheet.proofs.Small.{cell-small, small-digit, small-number, small-width, small-parts, isStatus, name-near, status-form}
+use mathlib.Core.Path.{ap, _∙_}
+use Rattle.sheet.proofs.Small.{small-digit, small-number}
 use Rattle.sheet.specs.Sheet.{bytesRead}
 use Rattle.sheet.specs.Layout.{widthOf}
 

@@ -1,9 +1,7 @@
 use borrow.Author.Needs.{needs}
 use Rattle.sheet.proofs.check.read_digit.Statement.{statement}
 use Rattle.sheet.proofs.check.read_digit.Tie as tie
-use borrow.Author.Tests.{eq-eqb, ne-eqb, lt-ltb, le-ltb, le-leb, lt-leb, leb-true, leb-false}
-use native.Mathlib.Omega.{arith}
-use Prim.Native.Nat.{ℕ, zero, suc, _+_, _-_, _*_, _/_, _%_, _^_, _≤_, _<_}
+use borrow.Author.Tests.{le-leb, lt-leb}
 
 given-requires : tie.Need-given-requires
 given-requires c κs = search needs

@@ -1,14 +1,14 @@
 use borrow.Author.Needs.{needs}
 use Rattle.sheet.proofs.check.read_field.Statement.{statement}
 use Rattle.sheet.proofs.check.read_field.Tie as tie
-use borrow.Author.Tests.{eq-eqb, ne-eqb, lt-ltb, le-ltb, le-leb, lt-leb, leb-true, leb-false, not-true, not-false}
+use borrow.Author.Tests.{le-leb, lt-leb}
 use native.Mathlib.Omega.{arith}
-use Prim.Native.Nat.{ℕ, zero, suc, _+_, _-_, _*_, _/_, _%_, _^_, _≤_, _<_}
-use mathlib.Core.Path.{_≡_, refl, sym, ap, _∙_}
+use Prim.Native.Nat.{_+_, _-_}
+use mathlib.Core.Path.{_≡_}
 use denote.Ref.{now}
-use lib.ListN.{length, getD, take, drop}
-use Rattle.sheet.proofs.Small.{cell-small, small-digit, small-number, small-width, small-parts, isStatus, name-near, status-form}
-use Rattle.sheet.specs.Sheet.{fieldRead, bytesRead}
+use lib.ListN.{length}
+use Rattle.sheet.proofs.Small.{small-width}
+use Rattle.sheet.specs.Sheet.{fieldRead}
 use Rattle.sheet.specs.Layout.{widthOf}
 
 width-of-requires : tie.Need-width-of-requires

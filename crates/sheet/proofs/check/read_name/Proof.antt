@@ -1,7 +1,7 @@
 use borrow.Author.Needs.{needs}
 use Rattle.sheet.proofs.check.read_name.Statement.{statement}
 use Rattle.sheet.proofs.check.read_name.Tie as tie
-use mathlib.Core.Path.{_≡_, refl, sym, ap, _∙_}
+use mathlib.Core.Path.{sym, _∙_}
 
 all-allowed-requires : tie.Need-all-allowed-requires
 all-allowed-requires c κs = search needs

@@ -1,7 +1,7 @@
 use borrow.Author.Needs.{needs}
 use Rattle.sheet.proofs.check.read_switch.Statement.{statement}
 use Rattle.sheet.proofs.check.read_switch.Tie as tie
-use borrow.Author.Tests.{eq-eqb, ne-eqb, lt-ltb, le-ltb, le-leb, lt-leb, leb-true, leb-false}
+use borrow.Author.Tests.{eq-eqb, ne-eqb}
 
 given-requires : tie.Need-given-requires
 given-requires c κs = search needs

@@ -1,7 +1,6 @@
 use borrow.Author.Needs.{needs}
 use Rattle.sheet.proofs.number.is_allowed.Statement.{statement}
 use Rattle.sheet.proofs.number.is_allowed.Tie as tie
-use mathlib.Core.Path.{_≡_, refl, sym, ap, _∙_}
 
 is-below-requires : tie.Need-is-below-requires
 is-below-requires c κs = search needs

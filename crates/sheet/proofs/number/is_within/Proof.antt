@@ -1,7 +1,6 @@
 use Rattle.sheet.proofs.number.is_within.Statement.{statement}
 use Rattle.sheet.proofs.number.is_within.Tie as tie
 use Rattle.sheet.specs.Number.{within}
-use mathlib.Core.Bool.{Bool, true, false, cond, _&&_}
 
 returns : tie.Need-returns
 unfolding within

@@ -1,13 +1,12 @@
 use Rattle.sheet.proofs.number.mark.Statement.{statement}
 use Rattle.sheet.proofs.number.mark.Tie as tie
 use native.Mathlib.Omega.{arith}
-use Rattle.sheet.proofs.Scan.{blank-turn, blank-stop, blank-end, mark-turn, mark-stop, mark-end}
-use Rattle.sheet.specs.Number.{blanked, marked}
-use Prim.Native.Nat.{ℕ, zero, suc, _+_, _-_, _*_, _/_, _%_, _^_, _≤_, _<_}
-use lib.ListN.{length, getD, set, take, drop, length-set}
-use mathlib.Core.Path.{_≡_, refl, sym, ap, _∙_}
-use mathlib.Core.List.{List, [], _∷_, _++_}
-use denote.Ref.{now}
+use Rattle.sheet.proofs.Scan.{mark-turn, mark-stop, mark-end}
+use Rattle.sheet.specs.Number.{marked}
+use Prim.Native.Nat.{_+_, _-_, _≤_}
+use lib.ListN.{length, take, drop, length-set}
+use mathlib.Core.Path.{_≡_, refl, sym, _∙_}
+use mathlib.Core.List.{_++_}
 
 abbrev Inv-loop : tie.InvT-loop
 Inv-loop d₀ i₀ d i = (i ≤ length d) × (length d ≡ length d₀) × (marked d₀ ≡ take i d ++ marked (drop i d))

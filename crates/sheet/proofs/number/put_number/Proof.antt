@@ -1,13 +1,12 @@
 use borrow.Author.Needs.{needs}
 use Rattle.sheet.proofs.number.put_number.Statement.{statement}
 use Rattle.sheet.proofs.number.put_number.Tie as tie
-use borrow.Author.Tests.{eq-eqb, ne-eqb, lt-ltb, le-ltb, le-leb, lt-leb, leb-true, leb-false, not-true, not-false}
-use mathlib.Core.Path.{_≡_, refl, sym, ap, _∙_}
-use mathlib.Core.Bool.{Bool, true, false, cond, _&&_}
+use mathlib.Core.Path.{_≡_, sym, ap, _∙_}
+use mathlib.Core.Bool.{Bool, true, false, cond}
 use denote.Ref.{now}
-use lib.ListN.{length, getD, take, drop}
+use lib.ListN.{length}
 use Rattle.sheet.specs.Number.{numberText}
-use Prim.Native.Nat.{ℕ, zero, suc, _+_, _-_, _*_, _/_, _%_, _^_, _≤_, _<_}
+use Prim.Native.Nat.{ℕ}
 use Rattle.field.specs.Decimal.{decimal}
 use Rattle.sheet.specs.Number.{isBelow, sizeOf, blanked, marked}
 

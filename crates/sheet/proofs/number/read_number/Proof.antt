@@ -1,15 +1,9 @@
 use borrow.Author.Needs.{needs}
 use Rattle.sheet.proofs.number.read_number.Statement.{statement}
 use Rattle.sheet.proofs.number.read_number.Tie as tie
-use borrow.Author.Tests.{eq-eqb, ne-eqb, lt-ltb, le-ltb, le-leb, lt-leb, leb-true, leb-false, not-true, not-false}
-use native.Mathlib.Omega.{arith}
-use Prim.Native.Nat.{ℕ, zero, suc, _+_, _-_, _*_, _/_, _%_, _^_, _≤_, _<_}
-use mathlib.Core.Path.{_≡_, refl, sym, ap, _∙_}
-use mathlib.Core.Bool.{Bool, true, false, cond, _&&_}
 use denote.Ref.{now}
-use lib.ListN.{length, getD, take, drop}
-use Rattle.sheet.specs.Number.{signedRead, numberRead}
-use Rattle.sheet.proofs.Scan.{tail}
+use Rattle.sheet.specs.Number.{numberRead}
+use Rattle.packed.proofs.Scan.{tail}
 
 behind-spaces-requires : tie.Need-behind-spaces-requires
 behind-spaces-requires c κs = search needs

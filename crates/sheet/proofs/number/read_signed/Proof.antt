@@ -1,16 +1,14 @@
 use borrow.Author.Needs.{needs}
 use Rattle.sheet.proofs.number.read_signed.Statement.{statement}
 use Rattle.sheet.proofs.number.read_signed.Tie as tie
-use borrow.Author.Tests.{eq-eqb, ne-eqb, lt-ltb, le-ltb, le-leb, lt-leb, leb-true, leb-false, not-true, not-false}
+use borrow.Author.Tests.{eq-eqb, ne-eqb}
 use native.Mathlib.Omega.{arith}
-use Prim.Native.Nat.{ℕ, zero, suc, _+_, _-_, _*_, _/_, _%_, _^_, _≤_, _<_}
-use mathlib.Core.Path.{_≡_, refl, sym, ap, _∙_}
-use mathlib.Core.Bool.{Bool, true, false, cond, _&&_}
+use mathlib.Core.Path.{sym}
 use denote.Ref.{now}
-use lib.ListN.{length, getD, take, drop}
-use Rattle.sheet.specs.Number.{digitsRead, signedRead}
-use lib.Dec.{leb, ltb, eqb}
-use Rattle.sheet.proofs.Scan.{empty-read, tail}
+use lib.ListN.{getD}
+use Rattle.sheet.specs.Number.{signedRead}
+use Rattle.packed.proofs.Scan.{tail}
+use Rattle.sheet.proofs.Scan.{empty-read}
 
 no-requires : tie.Need-no-requires
 no-requires c κs = search needs

@@ -1,11 +1,7 @@
 use borrow.Author.Needs.{needs}
 use Rattle.sheet.proofs.number.word_of.Statement.{statement}
 use Rattle.sheet.proofs.number.word_of.Tie as tie
-use mathlib.Core.Path.{_≡_, refl, sym, ap, _∙_}
-use borrow.Author.Tests.{eq-eqb, ne-eqb, lt-ltb, le-ltb, le-leb, lt-leb, leb-true, leb-false}
-use mathlib.Core.Bool.{Bool, true, false, cond, _&&_}
 use native.Mathlib.Omega.{arith}
-use Prim.Native.Nat.{ℕ, zero, suc, _+_, _-_, _*_, _/_, _%_, _^_, _≤_, _<_}
 
 sub-result : tie.Need-sub-result
 sub-result c = search needs

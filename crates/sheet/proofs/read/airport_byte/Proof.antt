@@ -1,15 +1,13 @@
 use borrow.Author.Needs.{needs}
 use Rattle.sheet.proofs.read.airport_byte.Statement.{statement}
 use Rattle.sheet.proofs.read.airport_byte.Tie as tie
-use borrow.Author.Tests.{eq-eqb, ne-eqb, lt-ltb, le-ltb, le-leb, lt-leb, leb-true, leb-false, not-true, not-false}
+use borrow.Author.Tests.{eq-eqb, ne-eqb, leb-true}
 use native.Mathlib.Omega.{arith}
-use Prim.Native.Nat.{ℕ, zero, suc, _+_, _-_, _*_, _/_, _%_, _^_, _≤_, _<_}
-use mathlib.Core.Path.{_≡_, refl, sym, ap, _∙_}
+use Prim.Native.Nat.{_+_, _/_, _≤_}
 use denote.Ref.{now}
-use lib.ListN.{length, getD, take, drop}
-use Rattle.sheet.proofs.Small.{cell-small, small-digit, small-number, small-width, small-parts, isStatus, name-near, status-form}
+use Rattle.sheet.proofs.Small.{name-near}
 use native.Mathlib.Numerals.{add-one}
-use Rattle.sheet.specs.Sheet.{airportByte, wordAt, fieldAt, nameCell}
+use Rattle.sheet.specs.Sheet.{airportByte, fieldAt, nameCell}
 use Rattle.sheet.specs.Layout.{cellAt}
 use Rattle.sheet.proofs.Small.{status-small}
 

@@ -1,12 +1,11 @@
 use borrow.Author.Needs.{needs}
 use Rattle.sheet.proofs.read.designator_in.Statement.{statement}
 use Rattle.sheet.proofs.read.designator_in.Tie as tie
-use mathlib.Core.Path.{_≡_, refl, sym, ap, _∙_}
-use mathlib.Core.List.{List, append-nil}
+use mathlib.Core.Path.{_∙_}
+use mathlib.Core.List.{append-nil}
 use native.Mathlib.Omega.{arith}
 use denote.Ref.{now}
-use lib.ListN.{length, getD, take, drop}
-use Prim.Native.Nat.{ℕ, zero, suc, _+_, _-_, _*_, _/_, _%_, _^_, _≤_, _<_}
+use lib.ListN.{take, drop}
 use lib.ListN.{replicate}
 use Rattle.text.proofs.Parts.{part-length}
 use Rattle.sheet.proofs.Filled.{copied}

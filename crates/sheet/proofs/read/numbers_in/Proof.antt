@@ -1,8 +1,8 @@
 use borrow.Author.Needs.{needs}
 use Rattle.sheet.proofs.read.numbers_in.Statement.{statement}
 use Rattle.sheet.proofs.read.numbers_in.Tie as tie
-use mathlib.Core.Path.{_≡_, refl, sym, ap, _∙_}
-use mathlib.Core.List.{List, append-nil}
+use mathlib.Core.Path.{_∙_}
+use mathlib.Core.List.{append-nil}
 
 sub-take-words : tie.Need-sub-take-words
 sub-take-words c = search needs

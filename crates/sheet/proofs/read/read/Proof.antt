@@ -1,7 +1,7 @@
 use borrow.Author.Needs.{needs}
 use Rattle.sheet.proofs.read.read.Statement.{statement}
 use Rattle.sheet.proofs.read.read.Tie as tie
-use mathlib.Core.Path.{_≡_, refl, sym, ap, _∙_}
+use mathlib.Core.Path.{sym, _∙_}
 use Rattle.sheet.specs.Sheet.{readSheet}
 use Rattle.sheet.proofs.Checked.{checked-length}
 

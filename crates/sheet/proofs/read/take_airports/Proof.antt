@@ -1,14 +1,13 @@
 use Rattle.sheet.proofs.read.take_airports.Statement.{statement}
 use Rattle.sheet.proofs.read.take_airports.Tie as tie
 use native.Mathlib.Omega.{arith}
-use Prim.Native.Nat.{ℕ, zero, suc, _+_, _-_, _*_, _/_, _%_, _^_, _≤_, _<_}
-use mathlib.Core.Path.{_≡_, refl, sym, ap, _∙_}
+use Prim.Native.Nat.{ℕ, _-_}
+use mathlib.Core.Path.{_≡_, ap, _∙_}
 use denote.Ref.{now}
 use lib.ListN.{length, length-set}
 use native.Mathlib.Nat.{zero-add}
 use Rattle.sheet.proofs.Filled.{Filled, filled-none, filled-turn, filled-end}
 use Rattle.sheet.specs.Sheet.{airportByte}
-use mathlib.Core.List.{List}
 use Rattle.text.specs.Table.{values}
 
 abbrev Inv-loop : tie.InvT-loop

@@ -1,7 +1,6 @@
 use borrow.Author.Needs.{needs}
 use Rattle.sheet.proofs.read.take_sheet.Statement.{statement}
 use Rattle.sheet.proofs.read.take_sheet.Tie as tie
-use mathlib.Core.Path.{_≡_, refl, sym, ap, _∙_}
 use Rattle.sheet.specs.Sheet.{sheetAt}
 use Rattle.sheet.specs.Layout.{cellAt}
 

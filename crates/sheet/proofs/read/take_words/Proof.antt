@@ -1,9 +1,7 @@
 use Rattle.sheet.proofs.read.take_words.Statement.{statement}
 use Rattle.sheet.proofs.read.take_words.Tie as tie
 use native.Mathlib.Omega.{arith}
-use Prim.Native.Nat.{ℕ, zero, suc, _+_, _-_, _*_, _/_, _%_, _^_, _≤_, _<_}
-use mathlib.Core.Path.{_≡_, refl, sym, ap, _∙_}
-use denote.Ref.{now}
+use Prim.Native.Nat.{_-_}
 use lib.ListN.{length, length-set}
 use Rattle.sheet.proofs.Filled.{Filled, filled-none, filled-turn, filled-end}
 use Rattle.sheet.specs.Sheet.{wordAt}

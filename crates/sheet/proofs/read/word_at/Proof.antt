@@ -2,10 +2,7 @@ use borrow.Author.Needs.{needs}
 use Rattle.sheet.proofs.read.word_at.Statement.{statement}
 use Rattle.sheet.proofs.read.word_at.Tie as tie
 use native.Mathlib.Omega.{arith}
-use Prim.Native.Nat.{ℕ, zero, suc, _+_, _-_, _*_, _/_, _%_, _^_, _≤_, _<_}
-use mathlib.Core.Path.{_≡_, refl, sym, ap, _∙_}
-use Rattle.sheet.proofs.Small.{cell-small, small-digit, small-number, small-width, small-parts, isStatus, name-near, status-form}
-use Rattle.sheet.specs.Layout.{cellAt}
+use Rattle.sheet.proofs.Small.{cell-small, small-parts}
 
 cell-at-requires : tie.Need-cell-at-requires
 cell-at-requires c κs = search needs

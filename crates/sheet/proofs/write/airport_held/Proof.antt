@@ -2,12 +2,9 @@ use borrow.Author.Needs.{needs}
 use Rattle.sheet.proofs.write.airport_held.Statement.{statement}
 use Rattle.sheet.proofs.write.airport_held.Tie as tie
 use native.Mathlib.Omega.{arith}
-use Prim.Native.Nat.{ℕ, zero, suc, _+_, _-_, _*_, _/_, _%_, _^_, _≤_, _<_}
-use mathlib.Core.Path.{_≡_, refl, sym, ap, _∙_}
-use lib.ListN.{length, getD, take, drop}
-use mathlib.Core.List.{List, [], _∷_, _++_, append-assoc, append-nil}
-use Rattle.text.proofs.Parts.{part-bytes}
-use native.Mathlib.Nat.{add-zero}
+use Prim.Native.Nat.{_*_}
+use mathlib.Core.Path.{_≡_}
+use lib.ListN.{length}
 use Rattle.sheet.specs.Sheet.{airportOf}
 use Rattle.sheet.proofs.Contents.{part-four}
 

@@ -2,12 +2,9 @@ use borrow.Author.Needs.{needs}
 use Rattle.sheet.proofs.write.check_held.Statement.{statement}
 use Rattle.sheet.proofs.write.check_held.Tie as tie
 use native.Mathlib.Omega.{arith}
-use Prim.Native.Nat.{ℕ, zero, suc, _+_, _-_, _*_, _/_, _%_, _^_, _≤_, _<_}
-use mathlib.Core.Path.{_≡_, refl, sym, ap, _∙_}
-use Rattle.sheet.proofs.Small.{cell-small, small-digit, small-number, small-width, small-parts, isStatus, name-near, status-form}
-use Rattle.sheet.proofs.Contents.{word-held, name-held, held-forms, word-cell, name-cell, status-cell, number-length, field-length, cell-length, joined-more, sizes, sizes-more, sizes-all, sizes-within, one-byte}
+use Rattle.sheet.proofs.Small.{cell-small, small-parts}
+use Rattle.sheet.proofs.Contents.{held-forms}
 use Rattle.sheet.specs.Sheet.{allowedCell}
-use Rattle.sheet.specs.Layout.{cellAt}
 
 cell-at-requires : tie.Need-cell-at-requires
 cell-at-requires c κs = search needs

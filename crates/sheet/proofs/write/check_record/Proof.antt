@@ -1,8 +1,8 @@
 use Rattle.sheet.proofs.write.check_record.Statement.{statement}
 use Rattle.sheet.proofs.write.check_record.Tie as tie
 use native.Mathlib.Omega.{arith}
-use Prim.Native.Nat.{ℕ, zero, suc, _+_, _-_, _*_, _/_, _%_, _^_, _≤_, _<_}
-use mathlib.Core.Path.{_≡_, refl, sym, ap, _∙_}
+use Prim.Native.Nat.{_-_, _≤_}
+use mathlib.Core.Path.{_≡_, refl, sym, _∙_}
 use Rattle.sheet.proofs.Each.{each-turn, each-stop, each-end}
 use Rattle.sheet.specs.Sheet.{each, allowedCell, allowedSheet}
 use borrow.Author.Needs.{needs}

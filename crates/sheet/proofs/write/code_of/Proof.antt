@@ -2,11 +2,11 @@ use borrow.Author.Needs.{needs}
 use Rattle.sheet.proofs.write.code_of.Statement.{statement}
 use Rattle.sheet.proofs.write.code_of.Tie as tie
 use native.Mathlib.Omega.{arith}
-use Prim.Native.Nat.{ℕ, zero, suc, _+_, _-_, _*_, _/_, _%_, _^_, _≤_, _<_}
-use mathlib.Core.Path.{_≡_, refl, sym, ap, _∙_}
-use lib.ListN.{length, getD, take, drop}
-use borrow.Author.Tests.{eq-eqb, ne-eqb, lt-ltb, le-ltb, le-leb, lt-leb, leb-true, leb-false, not-true, not-false}
-use mathlib.Core.Bool.{Bool, true, false, cond, _&&_}
+use Prim.Native.Nat.{ℕ, _-_}
+use mathlib.Core.Path.{_≡_, sym, ap, _∙_}
+use lib.ListN.{length, take}
+use borrow.Author.Tests.{le-leb, lt-leb, leb-true}
+use mathlib.Core.Bool.{true, false}
 use Rattle.sheet.specs.Sheet.{heldCode}
 use Rattle.sheet.specs.Inner.{heldIs, heldForm}
 use Rattle.text.specs.Names.{allAllowed}

@@ -2,12 +2,12 @@ use borrow.Author.Needs.{needs}
 use Rattle.sheet.proofs.write.held_at.Statement.{statement}
 use Rattle.sheet.proofs.write.held_at.Tie as tie
 use native.Mathlib.Omega.{arith}
-use Prim.Native.Nat.{ℕ, zero, suc, _+_, _-_, _*_, _/_, _%_, _^_, _≤_, _<_}
-use mathlib.Core.Path.{_≡_, refl, sym, ap, _∙_}
-use lib.ListN.{length, getD, take, drop}
-use mathlib.Core.List.{List, [], _∷_, _++_, append-assoc, append-nil}
-use borrow.Author.Tests.{eq-eqb, ne-eqb, lt-ltb, le-ltb, le-leb, lt-leb, leb-true, leb-false, not-true, not-false}
-use Rattle.sheet.proofs.Contents.{word-held, name-held, held-forms, word-cell, name-cell, status-cell, number-length, field-length, cell-length, joined-more, sizes, sizes-more, sizes-all, sizes-within, one-byte}
+use Prim.Native.Nat.{ℕ, _-_, _%_, _≤_, _<_}
+use mathlib.Core.Path.{_≡_, ap, _∙_}
+use lib.ListN.{length}
+use mathlib.Core.List.{[], _∷_}
+use borrow.Author.Tests.{eq-eqb, ne-eqb, lt-ltb, le-ltb}
+use Rattle.sheet.proofs.Contents.{word-held, name-held, word-cell, name-cell, status-cell}
 use Rattle.text.proofs.Cases.{by-eq}
 use lib.Seq.{take-all}
 use Rattle.sheet.specs.Sheet.{heldAt}

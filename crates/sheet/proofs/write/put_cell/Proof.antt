@@ -2,20 +2,19 @@ use borrow.Author.Needs.{needs}
 use Rattle.sheet.proofs.write.put_cell.Statement.{statement}
 use Rattle.sheet.proofs.write.put_cell.Tie as tie
 use native.Mathlib.Omega.{arith}
-use Prim.Native.Nat.{ℕ, zero, suc, _+_, _-_, _*_, _/_, _%_, _^_, _≤_, _<_}
-use mathlib.Core.Path.{_≡_, refl, sym, ap, _∙_}
+use Prim.Native.Nat.{ℕ, _+_, _-_, _≤_}
+use mathlib.Core.Path.{_≡_, refl, ap, _∙_}
 use denote.Ref.{now}
-use lib.ListN.{length, set, take, drop, length-append, length-set}
-use borrow.Author.Tests.{eq-eqb, ne-eqb, lt-ltb, le-ltb, le-leb, lt-leb, leb-true, leb-false, not-true, not-false}
-use mathlib.Core.Bool.{Bool, true, false, cond, _&&_}
+use lib.ListN.{length, set, take, length-append, length-set}
+use mathlib.Core.Bool.{true, cond}
 use mathlib.Core.List.{List, [], _∷_, _++_, append-assoc, append-nil}
-use Rattle.sheet.proofs.Contents.{word-held, name-held, held-forms, word-cell, name-cell, status-cell, number-length, field-length, cell-length, joined-more, sizes, sizes-more, sizes-all, sizes-within, one-byte}
-use Rattle.sheet.proofs.Contents.{label-length, seen-fine, allowed-held, digit-held, two-bytes}
-use Rattle.sheet.proofs.Small.{cell-small, small-digit, small-number, small-width, small-parts, isStatus, name-near, status-form}
+use Rattle.sheet.proofs.Contents.{field-length}
+use Rattle.sheet.proofs.Contents.{two-bytes}
+use Rattle.sheet.proofs.Small.{small-width, small-parts}
 use lib.Seq.{length-take-le}
 use borrow.Rule.Slice.PartMut.{putMid}
 use Rattle.text.specs.Over.{over}
-use Rattle.text.proofs.Over.{over-none, over-whole, length-then, length-over, then-copy, then-whole, then-byte}
+use Rattle.text.proofs.Over.{over-none, over-whole, length-then, then-copy, then-whole, then-byte}
 use Rattle.text.proofs.Parts.{part-length}
 use Rattle.sheet.specs.Layout.{widthOf}
 use Rattle.sheet.specs.Inner.{sizeOfCell, smallForm, heldIs}

@@ -1,24 +1,22 @@
 use Rattle.sheet.proofs.write.put_cells.Statement.{statement}
 use Rattle.sheet.proofs.write.put_cells.Tie as tie
 use native.Mathlib.Omega.{arith}
-use Prim.Native.Nat.{ℕ, zero, suc, _+_, _-_, _*_, _/_, _%_, _^_, _≤_, _<_}
+use Prim.Native.Nat.{ℕ, _+_, _-_, _≤_}
 use mathlib.Core.Path.{_≡_, refl, sym, ap, _∙_}
 use denote.Ref.{now}
-use lib.ListN.{length, take, drop, length-append}
-use borrow.Author.Tests.{eq-eqb, ne-eqb, lt-ltb, le-ltb, le-leb, lt-leb, leb-true, leb-false, not-true, not-false}
-use mathlib.Core.List.{List, [], _∷_, _++_, append-assoc, append-nil}
-use Rattle.sheet.proofs.Contents.{word-held, name-held, held-forms, word-cell, name-cell, status-cell, number-length, field-length, cell-length, joined-more, sizes, sizes-more, sizes-all, sizes-within, one-byte}
-use Rattle.sheet.proofs.Contents.{label-length, seen-fine, allowed-held, digit-held, two-bytes}
-use Rattle.sheet.proofs.Small.{cell-small, small-digit, small-number, small-width, small-parts, isStatus, name-near, status-form}
+use lib.ListN.{length, length-append}
+use mathlib.Core.List.{_++_}
+use Rattle.sheet.proofs.Contents.{held-forms, field-length, cell-length, joined-more, sizes, sizes-more, sizes-within}
+use Rattle.sheet.proofs.Contents.{label-length, allowed-held}
+use Rattle.sheet.proofs.Small.{cell-small}
 use native.Mathlib.Nat.{zero-add}
 use borrow.Rule.Slice.PartMut.{putMid}
 use Rattle.text.specs.Over.{over}
 use Rattle.text.proofs.Over.{over-none, length-over, then-whole}
 use Rattle.text.proofs.Parts.{part-length}
 use Rattle.sheet.specs.Layout.{cellAt}
-use Rattle.sheet.specs.Inner.{sizeOfCell, heldIs}
-use Rattle.sheet.specs.Sheet.{joined, heldAt, heldText, cellText, sheetText}
-use Rattle.sheet.specs.declared.Cell.{Cell}
+use Rattle.sheet.specs.Inner.{sizeOfCell}
+use Rattle.sheet.specs.Sheet.{joined, heldAt, heldText, sheetText}
 use borrow.Author.Needs.{needs}
 
 abbrev Inv-loop : tie.InvT-loop

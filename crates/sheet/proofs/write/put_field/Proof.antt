@@ -2,14 +2,14 @@ use borrow.Author.Needs.{needs}
 use Rattle.sheet.proofs.write.put_field.Statement.{statement}
 use Rattle.sheet.proofs.write.put_field.Tie as tie
 use native.Mathlib.Omega.{arith}
-use Prim.Native.Nat.{ℕ, zero, suc, _+_, _-_, _*_, _/_, _%_, _^_, _≤_, _<_}
-use mathlib.Core.Path.{_≡_, refl, sym, ap, _∙_}
+use Prim.Native.Nat.{ℕ, _-_, _≤_}
+use mathlib.Core.Path.{_≡_, ap, _∙_}
 use denote.Ref.{now}
-use lib.ListN.{length, getD, take, drop}
-use borrow.Author.Tests.{eq-eqb, ne-eqb, lt-ltb, le-ltb, le-leb, lt-leb, leb-true, leb-false, not-true, not-false}
-use mathlib.Core.List.{List, [], _∷_, _++_, append-assoc, append-nil}
-use Rattle.sheet.proofs.Contents.{word-held, name-held, held-forms, word-cell, name-cell, status-cell, number-length, field-length, cell-length, joined-more, sizes, sizes-more, sizes-all, sizes-within, one-byte}
-use Rattle.sheet.proofs.Contents.{label-length, seen-fine, allowed-held, digit-held, two-bytes}
+use lib.ListN.{length, take}
+use borrow.Author.Tests.{leb-true}
+use mathlib.Core.List.{[], _∷_}
+use Rattle.sheet.proofs.Contents.{one-byte}
+use Rattle.sheet.proofs.Contents.{digit-held}
 use lib.Seq.{length-take-le}
 use Rattle.sheet.specs.Layout.{widthOf}
 use Rattle.sheet.specs.Inner.{heldIs, heldForm}

@@ -2,12 +2,9 @@ use borrow.Author.Needs.{needs}
 use Rattle.sheet.proofs.write.size_of_cell.Statement.{statement}
 use Rattle.sheet.proofs.write.size_of_cell.Tie as tie
 use native.Mathlib.Omega.{arith}
-use Prim.Native.Nat.{ℕ, zero, suc, _+_, _-_, _*_, _/_, _%_, _^_, _≤_, _<_}
-use mathlib.Core.Path.{_≡_, refl, sym, ap, _∙_}
-use Rattle.sheet.proofs.Small.{cell-small, small-digit, small-number, small-width, small-parts, isStatus, name-near, status-form}
+use Rattle.sheet.proofs.Small.{small-width, small-parts}
 use Rattle.sheet.specs.Inner.{sizeOfCell}
 use native.Mathlib.Nat.{add-assoc, add-zero}
-use Rattle.sheet.specs.Layout.{widthOf}
 
 width-of-requires : tie.Need-width-of-requires
 width-of-requires c κs = search needs

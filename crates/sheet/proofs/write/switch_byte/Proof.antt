@@ -1,6 +1,6 @@
 use Rattle.sheet.proofs.write.switch_byte.Statement.{statement}
 use Rattle.sheet.proofs.write.switch_byte.Tie as tie
-use borrow.Author.Tests.{eq-eqb, ne-eqb, lt-ltb, le-ltb, le-leb, lt-leb, leb-true, leb-false, not-true, not-false}
+use borrow.Author.Tests.{eq-eqb, ne-eqb}
 
 returns : tie.Need-returns
 returns c = rw (eq-eqb _ 0 (c .if1 .taken))

@@ -1,12 +1,10 @@
 use borrow.Author.Needs.{needs}
 use Rattle.sheet.proofs.write.write.Statement.{statement}
 use Rattle.sheet.proofs.write.write.Tie as tie
-use native.Mathlib.Omega.{arith}
-use Prim.Native.Nat.{ℕ, zero, suc, _+_, _-_, _*_, _/_, _%_, _^_, _≤_, _<_}
-use mathlib.Core.Path.{_≡_, refl, sym, ap, _∙_}
-use borrow.Author.Tests.{eq-eqb, ne-eqb, lt-ltb, le-ltb, le-leb, lt-leb, leb-true, leb-false, not-true, not-false}
+use mathlib.Core.Path.{refl, sym, _∙_}
+use borrow.Author.Tests.{le-leb, lt-leb}
 use denote.Ref.{now}
-use lib.ListN.{length, getD, take, drop}
+use lib.ListN.{length}
 use Rattle.sheet.specs.Sheet.{writeSeen}
 
 check-record-requires : tie.Need-check-record-requires

@@ -1,0 +1,69 @@
+use Rattle.sheet.proofs.check.check_head.Statement.{statement}
+use Rattle.sheet.proofs.check.check_head.Tie as tie
+use native.Mathlib.Omega.{arith}
+use Prim.Native.Nat.{_-_, _≤_}
+use mathlib.Core.Path.{_≡_, refl, sym, _∙_}
+use Rattle.sheet.proofs.Small.{cell-small}
+use Rattle.sheet.proofs.Each.{each-turn, each-stop, each-end}
+use Rattle.sheet.specs.Sheet.{each, checkCell}
+use Rattle.sheet.specs.Layout.{cellAt}
+use borrow.Author.Needs.{needs}
+
+abbrev Inv-loop : tie.InvT-loop
+Inv-loop s k₀ k = (k ≤ 17) × (each (λ j. checkCell s (cellAt j)) 0 17 ≡ each (λ j. checkCell s (cellAt j)) k (17 - k))
+
+abbrev μ-loop : tie.MeasureT-loop
+μ-loop s k₀ k = 17 - k
+
+loop-holds : tie.Need-loop-holds Inv-loop μ-loop
+loop-holds c = (omega arith, refl)
+
+cell-at-requires : tie.Need-cell-at-requires Inv-loop μ-loop
+cell-at-requires c κs = omega (arith, c .loop-test .taken)
+
+check-cell-requires : tie.Need-check-cell-requires Inv-loop μ-loop
+check-cell-requires c κs = rw (c .cell-at .ensures) (cell-small _ (omega (arith, c .before .loop-test .taken)))
+
+enum-known-code : tie.Need-enum-known-code Inv-loop μ-loop
+enum-known-code c = search needs
+
+returns : tie.Need-returns Inv-loop μ-loop
+returns c =
+    let cell = c .before .before .before .before in
+    let l = cell .before .before .loop in
+    sym (l .inv .1 ∙ each-stop _ (l .k) 17 _ _ (cell .before .loop-test .taken) (rw (← cell .cell-at .ensures) (sym (c .before .before .before .check-cell .ensures) ∙ c .before .code .given .1)))
+
+enum-told : tie.Need-enum-told Inv-loop μ-loop
+enum-told c = search needs
+
+add-k : tie.Need-add-k Inv-loop μ-loop
+add-k c = omega arith
+
+loop-less : tie.Need-loop-less Inv-loop μ-loop
+loop-less c = omega (arith, c .before .before .before .before .loop-test .taken)
+
+loop-again : tie.Need-loop-again Inv-loop μ-loop
+loop-again c =
+    let cell = c .before .before .before in
+    let l = cell .before .before .loop in
+    (omega (arith, cell .before .loop-test .taken), l .inv .1 ∙ each-turn _ (l .k) 17 (cell .before .loop-test .taken) (rw (← cell .cell-at .ensures) (sym (c .before .before .check-cell .ensures) ∙ c .enum-told .given .1)))
+
+returns-2 : tie.Need-returns-2 Inv-loop μ-loop
+returns-2 c = let l = c .before .loop in sym (l .inv .1 ∙ each-end _ (l .k) 17 (c .loop-test .left))
+
+pub check-head-spec : {M : Type 1} → statement M
+check-head-spec =
+    tie.close
+    (tie.spec
+    Inv-loop
+    μ-loop
+    loop-holds
+    cell-at-requires
+    check-cell-requires
+    enum-known-code
+    returns
+    enum-told
+    add-k
+    loop-less
+    loop-again
+    returns-2)
