@@ -27,7 +27,7 @@ use Rattle.sheet.proofs.Small.{not-held, airport-label}
 use Rattle.sheet.proofs.TextOfRead.{text-of-read, name-there}
 use Rattle.sheet.proofs.ReadOfText.{text-accepted, text-length, read-of-text}
 use Rattle.sheet.proofs.Allowed.{allowed-fine, fine-allowed, read-fine, read-sized, read-allowed}
-use Rattle.sheet.proofs.Ends.{has, early-end, goes-on}
+use Rattle.sheet.proofs.Ends.{has, early-end, goes-on, wholeCodes, whole-codes}
 use Rattle.sheet.proofs.Printed.{printed-accepted, printed-read}
 use Rattle.desk.specs.Numbers.{accepted, answerOf, checkNumbers, writeNumbers}
 use Rattle.desk.specs.Sheets.{sheetNumbers}
@@ -225,6 +225,14 @@ empty : check [] ≡ answerOf 8 0
 unfolding checkSheet each checkCell fixedCode cellAt
 empty = refl
 
+eight : (s : List ℕ) → check s .code ≡ 8 → ¬ (length s ≡ 913)
+unfolding isOneOf
+eight s e = λ (l : length s ≡ 913). go (checkSheet s) (whole-codes s l) e
+  where
+    go : (x : Seen) → coded wholeCodes x ≡ true → checkNumbers x .code ≡ 8 → ⊥
+    go Fine c z = let y : _≡_ {A = ℕ} 0 8 = z in omega arith
+    go (Bad code place) c z = not-given wholeCodes code 8 refl c z
+
 names : (s : List ℕ) (n : ℕ) → check s .code ≡ 0 → n < 50
     → (part (5 * n) 4 (read s .sheet .airports) ≡ part (fieldAt (cellAt (nameCell n))) 4 s)
     × (trim (labelOf (cellAt (nameCell n))) ≡ 65 ∷ numeral (suc n))
@@ -255,6 +263,7 @@ sheet-promises =
       some-cell = has;
       goes-on = on;
       empty = empty;
+      eight = eight;
       names = names;
       printed-one = printed-one;
     }

@@ -72,6 +72,8 @@ pub record SheetPromises : Type 0 where
   pub some-cell : (n : ℕ) → n < 913 → (k : ℕ) × Has k n
   pub goes-on : (s t : List ℕ) → check s .code ≡ 0 → 0 < length t → check (s ++ t) ≡ answerOf 8 913
   pub empty : check [] ≡ answerOf 8 0
+  -- and no sheet of the right length is 8
+  pub eight : (s : List ℕ) → check s .code ≡ 8 → ¬ (length s ≡ 913)
   -- fifty airports, 1 to 50: each name is the four bytes behind `A`, 65, and its own number
   pub names : (s : List ℕ) (n : ℕ) → check s .code ≡ 0 → n < 50
       → (part (5 * n) 4 (read s .sheet .airports) ≡ part (fieldAt (cellAt (nameCell n))) 4 s)

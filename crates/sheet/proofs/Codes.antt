@@ -2,7 +2,8 @@
 use mathlib.Core.Path.{_≡_, refl}
 use mathlib.Core.Bool.{Bool, true, false, cond, _||_}
 use mathlib.Core.List.{List, [], _∷_}
-use Prim.Native.Nat.{ℕ, zero, suc}
+use Prim.Native.Nat.{ℕ, zero, suc, _+_, _≤_, _<_}
+use native.Mathlib.Omega.{arith}
 use lib.Dec.{eqb}
 use lib.ListN.{length}
 use Rattle.text.specs.Parts.{part}
@@ -45,7 +46,7 @@ both true = refl
 both false = refl
 
 -- a code is 0, or a refusal's
-seen-coded : (codes : List ℕ) (code place : ℕ) → isOneOf (0 ∷ codes) code ≡ true → coded codes (seen code place) ≡ true
+pub seen-coded : (codes : List ℕ) (code place : ℕ) → isOneOf (0 ∷ codes) code ≡ true → coded codes (seen code place) ≡ true
 unfolding isOneOf
 seen-coded codes code place = by (eqb code 0)
   where
@@ -53,38 +54,41 @@ seen-coded codes code place = by (eqb code 0)
     by true e = refl
     by false e = e
 
-then-coded : (codes : List ℕ) (a b : Seen) → coded codes a ≡ true → coded codes b ≡ true → coded codes (a andThen b) ≡ true
+pub then-coded : (codes : List ℕ) (a b : Seen) → coded codes a ≡ true → coded codes b ≡ true → coded codes (a andThen b) ≡ true
 then-coded codes Fine b p q = q
 then-coded codes (Bad code place) b p q = p
 
-each-coded : (codes : List ℕ) (f : ℕ → Seen) → ((k : ℕ) → coded codes (f k) ≡ true) → (k n : ℕ) → coded codes (each f k n) ≡ true
+pub each-coded : (codes : List ℕ) (f : ℕ → Seen) (k n : ℕ) → ((j : ℕ) → k ≤ j → j < k + n → coded codes (f j) ≡ true) → coded codes (each f k n) ≡ true
 unfolding each
-each-coded codes f h k zero = refl
-each-coded codes f h k (suc n) = then-coded codes (f k) (each f (suc k) n) (h k) (each-coded codes f h (suc k) n)
+each-coded codes f k zero h = refl
+each-coded codes f k (suc n) h =
+    then-coded codes (f k) (each f (suc k) n) (h k (omega arith) (omega arith))
+    (each-coded codes f (suc k) n (λ (j : ℕ) (l : suc k ≤ j) (m : j < suc k + n). h j (omega arith) (omega arith)))
 
--- 0 and five codes are all that a part of a text gives
-module _ (codes : List ℕ) (none : isOneOf codes 0 ≡ true) (three : isOneOf codes 3 ≡ true) (four : isOneOf codes 4 ≡ true)
-    (five : isOneOf codes 5 ≡ true) (six : isOneOf codes 6 ≡ true) (eight : isOneOf codes 8 ≡ true) where
-  fixed-given : (t s : List ℕ) (at : ℕ) → isOneOf codes (fixedCode t s at) ≡ true
-  unfolding fixedCode
-  fixed-given t s at = simp (one-of, none, three, eight, both)
-
+-- 0 and three codes are all that a field's bytes give
+module _ (codes : List ℕ) (none : isOneOf codes 0 ≡ true) (four : isOneOf codes 4 ≡ true) (five : isOneOf codes 5 ≡ true) (six : isOneOf codes 6 ≡ true) where
   digits-given : (l : Limits) (below : Bool) (ds : List ℕ) → isOneOf codes (digitsRead l below ds .code) ≡ true
   unfolding digitsRead
   digits-given l below ds = simp (code-of, one-of, none, four, five, six, both)
 
-  bytes-given : (form : Form) (f : List ℕ) → isOneOf codes (bytesRead form f .code) ≡ true
+  pub bytes-given : (form : Form) (f : List ℕ) → isOneOf codes (bytesRead form f .code) ≡ true
   unfolding bytesRead numberRead signedRead
   bytes-given (Name w) f = simp (code-of, one-of, none, four, both)
   bytes-given Switch f = simp (code-of, one-of, none, four, both)
   bytes-given (Digit most) f = simp (code-of, one-of, none, four, both)
   bytes-given (Number w l) f = simp (code-of, one-of, digits-given, both)
 
-  field-given : (form : Form) (s : List ℕ) (at : ℕ) → isOneOf codes (fieldRead form s at .code) ≡ true
+  -- and 8 where they are not all there
+  field-given : isOneOf codes 8 ≡ true → (form : Form) (s : List ℕ) (at : ℕ) → isOneOf codes (fieldRead form s at .code) ≡ true
   unfolding fieldRead
-  field-given form s at = simp (code-of, one-of, bytes-given, four, eight, both)
+  field-given eight form s at = simp (code-of, one-of, bytes-given, four, eight, both)
 
--- and 0 and two all that one of a record does
+-- 3 and 8 all that a fixed group does
+fixed-given : (codes : List ℕ) → isOneOf codes 0 ≡ true → isOneOf codes 3 ≡ true → isOneOf codes 8 ≡ true → (t s : List ℕ) (at : ℕ) → isOneOf codes (fixedCode t s at) ≡ true
+unfolding fixedCode
+fixed-given codes none three eight t s at = simp (one-of, none, three, eight, both)
+
+-- and 4 and 5 all that a part of a record does
 module _ (codes : List ℕ) (none : isOneOf codes 0 ≡ true) (four : isOneOf codes 4 ≡ true) (five : isOneOf codes 5 ≡ true) where
   held-given : (form : Form) (v : List ℕ) → isOneOf codes (heldCode form v) ≡ true
   unfolding heldCode
@@ -95,7 +99,7 @@ module _ (codes : List ℕ) (none : isOneOf codes 0 ≡ true) (four : isOneOf co
 
 fixed-coded : (t s : List ℕ) (at : ℕ) → coded textCodes (seen (fixedCode t s at) at) ≡ true
 unfolding isOneOf
-fixed-coded t s at = seen-coded textCodes (fixedCode t s at) at (fixed-given (0 ∷ textCodes) refl refl refl refl refl refl t s at)
+fixed-coded t s at = seen-coded textCodes (fixedCode t s at) at (fixed-given (0 ∷ textCodes) refl refl refl t s at)
 
 cell-coded : (s : List ℕ) (c : Cell) → coded textCodes (checkCell s c) ≡ true
 unfolding checkCell isOneOf
@@ -104,7 +108,7 @@ cell-coded s c =
     let code = fieldRead (c .form) s (fieldAt c) .code in
     let field = seen code (fieldAt c) in
     then-coded textCodes (seen (fixedCode (labelOf c) s (c .at)) (c .at)) (field andThen last) (fixed-coded (labelOf c) s (c .at))
-    (then-coded textCodes field last (seen-coded textCodes code (fieldAt c) (field-given (0 ∷ textCodes) refl refl refl refl refl refl (c .form) s (fieldAt c))) (by (c .ends)))
+    (then-coded textCodes field last (seen-coded textCodes code (fieldAt c) (field-given (0 ∷ textCodes) refl refl refl refl refl (c .form) s (fieldAt c))) (by (c .ends)))
   where
     by : (t : Bool) → coded textCodes (cond t (seen (fixedCode lineEnd s (fieldEnd c)) (fieldEnd c)) Fine) ≡ true
     by true = fixed-coded lineEnd s (fieldEnd c)
@@ -115,7 +119,7 @@ pub text-codes : (s : List ℕ) → coded textCodes (checkSheet s) ≡ true
 unfolding checkSheet isOneOf
 text-codes s =
     then-coded textCodes (each (λ k. checkCell s (cellAt k)) 0 167) (must (eqb (length s) 913) 8 913)
-    (each-coded textCodes (λ k. checkCell s (cellAt k)) (λ (k : ℕ). cell-coded s (cellAt k)) 0 167)
+    (each-coded textCodes (λ k. checkCell s (cellAt k)) 0 167 (λ (k : ℕ) (l : 0 ≤ k) (m : k < 0 + 167). cell-coded s (cellAt k)))
     (by (eqb (length s) 913))
   where
     by : (t : Bool) → coded textCodes (must t 8 913) ≡ true
@@ -127,4 +131,5 @@ pub record-codes : (x : Sheet) → coded recordCodes (allowedSheet x) ≡ true
 unfolding allowedSheet allowedCell isOneOf
 record-codes x =
     let held = held-given (0 ∷ recordCodes) refl refl refl in
-    each-coded recordCodes (allowedCell x) (λ (k : ℕ). seen-coded recordCodes (heldCode (cellAt k .form) (heldAt x k)) (fieldAt (cellAt k)) (held (cellAt k .form) (heldAt x k))) 0 167
+    each-coded recordCodes (allowedCell x) 0 167
+    (λ (k : ℕ) (l : 0 ≤ k) (m : k < 0 + 167). seen-coded recordCodes (heldCode (cellAt k .form) (heldAt x k)) (fieldAt (cellAt k)) (held (cellAt k .form) (heldAt x k)))

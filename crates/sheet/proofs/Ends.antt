@@ -1,7 +1,7 @@
 -- A sheet that ends early, and one that goes on: 8, where the unfinished field begins or at the first extra byte.
 use mathlib.Core.Path.{_≡_, refl, sym, ap, _∙_}
 use mathlib.Core.Bool.{Bool, true, false, cond}
-use mathlib.Core.List.{List, _++_}
+use mathlib.Core.List.{List, [], _∷_, _++_}
 use Prim.Native.Nat.{ℕ, zero, suc, _+_, _-_, _≤_, _<_}
 use native.Mathlib.Omega.{arith}
 use native.Mathlib.Nat.{zero-add}
@@ -9,6 +9,9 @@ use lib.ListN.{length, take, drop, length-append, length-drop}
 use lib.Seq.{take-append-le, drop-append-le}
 use borrow.Author.Tests.{ne-eqb, lt-ltb, le-ltb, le-leb, lt-leb, eqb-true}
 use Rattle.text.specs.Parts.{part}
+use Rattle.text.specs.Checks.{_andThen_}
+use Rattle.text.specs.Equal.{sameBytes}
+use Rattle.text.specs.Bytes.{isOneOf}
 use Rattle.text.specs.declared.Seen.the-variants.{Fine, Bad}
 use Rattle.text.proofs.Cases.{by-lt}
 use Rattle.sheet.specs.declared.Form.{Form}
@@ -17,7 +20,8 @@ use Rattle.sheet.specs.declared.Word.{Word}
 use Rattle.sheet.specs.Number.{refused}
 use Rattle.sheet.specs.Layout.{widthOf, cellAt}
 use Rattle.sheet.specs.Inner.{sizeOfCell}
-use Rattle.sheet.specs.Sheet.{seen, fieldAt, fieldEnd, cellEnd, beginsAt, Has, labelOf, lineEnd, fixedCode, fieldRead, each, checkCell, checkSheet}
+use Rattle.sheet.specs.Sheet.{seen, fieldAt, fieldEnd, cellEnd, beginsAt, Has, labelOf, lineEnd, fixedCode, fieldRead, each, checkCell, checkSheet, bytesRead}
+use Rattle.sheet.proofs.Codes.{coded, seen-coded, then-coded, each-coded, bytes-given}
 use Rattle.sheet.proofs.Each.{each-first, each-all}
 use Rattle.sheet.proofs.Checked.{checked-length, checked-cell}
 use Rattle.sheet.proofs.Contents.{seen-fine, sizes, sizes-more, sizes-add, sizes-all, label-length}
@@ -140,3 +144,46 @@ goes-on s t fine more =
       each-all (λ j. checkCell (s ++ t) (cellAt j)) 167 0 all,
       ne-eqb (length (s ++ t)) 913 (λ (e : length (s ++ t) ≡ 913). omega (arith, length-append s t, checked-length s fine)),
     )
+
+-- ---- and no other text is 8: one of 913 bytes never is
+
+abbrev pub wholeCodes : List ℕ
+wholeCodes = 3 ∷ 4 ∷ 5 ∷ 6 ∷ []
+
+whole-fixed : (t s : List ℕ) (at : ℕ) → at + length t ≤ length s → coded wholeCodes (seen (fixedCode t s at) at) ≡ true
+unfolding fixedCode isOneOf
+whole-fixed t s at h = rw (le-leb (at + length t) (length s) h) (by (sameBytes (part at (length t) s) t))
+  where
+    by : (same : Bool) → coded wholeCodes (seen (cond same 0 3) at) ≡ true
+    by true = refl
+    by false = refl
+
+whole-field : (form : Form) (s : List ℕ) (at : ℕ) → at + widthOf form ≤ length s → coded wholeCodes (seen (fieldRead form s at .code) at) ≡ true
+unfolding fieldRead isOneOf
+whole-field form s at h =
+    rw (le-leb (at + widthOf form) (length s) h)
+    (seen-coded wholeCodes (bytesRead form (part at (widthOf form) s) .code) at (bytes-given (0 ∷ wholeCodes) refl refl refl refl form (part at (widthOf form) s)))
+
+whole-end : (ends : Bool) (s : List ℕ) (at : ℕ) → at + cond ends 2 0 ≤ length s → coded wholeCodes (cond ends (seen (fixedCode lineEnd s at) at) Fine) ≡ true
+whole-end true s at h = whole-fixed lineEnd s at h
+whole-end false s at h = refl
+
+whole-cell : (s : List ℕ) (c : Cell) → length (labelOf c) ≡ c .labelled → cellEnd c ≤ length s → coded wholeCodes (checkCell s c) ≡ true
+unfolding checkCell
+whole-cell s c long h =
+    let last = cond (c .ends) (seen (fixedCode lineEnd s (fieldEnd c)) (fieldEnd c)) Fine in
+    let field = seen (fieldRead (c .form) s (fieldAt c) .code) (fieldAt c) in
+    then-coded wholeCodes (seen (fixedCode (labelOf c) s (c .at)) (c .at)) (field andThen last) (whole-fixed (labelOf c) s (c .at) (omega arith))
+    (then-coded wholeCodes field last (whole-field (c .form) s (fieldAt c) (omega arith)) (whole-end (c .ends) s (fieldEnd c) h))
+
+-- a text of 913 bytes is accepted, or refused with 3, 4, 5 or 6
+pub whole-codes : (s : List ℕ) → length s ≡ 913 → coded wholeCodes (checkSheet s) ≡ true
+unfolding checkSheet
+whole-codes s e =
+    rw e
+    (then-coded wholeCodes (each (λ j. checkCell s (cellAt j)) 0 167) Fine
+    (each-coded wholeCodes (λ j. checkCell s (cellAt j)) 0 167
+    (λ (j : ℕ) (l : 0 ≤ j) (m : j < 0 + 167).
+    let few : j < 167 = omega arith in
+    whole-cell s (cellAt j) (label-length j few) (omega (arith, before-ends j 167 few (omega arith), sizes-all))))
+    refl)

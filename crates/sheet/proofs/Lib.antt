@@ -13,5 +13,5 @@ pub mod Spelt
 pub mod ReadOfText
 pub mod Allowed
 pub mod Printed
-pub mod Ends
 pub mod Codes
+pub mod Ends
