@@ -3,6 +3,8 @@
 #include <stdio.h>
 #include <string.h>
 
+enum { LATER = 7 }; /* observations behind the first */
+
 const column columns[] = {
     {"file", NULL, FROM_FILE, 0, 1, 0},
     {"report", NULL, FROM_REPORT, 0, 1, 0},
@@ -54,6 +56,27 @@ esk_figure get_figure(const esk_observation *o, int number)
 void set_figure(esk_observation *o, int number, esk_figure figure)
 {
     memcpy((char *)o + offsets[number], &figure, sizeof figure);
+}
+
+row first_row(const esk_report *of, const esk_track *track)
+{
+    row r = {NULL, 0, 0, of, track, 1, &of->first, track->points[0]};
+    return r;
+}
+
+int next_row(row *r)
+{
+    if (r->number > LATER)
+        return 0;
+    r->o = &r->of->later[r->number - 1];
+    r->here = r->track->points[r->number];
+    r->number++;
+    return 1;
+}
+
+int is_present(const row *r)
+{
+    return r->number == 1 || r->o->present;
 }
 
 static esk_figure track_figure(const esk_point *here, int number)

@@ -45,6 +45,12 @@ typedef struct row {
     esk_point here; /* where and when it was made */
 } row;
 
+/* The row of a report's first observation; the step to the next, which gives whether there is one: absent ones have a
+ * number too; and whether this one is present. */
+row first_row(const esk_report *of, const esk_track *track);
+int next_row(row *r);
+int is_present(const row *r);
+
 /* A column's value, as its bytes are written. */
 typedef struct cell {
     enum { CELL_MISSING, CELL_NUMBER, CELL_WORD } kind;

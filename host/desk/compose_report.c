@@ -3,6 +3,7 @@
 #include "columns.h"
 #include "mark.h"
 #include "places.h"
+#include "tell.h"
 
 #include <string.h>
 

@@ -1,6 +1,6 @@
 /* eskelvor decide: whether an aircraft reports. */
 #include "json.h"
-#include "question.h"
+#include "reason.h"
 #include "tell.h"
 
 #include <stdio.h>

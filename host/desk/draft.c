@@ -3,6 +3,7 @@
 #include "box.h"
 #include "mark.h"
 #include "places.h"
+#include "tell.h"
 #include "settings.h"
 
 #include <stdio.h>

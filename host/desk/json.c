@@ -7,7 +7,9 @@
 
 enum { DEEPEST = 12 };
 
-static struct {
+/* Each thread has its own: a database's threads write documents at once. */
+static __thread struct {
+    FILE *to; /* NULL: standard output */
     int depth;
     char closer[DEEPEST]; /* of what is open at each depth */
     int filled[DEEPEST];  /* whether it holds something already */
@@ -15,14 +17,26 @@ static struct {
     int lines;            /* no document: an object at the top is a line */
 } open;
 
+static FILE *to(void)
+{
+    return open.to != NULL ? open.to : stdout;
+}
+
+void json_to(FILE *stream)
+{
+    open.to = stream;
+    open.depth = 0;
+    open.lines = stream != NULL;
+}
+
 static void quoted_byte(uint8_t byte)
 {
     if (byte == '"' || byte == '\\')
-        printf("\\%c", byte);
+        fprintf(to(), "\\%c", byte);
     else if (byte < 0x20 || byte > 0x7e)
-        printf("\\u%04x", byte);
+        fprintf(to(), "\\u%04x", byte);
     else
-        putchar(byte);
+        fputc(byte, to());
 }
 
 /* Whether a control character begins here that UTF-8 spells in two bytes: its number is the second. */
@@ -35,18 +49,18 @@ static int is_wide_control(const uint8_t *bytes, size_t length)
 static void quoted(const void *bytes, size_t length, int is_word)
 {
     const uint8_t *at = bytes;
-    putchar('"');
+    fputc('"', to());
     for (size_t i = 0; i < length;) {
         size_t letter = is_word ? letter_length(at + i, length - i) : 0;
         if (is_word && is_wide_control(at + i, length - i))
             i++;
         if (letter > 1)
-            fwrite(at + i, 1, letter, stdout);
+            fwrite(at + i, 1, letter, to());
         else
             quoted_byte(at[i]);
         i += letter > 1 ? letter : 1;
     }
-    putchar('"');
+    fputc('"', to());
 }
 
 /* The comma that is due, and the key. Each item of the outermost list has a line of its own. */
@@ -54,19 +68,19 @@ static void begin(const char *key)
 {
     open.line_ended = 0;
     if (open.depth > 0 && open.filled[open.depth - 1]++)
-        putchar(',');
+        fputc(',', to());
     if (open.depth == 2 && key == NULL && !open.lines)
-        putchar('\n');
+        fputc('\n', to());
     if (key != NULL) {
         quoted(key, strlen(key), 1);
-        putchar(':');
+        fputc(':', to());
     }
 }
 
 static void enter(const char *key, char opener, char closer)
 {
     begin(key);
-    putchar(opener);
+    fputc(opener, to());
     open.closer[open.depth] = closer;
     open.filled[open.depth++] = 0;
 }
@@ -83,13 +97,13 @@ void json_list(const char *key)
 
 void json_close(void)
 {
-    putchar(open.closer[--open.depth]);
+    fputc(open.closer[--open.depth], to());
 }
 
 void json_line(void)
 {
     if (!open.line_ended)
-        putchar('\n');
+        fputc('\n', to());
     open.line_ended = 1;
 }
 
@@ -117,23 +131,23 @@ void json_word(const char *key, const char *word)
 void json_number(const char *key, long long number)
 {
     begin(key);
-    printf("%lld", number);
+    fprintf(to(), "%lld", number);
 }
 
 void json_bool(const char *key, int yes)
 {
     begin(key);
-    fputs(yes ? "true" : "false", stdout);
+    fputs(yes ? "true" : "false", to());
 }
 
 void json_null(const char *key)
 {
     begin(key);
-    fputs("null", stdout);
+    fputs("null", to());
 }
 
 void json_digits(const char *key, const char *digits, size_t length)
 {
     begin(key);
-    fwrite(digits, 1, length, stdout);
+    fwrite(digits, 1, length, to());
 }

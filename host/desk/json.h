@@ -1,5 +1,5 @@
 /*
- * json.h: one JSON document on standard output, written as it comes.
+ * json.h: one JSON document on standard output, or on another stream, written as it comes.
  *
  * A key of NULL is for an item of a list. A byte of a text that is not printable ASCII is written as \u00 and its two hex
  * digits, so that any bytes at all make a valid document and can be had back from it. A word, such as a file's name, keeps
@@ -9,6 +9,11 @@
 #define DESK_JSON_H
 
 #include "eskelvor.h"
+
+#include <stdio.h>
+
+/* From here on what this thread writes goes to a stream, on one line, and begins anew; NULL is standard output. */
+void json_to(FILE *stream);
 
 void json_object(const char *key);
 void json_list(const char *key);

@@ -2,7 +2,7 @@
 #ifndef DESK_PLACES_H
 #define DESK_PLACES_H
 
-#include "tell.h"
+#include "wording.h"
 
 #define BEHIND_THE_LAST "behind the last delimiter" /* the name of a place where no field is */
 

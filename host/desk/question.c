@@ -4,22 +4,12 @@
 #include "joining.h"
 #include "json.h"
 #include "minutes.h"
+#include "reason.h"
 
 #include <stdio.h>
 #include <string.h>
 
-const char *const decision_names[3] = {"silent", "routine", "scheme"};
-
 enum { SHARED_OPTIONS = 8 };
-
-static int phase_of(const char *word)
-{
-    static const char *const phases[] = {"ascent", "level", "descent"};
-    for (int i = 0; i < 3; i++)
-        if (strcmp(word, phases[i]) == 0)
-            return i;
-    return -1;
-}
 
 /* The words as numbers. A number that is none is a slip; one outside its range is left to the proved call. */
 static int understand(question *q)
@@ -73,28 +63,9 @@ const char *question_airfield(const question *q)
     return q->airfield ? q->airfield : "0000";
 }
 
-static const char *because(const question *q, unsigned code)
-{
-    if (code == ESK_SETTINGS)
-        return NULL;
-    if (code == ESK_BYTE)
-        return "an airfield is four letters A to Z or digits";
-    if (q->hour_number > 23)
-        return "an hour is 0 to 23";
-    return "latitudes are 90S to 90N, longitudes 180W to 180E";
-}
-
 int refuse_question(const question *q, unsigned code)
 {
-    return refuse_plain(NULL, A_SETTINGS, code, because(q, code));
-}
-
-void name_position(const question *q, char *to, size_t room)
-{
-    char north[24], east[24];
-    name_degrees(q->north, "NS", 0, north, sizeof north);
-    name_degrees(q->east, "EW", 0, east, sizeof east);
-    snprintf(to, room, "%s %s", north, east);
+    return refuse_plain(NULL, A_SETTINGS, code, question_fault(q, code));
 }
 
 void json_question(const question *q)

@@ -29,9 +29,6 @@ typedef struct question {
     "  --airfield NAME     four letters or digits; may be left out in level flight\n"
 #define QUESTION_NOTE "\nDegrees are taken to the nearest minute.\n"
 
-/* A decision's one word. */
-extern const char *const decision_names[3];
-
 /* Reads a subcommand's words: the question, the configuration with the commands applied, and up to MORE_OPTIONS of its
  * own. Gives the exit status, and tells what is wrong where it is not FINE. */
 enum { MORE_OPTIONS = 2 };
@@ -42,9 +39,6 @@ const char *question_airfield(const question *q);
 
 /* Tells a refusal of the question. Gives REFUSED. */
 int refuse_question(const question *q, unsigned code);
-
-/* "37.6667 S 144.8333 E" */
-void name_position(const question *q, char *to, size_t room);
 
 /* The question's own keys of a result. */
 void json_question(const question *q);

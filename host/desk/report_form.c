@@ -1,9 +1,8 @@
 #include "report_form.h"
 
 #include "json.h"
+#include "report_json.h"
 #include "table.h"
-
-enum { LATER = 7 };
 
 static unsigned long reports, observations;
 
@@ -24,22 +23,6 @@ int form_begin(const report_form *f)
     return FINE;
 }
 
-/* Steps to the next observation: gives whether there is one. Absent ones have a number too. */
-static int next(row *r)
-{
-    if (r->number > LATER)
-        return 0;
-    r->o = &r->of->later[r->number - 1];
-    r->here = r->track->points[r->number];
-    r->number++;
-    return 1;
-}
-
-static int is_present(const row *r)
-{
-    return r->number == 1 || r->o->present;
-}
-
 static void show_report(row r)
 {
     origin from = {r.file, "report", r.report, r.offset};
@@ -49,18 +32,7 @@ static void show_report(row r)
            (const char *)r.of->arrival, (const char *)r.of->designator);
     do
         show_observation(r.number, r.o, &r.here);
-    while (next(&r));
-}
-
-static void json_observation(const row *r)
-{
-    json_object(NULL);
-    json_number("observation", r->number);
-    json_bool("present", is_present(r));
-    for (int i = first_own_column + 1; i < columns_count && is_present(r); i++)
-        if (columns[i].from != FROM_CHANGE || r->number > 1)
-            json_cell(columns[i].name, &columns[i], r);
-    json_close();
+    while (next_row(&r));
 }
 
 static void json_report(row r)
@@ -70,14 +42,7 @@ static void json_report(row r)
     json_bool("accepted", 1);
     json_origin(&from);
     json_number("code", ESK_ACCEPTED);
-    json_text("departure", r.of->departure, 4);
-    json_text("arrival", r.of->arrival, 4);
-    json_text("designator", r.of->designator, 6);
-    json_list("observations");
-    do
-        json_observation(&r);
-    while (next(&r));
-    json_close();
+    json_report_keys(r);
     json_close();
 }
 
@@ -91,20 +56,23 @@ static void write_rows(const report_form *f, row r)
             else
                 jsonl_row(&r);
         }
-    while (next(&r));
+    while (next_row(&r));
 }
 
 static void count_observations(row r)
 {
     do
         observations += is_present(&r) != 0;
-    while (next(&r));
+    while (next_row(&r));
 }
 
 void form_report(const report_form *f, const piece *p, const char *file, const esk_report *report)
 {
     esk_track track = esk_report_track(p->bytes, p->length);
-    row first = {file, p->number, p->offset, report, &track, 1, &report->first, track.points[0]};
+    row first = first_row(report, &track);
+    first.file = file;
+    first.report = p->number;
+    first.offset = p->offset;
     reports++;
     if (f->count)
         count_observations(first);

@@ -1,6 +1,7 @@
 #include "table.h"
 
 #include "json.h"
+#include "report_json.h"
 #include "tell.h"
 
 #include <stdio.h>
@@ -89,20 +90,6 @@ void csv_row(const row *r)
         csv_value(value.bytes, value.length);
     }
     putchar('\n');
-}
-
-void json_cell(const char *key, const column *c, const row *r)
-{
-    cell value;
-    fill_cell(&value, c, r);
-    if (value.kind == CELL_MISSING)
-        json_null(key);
-    else if (value.kind == CELL_NUMBER)
-        json_digits(key, value.bytes, value.length);
-    else if (c->from == FROM_FILE)
-        json_word(key, r->file);
-    else
-        json_text(key, value.bytes, value.length);
 }
 
 void jsonl_row(const row *r)

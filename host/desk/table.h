@@ -15,7 +15,4 @@ void csv_row(const row *r);
 /* A row as an object on a line of its own. */
 void jsonl_row(const row *r);
 
-/* A column's value in the object that is open. */
-void json_cell(const char *key, const column *c, const row *r);
-
 #endif

@@ -2,16 +2,12 @@
 
 #include "json.h"
 #include "mark.h"
-#include "places.h"
 
 #include <errno.h>
 #include <stdarg.h>
 #include <stdio.h>
 #include <stdlib.h>
 #include <string.h>
-
-#define SPELT(number) #number
-#define DIGITS_OF(number) SPELT(number)
 
 int as_json;
 
@@ -89,37 +85,6 @@ int failed(const char *about, const char *doing)
     return trouble(about, "cannot %s: %s", doing, strerror(errno));
 }
 
-const char *meaning(subject kind, unsigned code)
-{
-    if (code == ESK_ROOM && kind == A_JOURNAL)
-        return "the journal has no room for the entry";
-    if (code == ESK_LENGTH && kind == A_REPORT)
-        return "a report has " DIGITS_OF(ESK_REPORT_BYTES) " bytes";
-    if (code == ESK_LENGTH && kind == A_COMMAND)
-        return "a command has at most " DIGITS_OF(ESK_COMMAND_BYTES) " bytes";
-    if (code == ESK_LENGTH)
-        return "a packed field has 1 to 5 bytes";
-    if (code == ESK_FIXED && kind == A_REPORT)
-        return "a fixed byte is wrong (AMDAR3, or a CR LF)";
-    if (code == ESK_FIXED && kind == A_SHEET)
-        return "a fixed group is wrong (a label, a / or a CR LF)";
-    if (code == ESK_FIXED)
-        return "a fixed byte is wrong (AWR04, or a /)";
-    if (code == ESK_BYTE)
-        return "a byte that is not allowed there";
-    return esk_words(code);
-}
-
-/* Of the two things that code 8 stands for, the one that it is. */
-static const char *meaning_at(subject kind, unsigned code, const char *field)
-{
-    if (code != ESK_END)
-        return meaning(kind, code);
-    if (kind == A_SHEET)
-        return "the sheet ends inside a field, or goes on behind its 913 bytes";
-    return strcmp(field, BEHIND_THE_LAST) == 0 ? "bytes after the last delimiter" : "the command ends inside a field";
-}
-
 void json_origin(const origin *from)
 {
     json_word("file", from->file);
@@ -144,25 +109,6 @@ void name_origin(const origin *from, char *to, size_t room)
         snprintf(to, room, "%s%s%s %lu", file, comma, from->unit, from->number);
 }
 
-/* A refusal's words: where it is, what its code means, and what is at fault where more is known than that. */
-typedef struct wording {
-    char field[96], because[160];
-} wording;
-
-static wording words_of(subject kind, esk_answer a, const uint8_t *text, size_t length)
-{
-    wording w = {"", ""};
-    if (a.code >= ESK_FIXED && a.code <= ESK_END)
-        name_place(kind, text, length, a.place, w.field, sizeof w.field);
-    word_figure(kind, text, length, a, w.because, sizeof w.because);
-    if (kind == A_DESIGNATOR) {
-        size_t at = name_bytes(text, length < 20 ? length : 20, w.because, sizeof w.because);
-        snprintf(w.because + at, sizeof w.because - at, "%s: a designator has six letters or digits, A to Z and 0 to 9",
-                 length > 20 ? ".." : "");
-    }
-    return w;
-}
-
 static void refuse_as_json(const origin *from, subject kind, esk_answer a, const wording *w, const uint8_t *text,
                            size_t length, unsigned long long whole)
 {
@@ -185,12 +131,9 @@ static void tell_refusal(const origin *from, subject kind, esk_answer a, const w
     char name[NAME_ROOM];
     name_origin(from, name, sizeof name);
     fflush(stdout);
-    fprintf(stderr, "eskelvor: %s%srefused: code %u at byte %lu%s%s: %s", name, *name ? ": " : "", (unsigned)a.code,
-            (unsigned long)a.place, *w->field ? ", " : "", w->field,
-            *w->because ? w->because : meaning_at(kind, a.code, w->field));
-    if (a.code == ESK_LENGTH && !*w->because)
-        fprintf(stderr, ", this one %llu", whole);
-    fputc('\n', stderr);
+    char words[REFUSAL_ROOM];
+    name_refusal(kind, a, w, whole, words, sizeof words);
+    fprintf(stderr, "eskelvor: %s%srefused: %s\n", name, *name ? ": " : "", words);
     mark_byte(stderr, text, length, a.place);
 }
 

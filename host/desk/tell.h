@@ -6,14 +6,11 @@
 #define DESK_TELL_H
 
 #include "desk.h"
-#include "eskelvor.h"
+#include "wording.h"
 
 extern int as_json;
 
 enum { NAME_ROOM = 4200 }; /* for a name as it is told */
-
-/* What a text is, for the words about a code and a place. */
-typedef enum subject { A_REPORT, A_COMMAND, A_FIELD, A_DESIGNATOR, A_BOARD, A_SETTINGS, A_JOURNAL, A_SHEET } subject;
 
 /* Where a text came from. */
 typedef struct origin {
@@ -50,9 +47,6 @@ int refuse_plain(const char *about, subject kind, unsigned code, const char *wha
 /* A record is refused by its writer, so that there is a place and no text: `about` names the option or the part of a file
  * that is at fault. */
 int refuse_record(const char *about, subject kind, esk_answer answer, const char *field, const char *because);
-
-/* What a code means, of such a text. */
-const char *meaning(subject kind, unsigned code);
 
 /* The keys of a result that say where its text came from. */
 void json_origin(const origin *from);

@@ -4,6 +4,7 @@
 #include "json.h"
 #include "minutes.h"
 #include "options.h"
+#include "report_json.h"
 #include "reports_in.h"
 #include "table.h"
 
@@ -106,19 +107,7 @@ static void json_track(const followed *f)
     json_bool("accepted", 1);
     json_origin(&from);
     json_number("code", ESK_ACCEPTED);
-    json_text("departure", f->report.departure, 4);
-    json_text("arrival", f->report.arrival, 4);
-    json_text("designator", f->report.designator, 6);
-    json_list("points");
-    for (uint32_t i = 0; i < f->track.count; i++) {
-        row r = followed_row(f, i);
-        json_object(NULL);
-        for (int k = first_own_column; k < columns_count; k++)
-            if (columns[k].from != FROM_CHANGE)
-                json_cell(columns[k].name, &columns[k], &r);
-        json_close();
-    }
-    json_close();
+    json_track_keys(followed_row(f, 0));
     json_close();
 }
 

@@ -2,6 +2,7 @@
 #include "track.h"
 
 #include "json.h"
+#include "report_json.h"
 #include "table.h"
 
 #include <stdio.h>

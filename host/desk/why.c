@@ -1,59 +1,11 @@
 /* eskelvor why: why an aircraft reports or stays silent. */
 #include "board.h"
-#include "box.h"
 #include "json.h"
-#include "question.h"
-#include "settings.h"
+#include "reason.h"
 #include "tell.h"
 
 #include <stdio.h>
 #include <string.h>
-
-enum { SENTENCE = 192 };
-
-/* The reasons by position: inside a box, or outside of all. */
-static void name_where(const question *q, esk_explained e, char *to, size_t room)
-{
-    char position[48], box[BOX_ROOM];
-    name_position(q, position, sizeof position);
-    if (e.reason == ESK_WHY_NO_REPORTING_BOX) {
-        snprintf(to, room, "at %s, outside every reporting box", position);
-        return;
-    }
-    name_box(&q->settings.regions.inhibiting.regions[e.number - 1], BOX_BRIEF, box);
-    snprintf(to, room, "at %s, inside inhibiting box %d, %s", position, e.number, box);
-}
-
-/* The reason in words, with what it names as the configuration has it. */
-static void name_reason(const question *q, esk_explained e, char *to, size_t room)
-{
-    const esk_hours *h = &q->settings.hours;
-    switch (e.reason) {
-    case ESK_WHY_AMDAR_OFF: snprintf(to, room, "AMDAR is off"); break;
-    case ESK_WHY_HOURS:
-        snprintf(to, room, "hour %02d is in the hours of silence, from %02d:00 up to %02d:00", q->hour_number, h->start,
-                 h->end);
-        break;
-    case ESK_WHY_INHIBITING_BOX:
-    case ESK_WHY_NO_REPORTING_BOX: name_where(q, e, to, room); break;
-    case ESK_WHY_FLAG_ON: snprintf(to, room, "the %s flag is 1", flag_names[e.number - 1]); break;
-    case ESK_WHY_DIGIT:
-        snprintf(to, room, "without the %s scheme, section %d asks for routine reports", q->phase, e.number);
-        break;
-    case ESK_WHY_FLAG_OFF: snprintf(to, room, "the %s flag is 0", flag_names[e.number - 1]); break;
-    case ESK_WHY_INHIBITED: snprintf(to, room, "airfield %s is inhibited for %s", q->airfield, q->phase); break;
-    case ESK_WHY_NOT_SELECTED: snprintf(to, room, "airfield %s is not selected for %s", q->airfield, q->phase); break;
-    }
-}
-
-/* "silent", "reports by the ascent scheme" */
-static void name_decision(const question *q, esk_explained e, char *to, size_t room)
-{
-    if (e.decision == ESK_SCHEME)
-        snprintf(to, room, "reports by the %s scheme", q->phase);
-    else
-        snprintf(to, room, "%s", e.decision == ESK_ROUTINE ? "reports routinely" : "silent");
-}
 
 /* One line: what is decided, when that is so, and why. */
 static void tell_line(const question *q, esk_explained e, const char *when)
