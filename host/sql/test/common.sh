@@ -14,5 +14,5 @@ fail() {
 }
 
 servers_stop() { :; }
-trap 'servers_stop; rm -rf "$scratch"' EXIT
+trap 'servers_stop; [ -n "${KEEP:-}" ] || rm -rf "$scratch"' EXIT
 trap 'exit 130' INT TERM

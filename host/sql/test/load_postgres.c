@@ -111,13 +111,15 @@ static int is_one_of(const char *state, const char *const *states)
     return *states != NULL;
 }
 
-/* An error that the server told is a statement that changed nothing; but for one by which it ends the connection. */
+/* An error that the server told is a statement that changed nothing; but for those by which a connection ends, also that to
+ * the other server of two. */
 static outcome error(step *s, const PGresult *r)
 {
     static const char *const again[] = {"40001", "40P01", "23505", NULL}; /* another was first */
-    static const char *const ended[] = {"57P01", "57P02", "57P03", "08006", "08003", NULL};
     const char *state = PQresultErrorField(r, PG_DIAG_SQLSTATE);
-    if (state == NULL || is_one_of(state, ended) || PQstatus(connection) != CONNECTION_OK) {
+    if (state == NULL || strncmp(state, "57P", 3) == 0 || strncmp(state, "08", 2) == 0 ||
+        PQstatus(connection) != CONNECTION_OK) {
+        pause_a_little();
         reconnect();
         return DOUBTED;
     }

@@ -10,9 +10,9 @@ copy=$scratch/copy
 if [ "$(id -u)" = 0 ]; then
     server_user=nobody
     ! id postgres >/dev/null 2>&1 || server_user=postgres
-    as_server() { setpriv --reuid="$server_user" --regid="$(id -g "$server_user")" --clear-groups env -u HOME "$@"; }
+    as_server() { exec setpriv --reuid="$server_user" --regid="$(id -g "$server_user")" --clear-groups env -u HOME "$@"; }
 else
-    as_server() { "$@"; }
+    as_server() { exec "$@"; }
 fi
 
 # Links everything of folder $1 into folder $2, as deep as $3 folders.
@@ -31,7 +31,7 @@ mirror() {
 servers_prepare() {
     chmod 755 "$scratch"
     mkdir -p "$copy$bin"
-    cp "$bin/postgres" "$bin/initdb" "$bin/pg_ctl" "$copy$bin/"
+    cp "$bin/postgres" "$bin/initdb" "$copy$bin/"
     mirror "$(pg_config --pkglibdir)" "$copy$(pg_config --pkglibdir)" 0
     mirror "$(pg_config --sharedir)" "$copy$(pg_config --sharedir)" 1
     make -s -C "${SQL_OUT:-$root/target/sql}/postgres" -f "$root/host/sql/Makefile" DESTDIR="$copy" \
@@ -43,36 +43,49 @@ server_new() {
     data=$scratch/server$1
     mkdir "$data"
     [ "$(id -u)" != 0 ] || chown "$server_user" "$data"
-    as_server "$copy$bin/initdb" -D "$data" -A trust -U desk -E UTF8 --no-locale >"$scratch/initdb$1.log"
+    (as_server "$copy$bin/initdb" -D "$data" -A trust -U desk -E UTF8 --no-locale >"$scratch/initdb$1.log")
     cat >>"$data/postgresql.conf" <<END
 listen_addresses = '127.0.0.1'
 port = $((first_port + $1))
 unix_socket_directories = ''
 max_connections = 80
+log_min_messages = fatal # refused commands are part of the load
+log_min_error_statement = panic
 END
     server_start "$1"
 }
 
+# It is this script's own child, so that it is seen to end.
 server_start() {
-    as_server "$copy$bin/pg_ctl" -D "$scratch/server$1" -w -t 120 -l "$scratch/server$1/log" start >/dev/null
+    (as_server "$copy$bin/postgres" -D "$scratch/server$1") >>"$scratch/server$1.log" 2>&1 &
+    eval "server$1=$!"
+    for i in $(seq 1200); do
+        ! "$bin/pg_isready" -q -h 127.0.0.1 -p $((first_port + $1)) || return 0
+        kill -0 $! 2>/dev/null || break
+        sleep 0.05
+    done
+    fail "the server does not start: $(tail -n 5 "$scratch/server$1.log")"
 }
 
-# The server's processes, the first one first: those that it started have it as their parent.
-server_processes() {
-    first=$(head -n 1 "$scratch/server$1/postmaster.pid")
-    echo "$first $(ps -o pid= --ppid "$first" | tr '\n' ' ')"
-}
-
-# As a power failure would, but for the system's own buffers.
+# As a power failure would, but for the system's own buffers: the first process is stopped, so that it starts no others, and
+# then all of them are killed and gone.
 server_kill() {
-    # shellcheck disable=SC2046
-    kill -9 $(server_processes "$1") 2>/dev/null || true
-    sleep 0.1
+    eval "first=\$server$1"
+    kill -STOP "$first"
+    others=$(ps -o pid= --ppid "$first")
+    # shellcheck disable=SC2086
+    kill -9 "$first" $others
+    wait "$first" 2>/dev/null || true
+    for other in $others; do
+        while kill -0 "$other" 2>/dev/null && ! grep -q '^State:.Z' "/proc/$other/status" 2>/dev/null; do sleep 0.01; done
+    done
 }
 
+# At once, without a last checkpoint.
 servers_stop() {
-    for data in "$scratch"/server?; do
-        [ ! -f "$data/postmaster.pid" ] || as_server "$copy$bin/pg_ctl" -D "$data" -m immediate stop >/dev/null 2>&1 || true
+    for server in ${server0:-} ${server1:-}; do
+        kill -QUIT "$server" 2>/dev/null || true
+        wait "$server" 2>/dev/null || true
     done
 }
 
