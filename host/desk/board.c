@@ -55,20 +55,18 @@ static const uint8_t *bytes(const char *word)
     return (const uint8_t *)word;
 }
 
-/* Whether a designator is six bytes that are allowed. A taking without room changes nothing, and answers 4 before it
- * looks whether anything waits. */
-static int designator_status(board *b, const char *designator)
+/* A taking answers 4 before it looks whether anything waits, also of a board without slots. */
+int designator_status(const char *designator)
 {
     size_t length = strlen(designator);
     origin from = {NULL, "designator", 0, 0};
-    esk_answer a = esk_board_take(b->slots, b->n, b->area, b->n * ESK_COMMAND_BYTES, bytes(designator), length, NULL,
-                                  0);
+    esk_answer a = esk_board_take(NULL, 0, NULL, 0, bytes(designator), length, NULL, 0);
     return a.code == ESK_BYTE ? refuse(&from, A_DESIGNATOR, a, bytes(designator), length, length) : FINE;
 }
 
 int board_add(board *b, const char *designator, const uint8_t *text, size_t length, size_t *waiting)
 {
-    if (designator_status(b, designator) != FINE)
+    if (designator_status(designator) != FINE)
         return REFUSED;
     esk_answer a = esk_board_add(b->slots, b->n, b->area, b->n * ESK_COMMAND_BYTES, bytes(designator),
                                  strlen(designator), text, length);
@@ -79,7 +77,7 @@ int board_add(board *b, const char *designator, const uint8_t *text, size_t leng
 /* A taking. A refusal is told, but for the code `quiet`. */
 static int take(board *b, const char *designator, uint8_t *out, size_t *length, unsigned quiet)
 {
-    if (designator_status(b, designator) != FINE)
+    if (designator_status(designator) != FINE)
         return REFUSED;
     esk_answer a = esk_board_take(b->slots, b->n, b->area, b->n * ESK_COMMAND_BYTES, bytes(designator),
                                   strlen(designator), out, ESK_COMMAND_BYTES);

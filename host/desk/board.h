@@ -19,6 +19,9 @@ int board_hold(kept *k, board *b, const char *file, long wait);
  * refused. */
 int board_grow(board *b, const char *file, long slots);
 
+/* Whether a designator is six bytes that are allowed; one that is not is told. */
+int designator_status(const char *designator);
+
 /* Adds an accepted command to the board that was read; `waiting` becomes the length of the text that then waits. */
 int board_add(board *b, const char *designator, const uint8_t *text, size_t length, size_t *waiting);
 

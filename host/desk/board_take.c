@@ -16,16 +16,6 @@
 #include <string.h>
 #include <unistd.h>
 
-enum { NOWHERE = -1 };
-
-/* What is taken, and its entry in the journal. */
-typedef struct taken {
-    uint8_t text[ESK_COMMAND_BYTES];
-    size_t length;
-    long entry; /* where the entry begins; NOWHERE without a journal */
-    long same;  /* where the aircraft's newest entry before it begins, if it has the same text; else NOWHERE */
-} taken;
-
 static void json_entry(const taking *t, const taken *got)
 {
     json_word("journal", t->journal);
@@ -61,8 +51,7 @@ static int flush_output(void)
     return failed("standard output", "flush");
 }
 
-/* Hands a text out: to standard output, or into a new file, with a line end, where it is on disk. */
-static int hand_out(const taking *t, const taken *got)
+int hand_out(const taking *t, const taken *got)
 {
     uint8_t line[ESK_COMMAND_BYTES + 1];
     memcpy(line, got->text, got->length);
@@ -76,8 +65,8 @@ static int hand_out(const taking *t, const taken *got)
     return flush_output();
 }
 
-/* Once all is done. What is on standard output by now is the command alone, so that the rest is told beside it. */
-static void tell_done(const taking *t, const taken *got)
+/* What is on standard output by now is the command alone, so that the rest is told beside it. */
+void tell_done(const taking *t, const taken *got)
 {
     char name[NAME_ROOM];
     if (as_json) {

@@ -12,6 +12,22 @@ typedef struct taking {
     long wait;
 } taking;
 
+enum { NOWHERE = -1 };
+
+/* What is taken, and its entry in the journal. */
+typedef struct taken {
+    uint8_t text[ESK_COMMAND_BYTES];
+    size_t length;
+    long entry; /* where the entry begins; NOWHERE without a journal */
+    long same;  /* where the aircraft's newest entry before it begins, if it has the same text; else NOWHERE */
+} taken;
+
+/* Hands a text out: to standard output, or into a new file, with a line end, where it is on disk. Gives a status. */
+int hand_out(const taking *t, const taken *got);
+
+/* Tells of it, once all is done. */
+void tell_done(const taking *t, const taken *got);
+
 /* Hands over what waits, and frees its slot. Gives a status, and has told it. */
 int board_hand_over(const taking *t);
 

@@ -1,5 +1,5 @@
 /* eskelvor board: a board kept in a file. */
-#include "board_take.h"
+#include "board_db.h"
 #include "joining.h"
 #include "json.h"
 #include "mark.h"
@@ -15,6 +15,7 @@ enum { WAIT_MOST = 86400 };
 /* The words of one call: the board's file, what to do with it, and what the options say. */
 typedef struct call {
     const char *file, *verb;
+    int in_db; /* the file is a database */
     long wait;
     const char *to;      /* the file for what is taken; NULL: standard output */
     const char *journal; /* the journal of what is taken; NULL: none */
@@ -150,6 +151,10 @@ static int put(call *c, putter onto, int count, char **words)
     if (count < 2)
         return trouble(c->verb, "give the aircraft's designator and a command");
     int status = gather(&c->in, count - 1, words + 1, &all);
+    if (status == FINE && c->in_db) {
+        status = db_put(c->file, c->wait, words[0], all.text, all.length, onto == board_return, &length);
+        return status == FINE ? tell_added(words[0], all.texts, length) : status;
+    }
     if (status != FINE)
         return status;
     offices shared;
@@ -188,7 +193,7 @@ static int take(const call *c, int count, char **words)
     if (c->to != NULL && c->journal != NULL && strcmp(c->to, c->journal) == 0)
         return trouble("--to", "%s is the journal; give another file", c->to);
     taking t = {c->file, words[0], c->to, c->journal, c->wait};
-    return board_hand_over(&t);
+    return c->in_db ? db_hand_over(&t) : board_hand_over(&t);
 }
 
 /* The grants, one line or one object for each office. */
@@ -232,10 +237,22 @@ static int grant(const call *c, int count, char **words)
     return status == FINE ? tell_grants(&all) : status;
 }
 
+/* Words of a board's own file, which a database has not: it has no slots, no offices and a journal of its own. */
+static int is_for_files(const call *c)
+{
+    static const char *const verbs[] = {"grow", "convert", "grant"};
+    int found = c->journal != NULL || c->office != NULL;
+    for (size_t i = 0; i < sizeof verbs / sizeof *verbs; i++)
+        found |= strcmp(c->verb, verbs[i]) == 0;
+    return found;
+}
+
 /* What is done with the board, by its word. */
 static int act(call *c, int count, char **words)
 {
     const char *verb = c->verb;
+    if (c->in_db && is_for_files(c))
+        return trouble("--db", "there are no slots, offices or journal files in a database; --help tells what there is");
     if (c->to != NULL && strcmp(verb, "take") != 0)
         return trouble("--to", "only a taking has it");
     if (c->journal != NULL && strcmp(verb, "take") != 0)
@@ -246,6 +263,8 @@ static int act(call *c, int count, char **words)
         return trouble(verb, "--flags, --sections and --downlinks are a grant's");
     if (strcmp(verb, "grant") == 0)
         return grant(c, count, words);
+    if (c->in_db && strcmp(verb, "create") == 0)
+        return count == 0 ? db_create(c->file, c->wait) : trouble("create", "a board in a database has no slots");
     if (strcmp(verb, "create") == 0)
         return create(c, count, words);
     if (strcmp(verb, "grow") == 0)
@@ -258,6 +277,10 @@ static int act(call *c, int count, char **words)
         return put(c, board_return, count, words);
     if (strcmp(verb, "take") == 0)
         return take(c, count, words);
+    if (c->in_db && count == 1 && strcmp(verb, "list") == 0)
+        return db_look_at(c->file, c->wait, words[0]);
+    if (c->in_db && count == 0 && (strcmp(verb, "list") == 0 || strcmp(verb, "check") == 0))
+        return db_look(c->file, c->wait, strcmp(verb, "list") == 0);
     if (count < 2 && strcmp(verb, "list") == 0)
         return count == 0 ? board_look(c->file, 1) : board_look_at(c->file, words[0]);
     if (count == 1 && strcmp(verb, "find") == 0)
@@ -270,9 +293,10 @@ static int act(call *c, int count, char **words)
 static int run(int count, char **words)
 {
     const char *wait = "10";
-    call c = {NULL, NULL, 0, NULL, NULL, NULL, NULL, NULL, 0, {0, 0, 0, NULL, NULL}};
-    const option known[] = {VALUE_OPTION("--wait", NULL, &wait), VALUE_OPTION("--to", NULL, &c.to),
-                            VALUE_OPTION("--journal", NULL, &c.journal), VALUE_OPTION("--office", NULL, &c.office),
+    call c = {NULL, NULL, 0, 0, NULL, NULL, NULL, NULL, NULL, 0, {0, 0, 0, NULL, NULL}};
+    const option known[] = {SET_OPTION("--db", &c.in_db), VALUE_OPTION("--wait", NULL, &wait),
+                            VALUE_OPTION("--to", NULL, &c.to), VALUE_OPTION("--journal", NULL, &c.journal),
+                            VALUE_OPTION("--office", NULL, &c.office),
                             VALUE_OPTION("--flags", NULL, &c.flags), VALUE_OPTION("--sections", NULL, &c.sections),
                             SET_OPTION("--downlinks", &c.downlinks), SET_OPTION("--text", &c.in.typed),
                             SET_OPTION("--exact", &c.in.exact)};
@@ -294,7 +318,8 @@ const subcommand board_subcommand = {
     "           | take [--to FILE] [--journal FILE] DESIGNATOR\n"
     "           | return DESIGNATOR COMMAND..\n"
     "           | list [DESIGNATOR] | find PREFIX | check | grow N | convert NEW\n"
-    "           | grant [OFFICE [--flags F,..] [--sections N,..] [--downlinks]]",
+    "           | grant [OFFICE [--flags F,..] [--sections N,..] [--downlinks]]\n"
+    "       eskelvor board --db FILE create | add | take | return | list | check ..",
     "Keeps the board of waiting commands in a file",
     "  create N     makes a board of N slots, at most 64; a file that is there stays\n"
     "  add          adds commands for an aircraft, all of them or none; words and\n"
@@ -328,6 +353,8 @@ const subcommand board_subcommand = {
     "               adds for that office: a command outside its grant is refused with\n"
     "               13, which says what is outside; where there are grants, every add\n"
     "               has an office. Taking needs none\n"
+    "  --db         the board is in a database, FILE of SQLite: it has no slots, and all\n"
+    "               that is taken is in its own journal, the table handed_over\n"
     "  --wait S     waits S seconds for another writer of the board (10)\n"
     "  --text       every word behind the designator is a command\n"
     "  --exact      all the bytes of a file are one command, line ends too\n"

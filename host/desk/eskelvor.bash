@@ -29,7 +29,7 @@ _eskelvor_options() {
     decide) echo "$asked $text" ;;
     why) echo "$asked $text --board --aircraft" ;;
     gust) echo '--type --height --mass --acceleration --speed --csv --list' ;;
-    board) echo "--wait --to --journal --office --flags --sections --downlinks $text" ;;
+    board) echo "--db --wait --to --journal --office --flags --sections --downlinks $text" ;;
     journal) echo "--wait --at $text" ;;
     help) echo '--list' ;;
     esac
@@ -81,6 +81,7 @@ _eskelvor() {
         words=$(_eskelvor_values "$before")
         case $subcommand:$((COMP_CWORD - at)):$words in
         board:2:) words='create add take return list find check grow convert grant' ;;
+        board:3:) [[ ${COMP_WORDS[at + 1]} == --db ]] && words='create add take return list check' ;;
         config:2:) words='convert' ;;
         journal:2:) words='list replay add drop check' ;;
         packed:1:) words='read write' ;;

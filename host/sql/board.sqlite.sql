@@ -13,6 +13,8 @@
 --   take    DELETE FROM waiting WHERE designator = ?1 RETURNING command;    -- the trigger below journals it
 --   return  as add, with eskelvor_join(excluded.command, waiting.command): before what has come to wait since
 
+BEGIN;
+
 -- What waits. No row can hold a command that is not accepted; the refusal's words are the error's.
 CREATE TABLE waiting (
     designator TEXT PRIMARY KEY NOT NULL CHECK (eskelvor_designator(designator)),
@@ -33,5 +35,7 @@ CREATE TRIGGER hand_over BEFORE DELETE ON waiting
 BEGIN
     INSERT INTO handed_over (designator, command) VALUES (old.designator, old.command);
 END;
+
+COMMIT;
 
 PRAGMA journal_mode = WAL;

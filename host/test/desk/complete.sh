@@ -65,6 +65,8 @@ offers apply -
 [ "$(cat "$scratch/out")" = '' ] || fail 'a single - is standard input'
 offers board tonight gr
 out_is grow grant
+offers board --db fleet.db ta
+out_is take
 offers journal taken re
 out_is replay
 offers config old ''

@@ -1,0 +1,20 @@
+/* board_schema.h: board.sqlite.sql as words of C. Made by host/sql/build schema; a test holds the two together. */
+static const char board_schema[] =
+    "BEGIN;\n"
+    "CREATE TABLE waiting (\n"
+    "    designator TEXT PRIMARY KEY NOT NULL CHECK (eskelvor_designator(designator)),\n"
+    "    command TEXT NOT NULL CHECK (eskelvor_accepted(command))\n"
+    ") STRICT, WITHOUT ROWID;\n"
+    "CREATE TABLE handed_over (\n"
+    "    number INTEGER PRIMARY KEY AUTOINCREMENT,\n"
+    "    designator TEXT NOT NULL CHECK (eskelvor_designator(designator)),\n"
+    "    command TEXT NOT NULL CHECK (eskelvor_accepted(command)),\n"
+    "    at TEXT NOT NULL DEFAULT (strftime('%Y-%m-%dT%H:%M:%fZ', 'now'))\n"
+    ") STRICT;\n"
+    "CREATE INDEX handed_over_by_aircraft ON handed_over (designator, number);\n"
+    "CREATE TRIGGER hand_over BEFORE DELETE ON waiting\n"
+    "BEGIN\n"
+    "    INSERT INTO handed_over (designator, command) VALUES (old.designator, old.command);\n"
+    "END;\n"
+    "COMMIT;\n"
+    "PRAGMA journal_mode = WAL;\n";
