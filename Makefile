@@ -4,10 +4,15 @@
 # make install    the header, both libraries, the Python module, the desk program and its manual page, under PREFIX;
 #                 DESTDIR goes before it
 # make uninstall  takes away what install put there
+# make install-sql, uninstall-sql
+#                 the SQL functions for SQLite and PostgreSQL, those whose headers are here, and the boards' tables
 # make test       the gate: every test, the comparison and every proof
 # make test-desk  the desk program's tests alone
 # make test-library
 #                 those of the libraries for this machine, and of the Python module
+# make test-sql   those of the SQL functions and of boards in databases, at full size: 200,000 steps of each load
+# make measure-sql
+#                 adds and takings a second in both engines, and what the join costs
 # make compare    the archive and the second program on the same inputs; ARGS='--seed 2 --long' and the like
 # make bench      ns per call, ours and the second program's; ROWS=word for the rows whose name has the word
 # make growth     docs/growth.svg: how the cost grows with a text's length and a board's used slots
@@ -38,6 +43,7 @@ native_program := target/native/eskelvor
 programs := answer answer_command answer_section answer_config answer_decide answer_join answer_commute answer_board \
 	answer_journal answer_gust answer_sheet
 
+.PHONY: install-sql uninstall-sql test-sql measure-sql
 .PHONY: all demo possible install uninstall test test-desk test-library compare bench growth fuzz replay coverage edits clean
 
 all: $(archive) $(program) $(native_program)
@@ -98,6 +104,13 @@ uninstall:
 	rm -rf '$(at)/$(python_at)/__pycache__'
 	-rmdir '$(at)/$(python_at)' '$(at)/share/eskelvor/python' '$(at)/share/eskelvor'
 
+# The extension for PostgreSQL goes where pg_config says; PG_CONFIG names another one.
+install-sql: possible $(library)
+	DESTDIR='$(DESTDIR)' PREFIX='$(PREFIX)' host/sql/build install
+
+uninstall-sql:
+	DESTDIR='$(DESTDIR)' PREFIX='$(PREFIX)' host/sql/build uninstall
+
 # ---- tests and measurements --------------------------------------------------------------------------------------
 
 test:
@@ -109,6 +122,15 @@ test-desk: $(program) $(native_program)
 test-library: $(native_program)
 	host/test/library/run
 	python/tests/run
+
+test-sql: $(native_program) $(program)
+	@cd compare && cargo build --release --offline --locked --quiet
+	host/sql/test/run full
+	host/sql/test/run sanitized
+
+measure-sql: $(library)
+	@cd compare && cargo build --release --offline --locked --quiet
+	host/sql/test/run measure
 
 compare: $(archive)
 	@for program in $(programs); do host/tool build $$program host/test/$$program.c || exit 1; done

@@ -27,7 +27,7 @@ in_sqlite() {
         echo "CREATE TABLE reports AS SELECT 1 AS number, readfile('examples/one.report') AS report
             UNION ALL SELECT 2, substr(CAST(readfile('examples/damaged.reports') AS BLOB), 221, 220);"
         cat "$here/functions.sql"
-    } | (cd "$root" && sqlite3 "$scratch/functions.db" 2>&1) | sed '/^wal$/d' | one_form
+    } | (cd "$root" && env ${ENGINE_ENV:-} sqlite3 "$scratch/functions.db" 2>&1) | sed '/^wal$/d' | one_form
 }
 
 in_postgres() {

@@ -141,7 +141,7 @@ int main(int count, char **words)
         one_step(client, ++number, (uint32_t)atol(words[6]));
     double took = now() - began;
     engine_close();
-    printf("client %d: %ld steps in %.3f s: %lu done, %lu found nothing, %lu refused, %lu in doubt, %lu sent again\n", client,
-           number, took, outcomes[DONE], outcomes[NOTHING_WAITED], outcomes[REFUSED], outcomes[DOUBTED], outcomes[AGAIN]);
+    printf("client %d: %ld steps in %.3f s, %.3f s of processor: %lu done, %lu found nothing, %lu refused, %lu in doubt, %lu sent again\n", client,
+           number, took, (double)clock() / CLOCKS_PER_SEC, outcomes[DONE], outcomes[NOTHING_WAITED], outcomes[REFUSED], outcomes[DOUBTED], outcomes[AGAIN]);
     return 0;
 }

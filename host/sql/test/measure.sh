@@ -1,16 +1,22 @@
 #!/bin/sh
 # Adds and takings a second at 1, 4 and 16 clients, by the board's own statements and by the same with plain concatenation in
 # the place of the join, on tables without checks: what the engine itself costs. Each once with every commit on disk before
-# it is told, and once without waiting for the disk. Of ROUNDS (3) the middle one is told. Words: sqlite | postgres.
+# it is told, and once without waiting for the disk. Of ROUNDS (5) the middle one is told. Words: sqlite | postgres.
+#
+# Steps a second hang on the disk and on what else the machine does; the processor's time a step, of the server's processes
+# or, for SQLite, of the clients', says what the join and the checks cost.
 #
 # STEPS, 16000, is how many in all a run has.
 . "$(dirname "$0")/common.sh"
 engine=${1:-}
 steps=${STEPS:-16000}
-rounds=${ROUNDS:-3}
+rounds=${ROUNDS:-5}
 ESKELVOR_SO=$out/eskelvor.so
 export ESKELVOR_SO
-"$fleet" commands 1 20000 | grep -v ' ' >"$scratch/commands"
+"$fleet" commands 1 20000 >"$scratch/commands"
+{ echo ".load $out/eskelvor"; echo '.mode list'; echo 'CREATE TEMP TABLE all_of (command text);'; echo '.mode tabs'
+    echo ".import $scratch/commands all_of"; echo 'SELECT command FROM all_of WHERE eskelvor_check(command) = 0 LIMIT 16001;'
+} | sqlite3 :memory: >"$scratch/accepted"
 
 sqlite_new() {
     database=$scratch/board.db
@@ -44,28 +50,42 @@ postgres_new() {
             RETURNING plain_handed_over.number, plain_handed_over.command $$' -c CHECKPOINT
 }
 
-# Steps a second of so many clients, $1, with these statements, $2; $3: on or off, whether the disk is waited for.
+# The processor's seconds of all processes that the server started and that have ended.
+server_seconds() {
+    awk -v ticks="$(getconf CLK_TCK)" '{ print ($16 + $17) / ticks }' "/proc/$server0/stat"
+}
+
+# Steps a second, and microseconds of the processor a step, of so many clients, $1, with these statements, $2; $3: on or off,
+# whether the disk is waited for.
 rate() {
-    pids=
+    pids= before=0 after=0
     "${engine}_new"
     if [ "$engine" = sqlite ]; then
         SYNCHRONOUS=$([ "$3" = on ] && echo FULL || echo OFF)
         export SYNCHRONOUS
     else
         database="$(server_words 0) options='-c synchronous_commit=$3 -c search_path=measured,public'"
+        before=$(server_seconds)
     fi
     for i in $(seq "$1"); do
         "$out/test/load_$engine" "$database" "$scratch/commands" - "$i" $((steps / $1)) 2000 1 "$2" >"$scratch/said.$i" 2>&1 &
         pids="$pids $!"
     done
     for pid in $pids; do wait "$pid" || fail "a client failed: $(cat "$scratch"/said.*)"; done
+    if [ "$engine" = postgres ]; then
+        sleep 0.3 # until the server's processes have ended
+        after=$(server_seconds)
+    fi
     # All began together: the longest of the clients is the whole run's time.
-    sed -n 's/.* steps in \([0-9.]*\) s:.*/\1/p' "$scratch"/said.* | sort -n | tail -n 1 |
-        awk -v steps="$steps" '{ printf "%d\n", steps / $1 }'
+    sed -n 's/.* steps in \([0-9.]*\) s, \([0-9.]*\) s of.*/\1 \2/p' "$scratch"/said.* |
+        awk -v steps="$steps" -v of="$engine" -v server="$(echo "$after $before" | awk '{ print $1 - $2 }')" '
+            { longest = $1 > longest ? $1 : longest; used += $2 }
+            END { printf "%d %.1f\n", steps / longest, (of == "sqlite" ? used : server) * 1e6 / steps }'
     rm -f "$scratch"/said.*
 }
 
-middle() { sort -n | awk '{ all[NR] = $1 } END { print all[int((NR + 1) / 2)] }'; }
+# The middle one of column $1.
+middle() { cut -d ' ' -f "$1" | sort -n | awk '{ all[NR] = $1 } END { print all[int((NR + 1) / 2)] }'; }
 
 # The two statements by turns, so that what else the machine does falls on both.
 row() {
@@ -74,10 +94,40 @@ row() {
         rate "$1" plain "$2" >>"$scratch/plain"
         rate "$1" bare "$2" >>"$scratch/bare"
     done
-    bare=$(middle <"$scratch/bare")
-    plain=$(middle <"$scratch/plain")
-    awk -v clients="$1" -v disk="$2" -v bare="$bare" -v plain="$plain" 'BEGIN {
-        printf "| %d | %s | %d | %d | %.0f %% |\n", clients, disk, bare, plain, 100 * (1 - bare / plain) }'
+    awk -v clients="$1" -v disk="$2" -v bare="$(middle 1 <"$scratch/bare")" -v plain="$(middle 1 <"$scratch/plain")" \
+        -v used="$(middle 2 <"$scratch/bare")" -v without="$(middle 2 <"$scratch/plain")" 'BEGIN {
+        printf "| %d | %s | %d | %d | %.0f | %.0f | %.0f %% |\n", clients, disk, bare, plain, used, without,
+            100 * (1 - without / used) }'
+}
+
+# A statement of SQL in the engine; it gives the seconds of the processor that it took, less those of the client's start.
+ask_engine() {
+    if [ "$engine" = sqlite ]; then
+        { echo ".load $out/eskelvor"; echo '.timer on'; echo "$1"; } | sqlite3 "$scratch/alone.db" |
+            sed -n 's/.*user \([0-9.]*\) .*/\1/p' | tail -n 1
+    else
+        ask 0 -c '\timing on' -c 'SET max_parallel_workers_per_gather = 0' -c "$1" |
+            sed -n 's/^Time: \([0-9.]*\) ms.*/\1/p' | tail -n 1 | awk '{ print $1 / 1000 }'
+    fi
+}
+
+# Nanoseconds of one expression over the commands of the load, each with the next, 400,000 times; the empty scan taken away.
+alone() {
+    {
+        echo 'CREATE TABLE pairs (a text, b text);'
+        awk 'NR > 1 { printf "INSERT INTO pairs VALUES (\047%s\047, \047%s\047);\n", last, $0 } { last = $0 }' "$scratch/accepted" |
+            { echo 'BEGIN;'; cat; echo 'COMMIT;'; }
+    } >"$scratch/pairs.sql"
+    if [ "$engine" = sqlite ]; then
+        { echo ".load $out/eskelvor"; cat "$scratch/pairs.sql"; } | sqlite3 "$scratch/alone.db"
+    else
+        ask 0 -c 'SET client_min_messages = warning' -c 'CREATE EXTENSION IF NOT EXISTS eskelvor SCHEMA public' -f "$scratch/pairs.sql"
+    fi
+    many="FROM pairs, (WITH RECURSIVE n(i) AS (SELECT 1 UNION ALL SELECT i + 1 FROM n WHERE i < 25) SELECT i FROM n) AS times"
+    rows=$((25 * ($(wc -l <"$scratch/accepted") - 1)))
+    for expression in 'length(b)' 'length(a || b)' 'eskelvor_check(b)' 'length(eskelvor_join(a, b))'; do
+        ask_engine "SELECT sum($expression) $many;" | awk -v what="$expression" -v rows="$rows" '{ printf "  %-30s %6.0f ns\n", what, 1e9 * $1 / rows }'
+    done
 }
 
 case $engine in
@@ -89,8 +139,11 @@ postgres)
     ;;
 *) echo 'usage: measure.sh sqlite | postgres' >&2; exit 2 ;;
 esac
-echo "$engine: $steps steps a run, the middle of $rounds; steps a second"
-echo '| clients | waits for the disk | with the join and the checks | with concatenation, no checks | their share |'
+echo "$engine: $steps steps a run, the middle of $rounds"
+echo '| clients | waits for the disk | steps a second | the same with concatenation | processor, us a step | with concatenation | join and checks, of it |'
+echo '|---|---|---|---|---|---|---|'
 for disk in on off; do
     for clients in 1 4 16; do row $clients $disk; done
 done
+echo "one call by itself, over commands of $(awk '{ all += length($0) } END { printf "%d", all / NR }' "$scratch/accepted") bytes on average, with the scan:"
+alone

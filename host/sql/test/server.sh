@@ -10,9 +10,9 @@ copy=$scratch/copy
 if [ "$(id -u)" = 0 ]; then
     server_user=nobody
     ! id postgres >/dev/null 2>&1 || server_user=postgres
-    as_server() { exec setpriv --reuid="$server_user" --regid="$(id -g "$server_user")" --clear-groups env -u HOME "$@"; }
+    as_server() { exec setpriv --reuid="$server_user" --regid="$(id -g "$server_user")" --clear-groups env -u HOME ${ENGINE_ENV:-} "$@"; }
 else
-    as_server() { exec "$@"; }
+    as_server() { exec env ${ENGINE_ENV:-} "$@"; }
 fi
 
 # Links everything of folder $1 into folder $2, as deep as $3 folders.

@@ -61,9 +61,10 @@ impl Told {
         let words: Vec<&str> = line.split(' ').collect();
         let key = |client: &str, step: &str| Ok::<Key, String>((number(client)?, number(step)?));
         let fresh = match words[..] {
-            ["sent", client, step, "add", of, text] => {
-                self.sent.insert(key(client, step)?, Sent { designator: of.into(), kind: Kind::Add(text.into()) }).is_none()
-            }
+            ["sent", client, step, "add", of, text] => self
+                .sent
+                .insert(key(client, step)?, Sent { designator: of.into(), kind: Kind::Add(text.into()) })
+                .is_none(),
             ["sent", client, step, "take", of] => {
                 self.sent.insert(key(client, step)?, Sent { designator: of.into(), kind: Kind::Take }).is_none()
             }
@@ -87,7 +88,11 @@ impl Told {
             ["waits", of, text] => self.waits.insert(of.into(), text.into()).is_none(),
             _ => return Err(format!("no line of a log: {line}")),
         };
-        if fresh { Ok(self) } else { Err(format!("told twice: {line}")) }
+        if fresh {
+            Ok(self)
+        } else {
+            Err(format!("told twice: {line}"))
+        }
     }
 
     /// What was counted, in words; or the first thing that does not follow.
@@ -176,7 +181,8 @@ impl Told {
             aircraft.insert(of);
             let due = match &step.kind {
                 Kind::Add(given) => {
-                    let joined = joined(waiting.get(of), given.as_bytes()).map_err(|why| format!("step {at}: {why}"))?;
+                    let joined =
+                        joined(waiting.get(of), given.as_bytes()).map_err(|why| format!("step {at}: {why}"))?;
                     waiting.insert(of, joined.clone());
                     Some(joined)
                 }
