@@ -10,9 +10,9 @@ copy=$scratch/copy
 if [ "$(id -u)" = 0 ]; then
     server_user=nobody
     ! id postgres >/dev/null 2>&1 || server_user=postgres
-    as_server() { exec setpriv --reuid="$server_user" --regid="$(id -g "$server_user")" --clear-groups env -u HOME ${ENGINE_ENV:-} "$@"; }
+    as_server() { exec setpriv --reuid="$server_user" --regid="$(id -g "$server_user")" --clear-groups env -u HOME "$@"; }
 else
-    as_server() { exec env ${ENGINE_ENV:-} "$@"; }
+    as_server() { exec "$@"; }
 fi
 
 # Links everything of folder $1 into folder $2, as deep as $3 folders.
@@ -57,7 +57,7 @@ END
 
 # It is this script's own child, so that it is seen to end.
 server_start() {
-    (as_server "$copy$bin/postgres" -D "$scratch/server$1") >>"$scratch/server$1.log" 2>&1 &
+    (as_server env ${ENGINE_ENV:-} "$copy$bin/postgres" -D "$scratch/server$1") >>"$scratch/server$1.log" 2>&1 &
     eval "server$1=$!"
     for i in $(seq 1200); do
         ! "$bin/pg_isready" -q -h 127.0.0.1 -p $((first_port + $1)) || return 0
