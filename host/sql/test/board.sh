@@ -7,6 +7,7 @@
 #   board.sh postgres-killed KILLS  the same until the server was killed with -9 so often, and started again
 #   board.sh sharded STEPS        16 clients of a table over two servers
 #   board.sh sharded-killed KILLS the same, one of the servers killed each time
+#   board.sh levels STEPS         8 clients of a server, over 20 aircraft, under each level of isolation
 #   board.sh wrong sqlite | postgres   statements that are wrong, each of which the second program has to refuse
 #
 # AIRCRAFT, 2000, and SEED, 1, may be given.
@@ -139,14 +140,31 @@ sqlite_killed() {
     rm "$scratch"/log.*.stop
 }
 
+# Tables without a row, and no log.
+fresh() {
+    rm -f "$scratch"/log.*
+    if [ "$engine" = sqlite ]; then sqlite_new; else
+        ask 0 -c 'SET client_min_messages = warning' -c 'DROP TABLE IF EXISTS waiting, handed_over, steps CASCADE' \
+            -c 'DROP FUNCTION IF EXISTS board_add, board_take, board_return'
+        postgres_tables 0
+    fi
+}
+
+# Under each level the same is true; what differs is how many had to be sent again.
+levels() {
+    for level in 'read committed' 'repeatable read' serializable; do
+        fresh
+        aircraft=20
+        database="$(server_words 0) options='-c default_transaction_isolation=$(echo "$level" | sed 's/ /\\\\ /')'"
+        load 8 "$1" right
+        tell "postgres, $level, $(sed -n 's/.*in doubt, \([0-9]*\) sent again.*/\1/p' "$scratch"/said.* |
+            awk '{ all += $1 } END { print all }') sent again"
+    done
+}
+
 wrong() {
     for statements in "$@"; do
-        rm -f "$scratch"/log.*
-        if [ "$engine" = sqlite ]; then sqlite_new; else
-            ask 0 -c 'DROP TABLE IF EXISTS waiting, handed_over, steps CASCADE' \
-                -c 'DROP FUNCTION IF EXISTS board_add, board_take, board_return' 2>/dev/null
-            postgres_tables 0
-        fi
+        fresh
         aircraft=20
         load 8 4000 "$statements"
         if words=$(verdict); then fail "wrong statements passed: $statements: $words"; fi
@@ -187,6 +205,10 @@ sharded-killed)
     killed "$2" 2 sharded
     tell "sharded, killed $2 times"
     ;;
+levels)
+    postgres_prepare
+    levels "$2"
+    ;;
 wrong)
     if [ "$2" = sqlite ]; then
         engine=sqlite
@@ -196,5 +218,5 @@ wrong)
         wrong swapped last unlocked unjournalled
     fi
     ;;
-*) echo 'usage: board.sh sqlite STEPS | sqlite-killed KILLS | postgres STEPS | postgres-killed KILLS | sharded STEPS | sharded-killed KILLS | wrong ENGINE' >&2; exit 2 ;;
+*) echo 'usage: board.sh sqlite STEPS | sqlite-killed KILLS | postgres STEPS | postgres-killed KILLS | sharded STEPS | sharded-killed KILLS | levels STEPS | wrong ENGINE' >&2; exit 2 ;;
 esac
