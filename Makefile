@@ -58,10 +58,10 @@ target/native/libdesk.a: $(archive) host/native
 $(library): $(archive) host/native host/words.c host/eskelvor.h host/exports.map
 	host/native library
 
-$(native_program): $(library) $(wildcard host/desk/*.[ch])
+$(native_program): $(library) $(wildcard host/desk/*.[ch] host/sql/*.[ch])
 	@host/native program eskelvor host/desk/*.c
 
-$(program): $(archive) host/tool host/words.c host/eskelvor.h $(wildcard host/desk/*.[ch])
+$(program): $(archive) host/tool host/words.c host/eskelvor.h $(wildcard host/desk/*.[ch] host/sql/*.[ch])
 	@host/tool build eskelvor host/desk/*.c
 
 demo: $(program)

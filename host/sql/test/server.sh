@@ -4,7 +4,12 @@
 
 bin=$(pg_config --bindir)
 copy=$scratch/copy
-: "${first_port:=$((40000 + $$ % 20000))}"
+
+# Two ports that are free, below those that the system gives to outgoing connections: one of these could take a server's
+# place while it is down.
+is_free() { ! grep -qi ":$(printf %04X "$1") " /proc/net/tcp /proc/net/tcp6 2>/dev/null; }
+first_port=$((20000 + $$ % 10000))
+until is_free $first_port && is_free $((first_port + 1)); do first_port=$((first_port + 2)); done
 
 # A server does not run as root: root runs it as the user that has none of its own files, or the fewest.
 if [ "$(id -u)" = 0 ]; then
