@@ -5,4 +5,4 @@
 #include "../sql/sqlite.c"
 #endif
 
-typedef int sql_functions_is_not_empty;
+typedef int sql_functions_are_none; /* C has no empty file */

@@ -11,6 +11,7 @@
 #include "calls.h"
 
 #include <sqlite3ext.h>
+#include <stdio.h>
 #include <string.h>
 
 SQLITE_EXTENSION_INIT1
@@ -59,7 +60,9 @@ static int take(sqlite3_context *context, const sql_call *call, sqlite3_value **
         } else if (sqlite3_value_numeric_type(values[i]) == SQLITE_INTEGER)
             to[i].number = sqlite3_value_int64(values[i]);
         else {
-            sqlite3_result_error(context, "a whole number is needed", -1);
+            char words[64];
+            snprintf(words, sizeof words, "%s: value %d is to be a whole number", call->name, i + 1);
+            sqlite3_result_error(context, words, -1);
             return 0;
         }
     return 1;
@@ -94,7 +97,7 @@ typedef struct joined {
 
 static void joined_step(sqlite3_context *context, int count, sqlite3_value **values)
 {
-    static const sql_call one = {"", "t", NULL};
+    static const sql_call one = {"eskelvor_joined", "t", NULL};
     sql_value next;
     sql_answer answer;
     (void)count;

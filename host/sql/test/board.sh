@@ -212,10 +212,10 @@ levels)
 wrong)
     if [ "$2" = sqlite ]; then
         engine=sqlite
-        wrong swapped last
+        wrong swapped last blind
     else
         postgres_prepare
-        wrong swapped last unlocked unjournalled
+        wrong swapped last unlocked unjournalled blind
     fi
     ;;
 *) echo 'usage: board.sh sqlite STEPS | sqlite-killed KILLS | postgres STEPS | postgres-killed KILLS | sharded STEPS | sharded-killed KILLS | levels STEPS | wrong ENGINE' >&2; exit 2 ;;

@@ -6,6 +6,7 @@ root=$(cd "$here/../../.." && pwd -P)
 out=${SQL_OUT:-$root/target/sql}
 scratch=$(mktemp -d "${TMPDIR:-/tmp}/eskelvor-sql.XXXXXX")
 CARGO_TARGET_DIR=${CARGO_TARGET_DIR:-$root/target/compare}
+PG_CONFIG=${PG_CONFIG:-pg_config}
 fleet=$CARGO_TARGET_DIR/release/fleet
 
 fail() {

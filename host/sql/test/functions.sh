@@ -13,7 +13,7 @@ INSERT INTO commands VALUES (1, '"'AWR041999999000400000/151/'"'), (2, '"'AWR049
 one_form() {
     sed -E -e '/^(LINE [0-9]+:|HINT:|DETAIL:|CONTEXT:|QUERY:|[[:space:]]*\^)/d' -e '/(--- error here|error here ---)/d' \
         -e '/^  (SELECT|INSERT|UPDATE)/d' \
-        -e 's/^.*(ERROR: |error near line [0-9]+:|error near line [0-9]+:? ?stepping,) *(eskelvor_[a-z_]*: .*)$/error: \2/' \
+        -e 's/^.*(ERROR: |error near line [0-9]+:|error near line [0-9]+:? ?stepping,) *(eskelvor_[a-z_]*: .*refused: .*)$/error: \2/' \
         -e 's/^(error: eskelvor_.*) \([0-9]+\)$/\1/' \
         -e 's/^.*(ERROR: |[Ee]rror near line|Error: ).*$/error/' -e '/^error: eskelvor_/!s/^error:.*/error/'
 }

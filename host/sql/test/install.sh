@@ -18,8 +18,8 @@ if "$root/host/sql/build" has sqlite >/dev/null && command -v sqlite3 >/dev/null
     [ "$said" = "$(printf 'wal\nAWR049999199000000000/')" ] || fail "what was installed says: $said"
 fi
 if "$root/host/sql/build" has postgres >/dev/null; then
-    for file in "$(pg_config --pkglibdir)/eskelvor.so" "$(pg_config --sharedir)/extension/eskelvor.control" \
-        "$(pg_config --sharedir)/extension/eskelvor--1.0.sql"; do
+    for file in "$("$PG_CONFIG" --pkglibdir)/eskelvor.so" "$("$PG_CONFIG" --sharedir)/extension/eskelvor.control" \
+        "$("$PG_CONFIG" --sharedir)/extension/eskelvor--1.0.sql"; do
         [ -s "$dest$file" ] || fail "$file is not there"
     done
 fi

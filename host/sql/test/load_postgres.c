@@ -49,6 +49,10 @@ static const struct statements {
      "RETURNING command) INSERT INTO steps (kind, client, step, designator, given, text) "
      "SELECT 'add', $3::int, $4::bigint, $1, $2, command FROM added RETURNING number, text",
      TAKEN(JOURNALLED)},
+    {"blind", ADDED(UPSERT(JOINED)),
+     "WITH taken AS (DELETE FROM waiting WHERE designator = $1 AND random() < 0.5 RETURNING designator, command), " JOURNALLED
+     "INSERT INTO steps (kind, client, step, designator, text) "
+     "SELECT 'take', $2::int, $3::bigint, designator, command FROM taken RETURNING number, text"},
     {"unjournalled", ADDED(UPSERT(JOINED)), TAKEN("unused AS (SELECT 1) ")},
     /* For measuring: the board's own statements; and the same of tables without checks, with concatenation. */
     {"bare",

@@ -23,6 +23,7 @@ static const struct statements {
     {"right", UPSERT("waiting", JOINED), TAKE("waiting"), 1},
     {"swapped", UPSERT("waiting", "eskelvor_join(excluded.command, waiting.command)"), TAKE("waiting"), 1},
     {"last", UPSERT("waiting", "excluded.command"), TAKE("waiting"), 1},
+    {"blind", UPSERT("waiting", JOINED), "DELETE FROM waiting WHERE designator = ?1 AND random() > 0 RETURNING command", 1},
     {"bare", UPSERT("waiting", JOINED), TAKE("waiting"), 0},
     {"plain", UPSERT("plain", "plain.command || excluded.command"), TAKE("plain"), 0},
 };

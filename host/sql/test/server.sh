@@ -2,7 +2,7 @@
 # copy of the installed server's folders in which the extension is installed: nothing of the machine's own servers is
 # touched. The caller sets $root and $scratch, and calls servers_stop at its end.
 
-bin=$(pg_config --bindir)
+bin=$("$PG_CONFIG" --bindir)
 copy=$scratch/copy
 
 # Two ports that are free, below those that the system gives to outgoing connections: one of these could take a server's
@@ -37,8 +37,8 @@ servers_prepare() {
     chmod 755 "$scratch"
     mkdir -p "$copy$bin"
     cp "$bin/postgres" "$bin/initdb" "$copy$bin/"
-    mirror "$(pg_config --pkglibdir)" "$copy$(pg_config --pkglibdir)" 0
-    mirror "$(pg_config --sharedir)" "$copy$(pg_config --sharedir)" 1
+    mirror "$("$PG_CONFIG" --pkglibdir)" "$copy$("$PG_CONFIG" --pkglibdir)" 0
+    mirror "$("$PG_CONFIG" --sharedir)" "$copy$("$PG_CONFIG" --sharedir)" 1
     make -s -C "${SQL_OUT:-$root/target/sql}/postgres" -f "$root/host/sql/Makefile" DESTDIR="$copy" \
         LIBRARY="$root/target/native/libeskelvor.a" install
 }

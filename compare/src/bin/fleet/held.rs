@@ -1,10 +1,8 @@
 //! A log, and whether what it says of the database follows from what was sent.
 
+use crate::order::{Key, Order};
 use desk_compare::second::{command, join, settings::MOST};
 use std::collections::{BTreeMap, HashMap, HashSet};
-
-/// A client and the number of its step.
-type Key = (u32, u64);
 
 enum Kind {
     Add(String),
@@ -101,6 +99,7 @@ impl Told {
         let committed = self.each_was_sent()?;
         self.each_outcome_holds(&committed, &mut counts)?;
         let aircraft = self.each_text_is_the_join()?;
+        self.each_none_can_be(&committed)?;
         for step in self.steps.values() {
             match step.kind {
                 Kind::Add(_) => counts.adds += 1,
@@ -199,6 +198,22 @@ impl Told {
         self.board_is(&waiting)?;
         self.journal_is(handed)?;
         Ok(aircraft.len())
+    }
+
+    /// Of each taking that found nothing: at some moment while it ran nothing can have waited.
+    fn each_none_can_be(&self, committed: &HashMap<Key, u64>) -> Result<(), String> {
+        let mut order = Order::of_clients(committed);
+        for (at, step) in &self.steps {
+            order.step(*at, &step.designator, matches!(step.kind, Kind::Take));
+        }
+        for (key, outcome) in &self.outcomes {
+            let Some(sent) = self.sent.get(key) else { continue };
+            if matches!(outcome, Outcome::None) && !order.may_find_nothing(*key, &sent.designator) {
+                let of = &sent.designator;
+                return Err(format!("step {} of client {} found nothing for {of}, and something waited", key.1, key.0));
+            }
+        }
+        Ok(())
     }
 
     fn board_is(&self, due: &HashMap<&str, Vec<u8>>) -> Result<(), String> {
@@ -315,6 +330,27 @@ mod tests {
         ] {
             assert!(other(begins, line).is_err(), "{begins}: {line:?}");
         }
+    }
+
+    /// A taking that found nothing while a command waited: one that its own client had added, or another that had gone on.
+    #[test]
+    fn a_blind_taking_is_found() {
+        let added = |client, step, at, of| {
+            [
+                format!("sent {client} {step} add {of} {FIRST}"),
+                format!("done {client} {step} {at} {FIRST}"),
+                format!("step {at} add {client} {step} {of} {FIRST} {FIRST}"),
+                format!("waits {of} {FIRST}"),
+            ]
+        };
+        let taken = ["sent 1 9 take AU0001".to_string(), "none 1 9".to_string()];
+        let own = [&added(1, 1, 7, "AU0001")[..], &taken].concat();
+        assert!(verdict(&own).expect_err("something waited").contains("found nothing"));
+        let others = [added(2, 1, 7, "AU0001"), added(2, 2, 8, "AU0002"), added(1, 1, 9, "AU0003")].concat();
+        assert!(verdict(&[&others[..], &taken].concat()).expect_err("something waited").contains("found nothing"));
+        // Not known to be committed by then, since its client did nothing behind it.
+        let maybe = [added(2, 1, 7, "AU0001"), added(1, 1, 9, "AU0003")].concat();
+        assert!(verdict(&[&maybe[..], &taken].concat()).is_ok());
     }
 
     #[test]

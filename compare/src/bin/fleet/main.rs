@@ -20,6 +20,7 @@
 //! in the order of their commits.
 
 mod held;
+mod order;
 
 use desk_compare::make::uplink;
 use desk_compare::random::Random;
