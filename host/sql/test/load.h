@@ -11,6 +11,8 @@
  *   STEPS        how many; 0: until there is a file LOG.stop beside it
  *   AIRCRAFT     among so many
  *   STATEMENTS   which ones, by the engine's names
+ *
+ * For SQLite the environment's ESKELVOR_SO is the extension, and SYNCHRONOUS, where it is set, what that pragma is set to.
  */
 #ifndef SQL_LOAD_H
 #define SQL_LOAD_H

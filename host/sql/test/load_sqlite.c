@@ -1,4 +1,4 @@
-/* The engine of load.c for SQLite. The extension is the file of the environment's word ESKELVOR_SO. */
+/* The engine of load.c for SQLite. */
 #include "load.h"
 
 #include <sqlite3.h>

@@ -54,6 +54,7 @@ listen_addresses = '127.0.0.1'
 port = $((first_port + $1))
 unix_socket_directories = ''
 max_connections = 80
+fsync = ${SERVER_FSYNC:-on}
 log_min_messages = fatal # refused commands are part of the load
 log_min_error_statement = panic
 END
