@@ -64,6 +64,17 @@ int designator_status(const char *designator)
     return a.code == ESK_BYTE ? refuse(&from, A_DESIGNATOR, a, bytes(designator), length, length) : FINE;
 }
 
+/* '0' comes before every other byte of a designator, so that a prefix is filled up with it. */
+int prefix_status(const char *prefix, char least[7])
+{
+    size_t length = strlen(prefix);
+    memcpy(least, "000000", 7);
+    if (length > 6)
+        return trouble("find", "a designator has six letters or digits; give no more of it");
+    memcpy(least, prefix, length);
+    return designator_status(least);
+}
+
 int board_add(board *b, const char *designator, const uint8_t *text, size_t length, size_t *waiting)
 {
     if (designator_status(designator) != FINE)

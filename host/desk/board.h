@@ -22,6 +22,9 @@ int board_grow(board *b, const char *file, long slots);
 /* Whether a designator is six bytes that are allowed; one that is not is told. */
 int designator_status(const char *designator);
 
+/* Whether a designator may begin so; `least` becomes the least that does. */
+int prefix_status(const char *prefix, char least[7]);
+
 /* Adds an accepted command to the board that was read; `waiting` becomes the length of the text that then waits. */
 int board_add(board *b, const char *designator, const uint8_t *text, size_t length, size_t *waiting);
 

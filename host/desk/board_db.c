@@ -204,10 +204,13 @@ static int db_number(database *d, const char *text, long long *number)
     return FINE;
 }
 
-/* All that waits, in the order of the designators. */
-static int list_rows(database *d)
+/* What waits for the aircraft whose designators begin with `prefix`, in the order of the designators; "" for all. The index
+ * is searched for the first of them. */
+static int list_rows(database *d, const char *prefix)
 {
-    int row = 0, status = db_ask(d, "SELECT designator, command FROM waiting ORDER BY designator", NULL, NULL, 0);
+    static const char rows[] = "SELECT designator, command FROM waiting WHERE designator >= ?1 AND "
+                               "substr(designator, 1, length(?1)) = ?1 ORDER BY designator";
+    int row = 0, status = db_ask(d, rows, prefix, NULL, 0);
     if (as_json)
         json_list("waiting");
     while (status == FINE && (row = db_next(d)) == 1)
@@ -243,7 +246,7 @@ static int look_within(database *d, int lists)
     if (!as_json) {
         printf("%s: %lld aircraft have a command waiting, %lld were handed over\n", name_safely(d->file, name, sizeof name),
                waiting, handed);
-        return lists ? list_rows(d) : FINE;
+        return lists ? list_rows(d, "") : FINE;
     }
     json_object(NULL);
     json_bool("accepted", 1);
@@ -251,8 +254,31 @@ static int look_within(database *d, int lists)
     json_number("used", waiting);
     json_number("handed_over", handed);
     if (lists)
-        status = list_rows(d);
+        status = list_rows(d, "");
     json_close();
+    return status;
+}
+
+int db_find(const char *file, long wait, const char *prefix)
+{
+    database d;
+    char least[7];
+    int status = prefix_status(prefix, least);
+    if (status != FINE)
+        return status;
+    status = db_open(&d, file, wait, SQLITE_OPEN_READWRITE);
+    if (status == FINE && as_json) {
+        json_object(NULL);
+        json_bool("accepted", 1);
+        json_number("code", ESK_ACCEPTED);
+        json_word("prefix", prefix);
+    }
+    if (status == FINE) {
+        status = list_rows(&d, prefix);
+        if (as_json)
+            json_close();
+    }
+    db_close(&d);
     return status;
 }
 
@@ -337,6 +363,12 @@ int db_look(const char *file, long wait, int lists)
 int db_look_at(const char *file, long wait, const char *designator)
 {
     (void)wait, (void)designator;
+    return without(file);
+}
+
+int db_find(const char *file, long wait, const char *prefix)
+{
+    (void)wait, (void)prefix;
     return without(file);
 }
 

@@ -22,6 +22,9 @@ int db_hand_over(const taking *t);
 /* Tells how many wait, and, where `lists` is 1, what; else whether the database is sound. */
 int db_look(const char *file, long wait, int lists);
 
+/* Tells what waits for the aircraft whose designators begin with `prefix`, up to six bytes. */
+int db_find(const char *file, long wait, const char *prefix);
+
 /* Tells in words what waits for an aircraft. */
 int db_look_at(const char *file, long wait, const char *designator);
 

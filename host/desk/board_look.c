@@ -80,21 +80,15 @@ int board_look(const char *file, int lists)
  */
 static int part_of(const board *b, const char *prefix, part *which)
 {
-    uint8_t least[6] = "000000";
-    size_t length = strlen(prefix);
-    if (length > sizeof least)
-        return trouble("find", "a designator has six letters or digits; give no more of it");
-    memcpy(least, prefix, length);
+    char least[7];
+    int status = prefix_status(prefix, least);
+    if (status != FINE)
+        return status;
     *which = all_of(b);
-    esk_tail found = esk_tails_find(b->slots, b->n, which->list, b->n, least, sizeof least);
-    if (found.code != ESK_ACCEPTED && found.code != ESK_NOTHING) {
-        origin from = {NULL, "prefix", 0, 0};
-        esk_answer a = {.code = found.code};
-        return refuse(&from, A_DESIGNATOR, a, (const uint8_t *)prefix, length, length);
-    }
     size_t used = which->to;
-    which->from = which->to = found.at;
-    while (which->to < used && memcmp(b->slots[which->list[which->to]].designator, prefix, length) == 0)
+    which->from = esk_tails_find(b->slots, b->n, which->list, b->n, (const uint8_t *)least, 6).at;
+    which->to = which->from;
+    while (which->to < used && memcmp(b->slots[which->list[which->to]].designator, prefix, strlen(prefix)) == 0)
         which->to++;
     return FINE;
 }

@@ -284,7 +284,7 @@ static int act(call *c, int count, char **words)
     if (count < 2 && strcmp(verb, "list") == 0)
         return count == 0 ? board_look(c->file, 1) : board_look_at(c->file, words[0]);
     if (count == 1 && strcmp(verb, "find") == 0)
-        return board_find(c->file, words[0]);
+        return c->in_db ? db_find(c->file, c->wait, words[0]) : board_find(c->file, words[0]);
     if (count == 0 && strcmp(verb, "check") == 0)
         return board_look(c->file, 0);
     return trouble(verb, "no such thing to do with a board; --help tells what there is");
@@ -319,7 +319,7 @@ const subcommand board_subcommand = {
     "           | return DESIGNATOR COMMAND..\n"
     "           | list [DESIGNATOR] | find PREFIX | check | grow N | convert NEW\n"
     "           | grant [OFFICE [--flags F,..] [--sections N,..] [--downlinks]]\n"
-    "       eskelvor board --db FILE create | add | take | return | list | check ..",
+    "       eskelvor board --db FILE create | add | take | return | list | find | check ..",
     "Keeps the board of waiting commands in a file",
     "  create N     makes a board of N slots, at most 64; a file that is there stays\n"
     "  add          adds commands for an aircraft, all of them or none; words and\n"

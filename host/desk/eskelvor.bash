@@ -81,7 +81,7 @@ _eskelvor() {
         words=$(_eskelvor_values "$before")
         case $subcommand:$((COMP_CWORD - at)):$words in
         board:2:) words='create add take return list find check grow convert grant' ;;
-        board:3:) [[ ${COMP_WORDS[at + 1]} == --db ]] && words='create add take return list check' ;;
+        board:3:) [[ ${COMP_WORDS[at + 1]} == --db ]] && words='create add take return list find check' ;;
         config:2:) words='convert' ;;
         journal:2:) words='list replay add drop check' ;;
         packed:1:) words='read write' ;;

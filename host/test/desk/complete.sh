@@ -104,7 +104,7 @@ for phase in ascent level descent; do
     offers decide --phase $phase
     out_is $phase
 done
-for verb in create add take return list check grow convert grant; do
+for verb in create add take return list find check grow convert grant; do
     offers board tonight $verb
     out_is $verb
     answers 0 'the help' help board

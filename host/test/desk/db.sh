@@ -46,6 +46,14 @@ answers 0 'what waits, by designator' board --db b list
 out_is 'b: 2 aircraft have a command waiting, 0 were handed over' "  XY0000   31 bytes  $both" "  XY0001   31 bytes  $both"
 answers 0 'the same for a machine' board --db b list --json
 json_has results.0.used=2 results.0.waiting.1.designator=XY0001 results.0.waiting.0.text=$both results.0.handed_over=0
+answers 0 'those that begin so' board --db b find XY0001
+out_is "  XY0001   31 bytes  $both"
+answers 0 'all' board --db b find ''
+out_is "  XY0000   31 bytes  $both" "  XY0001   31 bytes  $both"
+answers 0 'none, for a machine' board --db b find --json XZ
+json_has results.0.prefix=XZ status=0
+answers 1 'small letters' board --db b find xy
+answers 2 'seven bytes' board --db b find XY00011
 answers 0 'in words' board --db b list XY0001
 out_has "XY0001  31 bytes  $both" '  from 23:00 up to 01:00, over midnight'
 answers 0 'in words, for a machine' board --db b list --json XY0001
