@@ -55,13 +55,19 @@ static const uint8_t *bytes(const char *word)
     return (const uint8_t *)word;
 }
 
-/* A taking answers 4 before it looks whether anything waits, also of a board without slots. */
+/* Whether it is a designator; a refusal shows what was typed. A taking answers 4 before it looks whether anything waits,
+ * also of a board without slots. */
+static int status_of(const char *designator, const char *what, const char *typed)
+{
+    size_t length = strlen(typed);
+    origin from = {NULL, what, 0, 0};
+    esk_answer a = esk_board_take(NULL, 0, NULL, 0, bytes(designator), strlen(designator), NULL, 0);
+    return a.code == ESK_BYTE ? refuse(&from, A_DESIGNATOR, a, bytes(typed), length, length) : FINE;
+}
+
 int designator_status(const char *designator)
 {
-    size_t length = strlen(designator);
-    origin from = {NULL, "designator", 0, 0};
-    esk_answer a = esk_board_take(NULL, 0, NULL, 0, bytes(designator), length, NULL, 0);
-    return a.code == ESK_BYTE ? refuse(&from, A_DESIGNATOR, a, bytes(designator), length, length) : FINE;
+    return status_of(designator, "designator", designator);
 }
 
 /* '0' comes before every other byte of a designator, so that a prefix is filled up with it. */
@@ -72,7 +78,7 @@ int prefix_status(const char *prefix, char least[7])
     if (length > 6)
         return trouble("find", "a designator has six letters or digits; give no more of it");
     memcpy(least, prefix, length);
-    return designator_status(least);
+    return status_of(least, "prefix", prefix);
 }
 
 int board_add(board *b, const char *designator, const uint8_t *text, size_t length, size_t *waiting)

@@ -44,6 +44,9 @@ int board_look(const char *file, int lists);
 /* Tells what waits for the aircraft whose designators begin with `prefix`, up to six bytes, in rising order of designator. */
 int board_find(const char *file, const char *prefix);
 
+/* Tells in words a command that waits for an aircraft in a slot, from 1 on; 0 where there are no slots. */
+void tell_waiting(size_t slot, const char *designator, const uint8_t *text, size_t length);
+
 /* Tells in words what waits for an aircraft. */
 int board_look_at(const char *file, const char *designator);
 

@@ -3,7 +3,6 @@
 
 #include "json.h"
 #include "mark.h"
-#include "settings.h"
 
 #ifdef DESK_SQLITE
 
@@ -205,15 +204,16 @@ static int db_number(database *d, const char *text, long long *number)
 }
 
 /* What waits for the aircraft whose designators begin with `prefix`, in the order of the designators; "" for all. The index
- * is searched for the first of them. */
-static int list_rows(database *d, const char *prefix)
+ * is searched for the first of them and left behind the last: '[' comes behind every byte of a designator. */
+static int list_rows(database *d, const char *prefix, long long *found)
 {
-    static const char rows[] = "SELECT designator, command FROM waiting WHERE designator >= ?1 AND "
-                               "substr(designator, 1, length(?1)) = ?1 ORDER BY designator";
+    static const char rows[] = "SELECT designator, command FROM waiting WHERE designator >= ?1 AND designator < ?1 || '[' "
+                               "ORDER BY designator";
     int row = 0, status = db_ask(d, rows, prefix, NULL, 0);
+    *found = 0;
     if (as_json)
         json_list("waiting");
-    while (status == FINE && (row = db_next(d)) == 1)
+    for (; status == FINE && (row = db_next(d)) == 1; ++*found)
         tell_row(d);
     if (as_json)
         json_close();
@@ -235,7 +235,7 @@ static int db_sound(database *d)
 static int look_within(database *d, int lists)
 {
     char name[NAME_ROOM];
-    long long waiting = 0, handed = 0;
+    long long waiting = 0, handed = 0, listed;
     int status = lists ? FINE : db_sound(d);
     if (status == FINE)
         status = db_number(d, "SELECT count(*) FROM waiting", &waiting);
@@ -246,7 +246,7 @@ static int look_within(database *d, int lists)
     if (!as_json) {
         printf("%s: %lld aircraft have a command waiting, %lld were handed over\n", name_safely(d->file, name, sizeof name),
                waiting, handed);
-        return lists ? list_rows(d, "") : FINE;
+        return lists ? list_rows(d, "", &listed) : FINE;
     }
     json_object(NULL);
     json_bool("accepted", 1);
@@ -254,7 +254,7 @@ static int look_within(database *d, int lists)
     json_number("used", waiting);
     json_number("handed_over", handed);
     if (lists)
-        status = list_rows(d, "");
+        status = list_rows(d, "", &listed);
     json_close();
     return status;
 }
@@ -263,6 +263,7 @@ int db_find(const char *file, long wait, const char *prefix)
 {
     database d;
     char least[7];
+    long long found;
     int status = prefix_status(prefix, least);
     if (status != FINE)
         return status;
@@ -274,9 +275,11 @@ int db_find(const char *file, long wait, const char *prefix)
         json_word("prefix", prefix);
     }
     if (status == FINE) {
-        status = list_rows(&d, prefix);
-        if (as_json)
+        status = list_rows(&d, prefix, &found);
+        if (as_json) {
+            json_number("found", found);
             json_close();
+        }
     }
     db_close(&d);
     return status;
@@ -310,23 +313,9 @@ int db_look_at(const char *file, long wait, const char *designator)
     db_close(&d);
     if (status == FINE && length == 0)
         return refuse_plain(designator, A_BOARD, ESK_NOTHING, NULL);
-    if (status != FINE)
-        return status;
-    esk_command command = esk_command_read(text, length).command;
-    if (!as_json) {
-        printf("%s  %lu bytes  %.*s\n", designator, (unsigned long)length, (int)length, (const char *)text);
-        say_command(&command);
-        return FINE;
-    }
-    json_object(NULL);
-    json_bool("accepted", 1);
-    json_number("code", ESK_ACCEPTED);
-    json_word("designator", designator);
-    json_number("length", (long long)length);
-    json_text("text", text, length);
-    json_command(&command);
-    json_close();
-    return FINE;
+    if (status == FINE)
+        tell_waiting(0, designator, text, length);
+    return status;
 }
 
 #else

@@ -123,6 +123,28 @@ static size_t slot_of(const board *b, const char *designator)
     return esk_tails_find(b->slots, b->n, all.list, b->n, (const uint8_t *)designator, 6).slot;
 }
 
+void tell_waiting(size_t slot, const char *designator, const uint8_t *text, size_t length)
+{
+    esk_command command = esk_command_read(text, length).command;
+    if (!as_json) {
+        if (slot > 0)
+            printf("slot %lu  ", (unsigned long)slot);
+        printf("%s  %lu bytes  %.*s\n", designator, (unsigned long)length, (int)length, (const char *)text);
+        say_command(&command);
+        return;
+    }
+    json_object(NULL);
+    json_bool("accepted", 1);
+    json_number("code", ESK_ACCEPTED);
+    if (slot > 0)
+        json_number("slot", (long long)slot);
+    json_word("designator", designator);
+    json_number("length", (long long)length);
+    json_text("text", text, length);
+    json_command(&command);
+    json_close();
+}
+
 /* What waits for one aircraft, in words. What is taken of the board that was read still waits in the file. */
 int board_look_at(const char *file, const char *designator)
 {
@@ -133,24 +155,7 @@ int board_look_at(const char *file, const char *designator)
     copy = b;
     if (status == FINE)
         status = board_take(&copy, designator, text, &length);
-    if (status != FINE)
-        return status;
-    esk_command command = esk_command_read(text, length).command;
-    unsigned long slot = (unsigned long)slot_of(&b, designator) + 1;
-    if (!as_json) {
-        printf("slot %lu  %s  %lu bytes  %.*s\n", slot, designator, (unsigned long)length, (int)length,
-               (const char *)text);
-        say_command(&command);
-        return FINE;
-    }
-    json_object(NULL);
-    json_bool("accepted", 1);
-    json_number("code", ESK_ACCEPTED);
-    json_number("slot", (long long)slot);
-    json_word("designator", designator);
-    json_number("length", (long long)length);
-    json_text("text", text, length);
-    json_command(&command);
-    json_close();
-    return FINE;
+    if (status == FINE)
+        tell_waiting(slot_of(&b, designator) + 1, designator, text, length);
+    return status;
 }

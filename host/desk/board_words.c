@@ -283,7 +283,9 @@ static int act(call *c, int count, char **words)
         return db_look(c->file, c->wait, strcmp(verb, "list") == 0);
     if (count < 2 && strcmp(verb, "list") == 0)
         return count == 0 ? board_look(c->file, 1) : board_look_at(c->file, words[0]);
-    if (count == 1 && strcmp(verb, "find") == 0)
+    if (count != 1 && strcmp(verb, "find") == 0)
+        return trouble("find", "give what the designators begin with, once; '' for all");
+    if (strcmp(verb, "find") == 0)
         return c->in_db ? db_find(c->file, c->wait, words[0]) : board_find(c->file, words[0]);
     if (count == 0 && strcmp(verb, "check") == 0)
         return board_look(c->file, 0);

@@ -80,10 +80,12 @@ json_has results.0.prefix=XY results.0.found=2 results.0.waiting.0.designator=XY
 answers 0 'none, for a machine' board tails find --json Q
 json_has results.0.found=0 status=0
 answers 1 'small letters' board tails find xy
-err_has 'code 4 at byte 0'
+err_has 'prefix: refused: code 4 at byte 0: xy: a designator has six letters or digits'
 answers 2 'seven bytes' board tails find XY00022
 answers 2 'no prefix' board tails find
+err_has 'find: give what the designators begin with'
 answers 2 'two of them' board tails find X Y
+err_has 'find: give what the designators begin with'
 answers 0 'taken out of the middle' board tails take AB0002
 answers 0 'the others are still found' board tails find AB
 out_is "  slot  2  AB0001 $one"

@@ -51,8 +51,13 @@ out_is "  XY0001   31 bytes  $both"
 answers 0 'all' board --db b find ''
 out_is "  XY0000   31 bytes  $both" "  XY0001   31 bytes  $both"
 answers 0 'none, for a machine' board --db b find --json XZ
-json_has results.0.prefix=XZ status=0
+json_has results.0.prefix=XZ results.0.found=0 status=0
+answers 0 'two, for a machine' board --db b find --json XY
+json_has results.0.found=2 results.0.waiting.1.designator=XY0001 status=0
 answers 1 'small letters' board --db b find xy
+err_has 'prefix: refused: code 4 at byte 0: xy: a designator'
+answers 2 'no prefix' board --db b find
+err_has 'find: give what the designators begin with'
 answers 2 'seven bytes' board --db b find XY00011
 answers 0 'in words' board --db b list XY0001
 out_has "XY0001  31 bytes  $both" '  from 23:00 up to 01:00, over midnight'
