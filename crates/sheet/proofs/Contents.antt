@@ -18,7 +18,7 @@ use Rattle.sheet.specs.declared.Held.{Held}
 use Rattle.sheet.specs.declared.Sheet.{Sheet}
 use Rattle.sheet.specs.Number.{isBelow, sizeOf, blanked, marked, numberText}
 use Rattle.sheet.specs.Layout.{widthOf, cellAt, boxCell, airportCell}
-use Rattle.sheet.specs.Inner.{heldIs, heldForm, sizeOfCell, isPortName, isPortStatus}
+use Rattle.sheet.specs.Inner.{heldIs, heldForm, sizeOfCell}
 use Rattle.sheet.specs.Sheet.{seen, fieldAt, nameCell, airportOf, allowedSheet, allowedCell, heldAt, heldCode, fieldText, cellText, lineEnd, labelOf, joined}
 use Rattle.text.specs.declared.Seen.the-variants.{Fine}
 use Rattle.text.specs.Parts.{part}
@@ -98,57 +98,6 @@ status-word (Number w l) e = refl
 
 pub status-cell : (k : ℕ) → 67 ≤ k → k < 167 → ((k - 67) % 2 ≡ 0 → ⊥) → isWord (cellAt k .form) ≡ true
 status-cell k h l e = status-word (cellAt k .form) (status-is k h l e)
-
--- an airport's cells: a short fixed group and a name, then a status
-abbrev portTest : Cell → Cell → Bool
-portTest a b = leb (a .labelled) 4 && (isFour (a .form) && (cond (a .ends) false true && (leb (b .labelled) 4 && isStatus (b .form))))
-
-port-cells : (m : ℕ) → m < 50 → portTest (cellAt (67 + 2 * m)) (cellAt (67 + 2 * m + 1)) ≡ true
-unfolding cellAt boxCell airportCell
-port-cells = every (λ m. portTest (cellAt (67 + 2 * m)) (cellAt (67 + 2 * m + 1))) 50 refl
-
-four-is : (f : Form) → isFour f ≡ true → f ≡ Name 4
-four-is (Name w) e = ap Name (eqb-true w 4 e)
-four-is Switch e = not-held e
-four-is (Digit most) e = not-held e
-four-is (Number w l) e = not-held e
-
-one-is : (f : Form) → isStatus f ≡ true → f ≡ Digit 1
-one-is (Name w) e = not-held e
-one-is Switch e = not-held e
-one-is (Digit most) e = ap Digit (eqb-true most 1 e)
-one-is (Number w l) e = not-held e
-
-not-ends : (t : Bool) → cond t false true ≡ true → t ≡ false
-not-ends true e = not-held e
-not-ends false e = refl
-
-pub port-are : (m : ℕ) → m < 50 → isPortName (cellAt (67 + 2 * m)) × isPortStatus (cellAt (67 + 2 * m + 1))
-port-are m h =
-    let a = cellAt (67 + 2 * m) in
-    let b = cellAt (67 + 2 * m + 1) in
-    let label = leb (a .labelled) 4 in
-    let last = leb (b .labelled) 4 && isStatus (b .form) in
-    let inner = cond (a .ends) false true in
-    let p = port-cells m h in
-    let q = both-right label (isFour (a .form) && (inner && last)) p in
-    let r = both-right (isFour (a .form)) (inner && last) q in
-    let t = both-right inner last r in (
-      (
-        leb-true (a .labelled) 4 (both-left label (isFour (a .form) && (inner && last)) p),
-        (four-is (a .form) (both-left (isFour (a .form)) (inner && last) q), not-ends (a .ends) (both-left inner last r)),
-      ),
-      (
-        leb-true (b .labelled) 4 (both-left (leb (b .labelled) 4) (isStatus (b .form)) t),
-        one-is (b .form) (both-right (leb (b .labelled) 4) (isStatus (b .form)) t),
-      ),
-    )
-
-pub airport-is : (k : ℕ) → k < 100 → airportCell k ≡ cellAt (67 + k)
-unfolding cellAt
-airport-is k h =
-    let e : 67 + k - 67 ≡ k = omega arith in
-    rw (le-ltb (67 + k) 17 (omega arith), le-ltb (67 + k) 67 (omega arith), e)
 
 -- ---- lengths
 

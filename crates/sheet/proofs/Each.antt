@@ -1,5 +1,5 @@
 -- Checks one after the other.
-use mathlib.Core.Path.{_≡_, refl}
+use mathlib.Core.Path.{_≡_, refl, _∙_}
 use Prim.Native.Nat.{ℕ, zero, suc, _+_, _-_, _≤_, _<_}
 use native.Mathlib.Omega.{arith}
 use native.Mathlib.Numerals.{add-one}
@@ -57,6 +57,13 @@ module _ (f : ℕ → Seen) where
       by : (x : Seen) → (x andThen (each f (suc k) m andThen each f (suc k + m) n)) ≡ ((x andThen each f (suc k) m) andThen each f (suc k + m) n)
       by Fine = refl
       by (Bad code place) = refl
+
+  pub each-join : (m n k : ℕ) → each f k m ≡ Fine → each f (k + m) n ≡ Fine → each f k (m + n) ≡ Fine
+  each-join m n k a b = each-add m n k ∙ rw (a, b)
+
+  pub each-more : (n k : ℕ) → each f k n ≡ Fine → f (k + n) ≡ Fine → each f k (n + 1) ≡ Fine
+  unfolding each
+  each-more n k a b = each-join n 1 k a (rw b)
 
   -- where all are fine, each is
   pub each-fine : (k n : ℕ) → each f k n ≡ Fine → (i : ℕ) → k ≤ i → i < k + n → f i ≡ Fine

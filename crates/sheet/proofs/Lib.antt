@@ -3,6 +3,7 @@ pub mod Choice
 pub mod Scan
 pub mod Small
 pub mod Short
+pub mod Rows
 pub mod Each
 pub mod Filled
 pub mod Checked

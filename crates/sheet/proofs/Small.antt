@@ -1,7 +1,7 @@
 -- Each cell's numbers are small: one computed test over the cells, and what it says of one.
 use mathlib.Core.Path.{_≡_, refl, ap}
 use mathlib.Core.Bool.{Bool, true, false, cond, _&&_}
-use Prim.Native.Nat.{ℕ, suc, _+_, _-_, _≤_, _<_}
+use Prim.Native.Nat.{ℕ, suc, _+_, _≤_, _<_}
 use native.Mathlib.Omega.{arith}
 use lib.Dec.{leb, eqb}
 use borrow.Author.Tests.{leb-true, eqb-true}
@@ -73,16 +73,6 @@ small-parts c e =
         both-right (leb (c .labelled) 16) (smallForm (c .form)) rest,
       ),
     )
-
-short-boxes : (i : ℕ) → i < 50 → leb (cellAt (17 + i) .labelled) 4 ≡ true
-unfolding cellAt boxCell airportCell
-short-boxes = every (λ i. leb (cellAt (17 + i) .labelled) 4) 50 refl
-
--- a box's fixed groups are short
-pub box-short : (k : ℕ) → 17 ≤ k → k < 67 → cellAt k .labelled ≤ 4
-box-short k low high =
-    let is : 17 + (k - 17) ≡ k = omega arith in
-    rw is at (leb-true (cellAt (17 + (k - 17)) .labelled) 4 (short-boxes (k - 17) (omega arith)))
 
 -- ---- the cells of the airports
 

@@ -2,10 +2,11 @@
 use mathlib.Core.Bool.{Bool, true, false, cond, _&&_}
 use mathlib.Core.List.{List, [], _∷_}
 use Prim.Native.Nat.{ℕ, _+_, _*_, _%_, _≤_, _<_}
-use lib.ListN.{getD, take}
+use lib.ListN.{length, getD, take}
 use mathlib.Core.Path.{_≡_}
 use Rattle.text.specs.Parts.{part}
-use Rattle.sheet.specs.Sheet.{airportOf}
+use Rattle.text.specs.declared.Seen.the-variants.{Fine}
+use Rattle.sheet.specs.Sheet.{airportOf, seen, labelOf, lineEnd, fixedCode, fieldEnd, cellEnd}
 use lib.Dec.{leb}
 use Rattle.sheet.specs.declared.Form.{Form}
 use Rattle.sheet.specs.declared.Form.the-variants.{Name, Switch, Digit, Number}
@@ -29,12 +30,13 @@ smallCell c = leb (c .at) 2000 && (leb (c .labelled) 16 && smallForm (c .form))
 abbrev pub otherAt : List ℕ → ℕ → ℕ → ℕ → ℕ → Bool → Type 0
 otherAt s at i n b r = (r ≡ true → (i < n) × (getD s (at + i) 0 ≡ b → ⊥)) × (r ≡ false → i < n → getD s (at + i) 0 ≡ b)
 
--- the two cells of an airport
-abbrev pub isPortName : Cell → Type 0
-isPortName c = (c .labelled ≤ 4) × ((c .form ≡ Name 4) × (c .ends ≡ false))
+-- a cell with a short fixed group, all of whose bytes are there
+abbrev pub Whole : List ℕ → Cell → Type 0
+Whole s c = (smallCell c ≡ true) × ((c .labelled ≤ 4) × (cellEnd c ≤ length s))
 
-abbrev pub isPortStatus : Cell → Type 0
-isPortStatus c = (c .labelled ≤ 4) × (c .form ≡ Digit 1)
+-- its fixed group, and the CR LF behind it
+abbrev pub Framed : List ℕ → Cell → Type 0
+Framed s c = (fixedCode (labelOf c) s (c .at) ≡ 0) × (cond (c .ends) (seen (fixedCode lineEnd s (fieldEnd c)) (fieldEnd c)) Fine ≡ Fine)
 
 -- ---- Writing
 

@@ -3,11 +3,11 @@ use crate::Cell;
 use crate::Form;
 use crate::Limits;
 ghost use mathlib.Core.Path.{_≡_};
-ghost use Prim.Native.Nat.{_+_, _<_, _≤_};
+ghost use Prim.Native.Nat.{_+_, _*_, _<_, _≤_};
 ghost use mathlib.Core.List.{_∷_};
 ghost use lib.ListN.{getD, replicate};
 ghost use Rattle.sheet.specs.declared.Form.the-variants.{Number};
-ghost use Rattle.sheet.specs.Layout.{number, minutes, widthOf, headCells, noCell, boxCell, nameCellOf, airportCell, cellAt};
+ghost use Rattle.sheet.specs.Layout.{number, minutes, widthOf, headCells, noCell, boxCells, boxCell, nameCellOf, statusCellOf, airportCell, cellAt};
 
 pub fn width_of(form: Form) -> usize
     ensures { λ r. ⌜ r ≡ widthOf form ⌝ }
@@ -85,7 +85,7 @@ fn first_cell() -> Cell
 }
 
 // Lines 1 to 4.
-fn head_cell(k: usize) -> Cell
+pub fn head_cell(k: usize) -> Cell
     requires { ⌜ k < 17 ⌝ }
     ensures { λ r. ⌜ r ≡ getD headCells k noCell ⌝ }
 {
@@ -118,13 +118,12 @@ fn figure(n: usize) -> u8
 }
 
 // A box's line is five cells.
-fn box_cell(k: usize) -> Cell
-    requires { ⌜ k < 50 ⌝ }
-    ensures { λ r. ⌜ r ≡ boxCell k ⌝ }
+pub fn box_part(i: usize, j: usize) -> Cell
+    requires { ⌜ (i < 10) × (j < 5) ⌝ }
+    ensures { λ r. ⌜ r ≡ getD (boxCells i (83 + 32 * i)) j noCell ⌝ }
 {
-    let i = k / 5;
     let at = 83 + 32 * i;
-    match k % 5 {
+    match j {
         0 => cell(at, 3, b'B', figure(i), b' ', 0, minutes(5, 5400), false),
         1 => cell(at + 8, 1, b'/', 0, 0, 0, minutes(6, 10800), false),
         2 => cell(at + 15, 1, b' ', 0, 0, 0, minutes(5, 5400), false),
@@ -133,8 +132,15 @@ fn box_cell(k: usize) -> Cell
     }
 }
 
+fn box_cell(k: usize) -> Cell
+    requires { ⌜ k < 50 ⌝ }
+    ensures { λ r. ⌜ r ≡ boxCell k ⌝ }
+{
+    box_part(k / 5, k % 5)
+}
+
 // The fixed group and the name of an airport, 1 to 50.
-fn name_cell(at: usize, column: usize, n: usize) -> Cell
+pub fn name_cell(at: usize, column: usize, n: usize) -> Cell
     requires { ⌜ (at ≤ 913) × ((1 ≤ at) × (n < 100)) ⌝ }
     ensures { λ r. ⌜ r ≡ nameCellOf at column n ⌝ }
 {
@@ -156,8 +162,16 @@ fn name_cell(at: usize, column: usize, n: usize) -> Cell
     )
 }
 
+// Its status.
+pub fn status_cell(at: usize, column: usize) -> Cell
+    requires { ⌜ at ≤ 913 ⌝ }
+    ensures { λ r. ⌜ r ≡ statusCellOf at column ⌝ }
+{
+    cell(at + 7, 1, b'/', 0, 0, 0, Form::Digit(1), column == 4)
+}
+
 // An airport is two cells.
-pub fn airport_cell(k: usize) -> Cell
+fn airport_cell(k: usize) -> Cell
     requires { ⌜ k < 100 ⌝ }
     ensures { λ r. ⌜ r ≡ airportCell k ⌝ }
 {
@@ -168,7 +182,7 @@ pub fn airport_cell(k: usize) -> Cell
     if k % 2 == 0 {
         return name_cell(at, column, 1 + row + 10 * column);
     }
-    cell(at + 7, 1, b'/', 0, 0, 0, Form::Digit(1), column == 4)
+    status_cell(at, column)
 }
 
 // All of them, from left to right.

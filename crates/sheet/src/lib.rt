@@ -1,6 +1,7 @@
 // The other status sheet, AMDARSTATUS3: 24 lines, 913 bytes. Nothing here is a command's, and no command acts on its record.
 pub mod cells;
 pub mod check;
+mod fine;
 mod number;
 pub mod read;
 pub mod write;

@@ -34,18 +34,15 @@ returns : tie.Need-returns
 unfolding airportCell
 returns c = rw (c .name-cell .ensures, c .before .if1 .taken)
 
-add-cell : tie.Need-add-cell
-add-cell c = search needs
-
-cell-requires : tie.Need-cell-requires
-cell-requires c κs = search needs
+status-cell-requires : tie.Need-status-cell-requires
+status-cell-requires c κs = search needs
 
 returns-2 : tie.Need-returns-2
 unfolding airportCell
 returns-2 c =
     let k = c .before .before .args .k in
     let e : k % 2 ≡ 1 = omega (arith, c .before .if1 .left) in
-    rw (c .cell .ensures, e)
+    rw (c .status-cell .ensures, e)
 
 pub airport-cell-spec : {M : Type 1} → statement M
 airport-cell-spec =
@@ -60,6 +57,5 @@ airport-cell-spec =
     add-name-cell-2
     name-cell-requires
     returns
-    add-cell
-    cell-requires
+    status-cell-requires
     returns-2)

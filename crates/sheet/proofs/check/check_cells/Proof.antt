@@ -1,76 +1,69 @@
 use Rattle.sheet.proofs.check.check_cells.Statement.{statement}
 use Rattle.sheet.proofs.check.check_cells.Tie as tie
-use borrow.Author.Needs.{needs}
-use Prim.Native.Nat.{ℕ}
-use mathlib.Core.Path.{_≡_, ap, _∙_}
-use mathlib.Core.List.{List}
-use denote.Ref.{now}
-use Rattle.text.specs.Checks.{_andThen_}
-use Rattle.text.specs.declared.Seen.{Seen}
-use Rattle.sheet.proofs.Each.{each-add}
+use native.Mathlib.Omega.{arith}
+use Prim.Native.Nat.{_-_, _≤_}
+use mathlib.Core.Path.{_≡_, refl, sym, _∙_}
+use Rattle.sheet.proofs.Small.{cell-small}
+use Rattle.sheet.proofs.Each.{each-turn, each-stop, each-end}
 use Rattle.sheet.specs.Sheet.{each, checkCell}
 use Rattle.sheet.specs.Layout.{cellAt}
+use borrow.Author.Needs.{needs}
 
--- lines 1 to 4, the boxes, the airports
-three : (s : List ℕ)
-    → each (λ j. checkCell s (cellAt j)) 0 167
-    ≡ (each (λ j. checkCell s (cellAt j)) 0 17 andThen (each (λ j. checkCell s (cellAt j)) 17 50 andThen each (λ j. checkCell s (cellAt j)) 67 100))
-three s =
-    let f : ℕ → Seen = λ (j : ℕ). checkCell s (cellAt j) in
-    each-add f 17 150 0 ∙ ap (λ (x : Seen). each f 0 17 andThen x) (each-add f 50 100 17)
+abbrev Inv-loop : tie.InvT-loop
+Inv-loop s k₀ k = (k ≤ 167) × (each (λ j. checkCell s (cellAt j)) 0 167 ≡ each (λ j. checkCell s (cellAt j)) k (167 - k))
 
-check-head-requires : tie.Need-check-head-requires
-check-head-requires c κs = search needs
+abbrev μ-loop : tie.MeasureT-loop
+μ-loop s k₀ k = 167 - k
 
-enum-known-code : tie.Need-enum-known-code
+loop-holds : tie.Need-loop-holds Inv-loop μ-loop
+loop-holds c = (omega arith, refl)
+
+cell-at-requires : tie.Need-cell-at-requires Inv-loop μ-loop
+cell-at-requires c κs = omega (arith, c .loop-test .taken)
+
+check-cell-requires : tie.Need-check-cell-requires Inv-loop μ-loop
+check-cell-requires c κs = rw (c .cell-at .ensures) (cell-small _ (omega (arith, c .before .loop-test .taken)))
+
+enum-known-code : tie.Need-enum-known-code Inv-loop μ-loop
 enum-known-code c = search needs
 
-returns : tie.Need-returns
+returns : tie.Need-returns Inv-loop μ-loop
 returns c =
-    let head = c .before .before .before in
-    rw (three (now (head .before .before .args .s)), ← head .check-head .ensures, c .before .code .given .1)
+    let cell = c .before .before .before .before in
+    let l = cell .before .before .loop in
+    sym (l .inv .1 ∙ each-stop _ (l .k) 167 _ _ (cell .before .loop-test .taken) (rw (← cell .cell-at .ensures) (sym (c .before .before .before .check-cell .ensures) ∙ c .before .code .given .1)))
 
-enum-told : tie.Need-enum-told
+enum-told : tie.Need-enum-told Inv-loop μ-loop
 enum-told c = search needs
 
-check-boxes-requires : tie.Need-check-boxes-requires
-check-boxes-requires c κs = search needs
+add-k : tie.Need-add-k Inv-loop μ-loop
+add-k c = omega arith
 
-enum-known-code-2 : tie.Need-enum-known-code-2
-enum-known-code-2 c = search needs
+loop-less : tie.Need-loop-less Inv-loop μ-loop
+loop-less c = omega (arith, c .before .before .before .before .loop-test .taken)
 
-returns-2 : tie.Need-returns-2
-returns-2 c =
-    let boxes = c .before .before .before in
-    let told = boxes .before in
-    let head = told .before .before in
-    rw (three (now (head .before .before .args .s)), ← head .check-head .ensures, told .enum-told .given .1, ← boxes .check-boxes .ensures, c .before .code2 .given .1)
+loop-again : tie.Need-loop-again Inv-loop μ-loop
+loop-again c =
+    let cell = c .before .before .before in
+    let l = cell .before .before .loop in
+    (omega (arith, cell .before .loop-test .taken), l .inv .1 ∙ each-turn _ (l .k) 167 (cell .before .loop-test .taken) (rw (← cell .cell-at .ensures) (sym (c .before .before .check-cell .ensures) ∙ c .enum-told .given .1)))
 
-enum-told-2 : tie.Need-enum-told-2
-enum-told-2 c = search needs
-
-check-airports-requires : tie.Need-check-airports-requires
-check-airports-requires c κs = search needs
-
-returns-3 : tie.Need-returns-3
-returns-3 c =
-    let more = c .before in
-    let boxes = more .before .before in
-    let told = boxes .before in
-    let head = told .before .before in
-    rw (three (now (head .before .before .args .s)), ← head .check-head .ensures, told .enum-told .given .1, ← boxes .check-boxes .ensures, more .enum-told2 .given .1) (c .check-airports .ensures)
+returns-2 : tie.Need-returns-2 Inv-loop μ-loop
+returns-2 c = let l = c .before .loop in sym (l .inv .1 ∙ each-end _ (l .k) 167 (c .loop-test .left))
 
 pub check-cells-spec : {M : Type 1} → statement M
 check-cells-spec =
     tie.close
     (tie.spec
-    check-head-requires
+    Inv-loop
+    μ-loop
+    loop-holds
+    cell-at-requires
+    check-cell-requires
     enum-known-code
     returns
     enum-told
-    check-boxes-requires
-    enum-known-code-2
-    returns-2
-    enum-told-2
-    check-airports-requires
-    returns-3)
+    add-k
+    loop-less
+    loop-again
+    returns-2)

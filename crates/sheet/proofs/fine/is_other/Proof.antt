@@ -1,6 +1,6 @@
 use borrow.Author.Needs.{needs}
-use Rattle.sheet.proofs.check.is_other.Statement.{statement}
-use Rattle.sheet.proofs.check.is_other.Tie as tie
+use Rattle.sheet.proofs.fine.is_other.Statement.{statement}
+use Rattle.sheet.proofs.fine.is_other.Tie as tie
 use native.Mathlib.Omega.{arith}
 use borrow.Author.Tests.{eqb-true, eqb-false, not-true, not-false}
 use Rattle.sheet.proofs.Small.{not-held}

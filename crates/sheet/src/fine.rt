@@ -1,0 +1,239 @@
+// Whether a whole sheet is fine, and no more than that: where it is not, `check` says why. All 913 bytes are there, so no cell's end is looked at,
+// and each kind of cell has a function of its own, in which its form is known.
+use crate::Cell;
+use crate::Form;
+use crate::cells::box_part;
+use crate::cells::head_cell;
+use crate::cells::name_cell;
+use crate::cells::status_cell;
+use crate::cells::width_of;
+use crate::check::check_cell;
+use crate::check::line_end;
+use crate::check::read_bytes;
+use crate::check::read_digit;
+use crate::number::read_number;
+use text::Seen;
+use text::all_allowed;
+ghost use mathlib.Core.Path.{_≡_};
+ghost use mathlib.Core.Bool.{true};
+ghost use Prim.Native.Nat.{_+_, _*_, _≤_, _<_};
+ghost use lib.ListN.{length, take};
+ghost use Rattle.text.specs.declared.Seen.the-variants.{Fine};
+ghost use Rattle.sheet.specs.Sheet.{fixedCode, checkCell, checkSheet, each};
+ghost use Rattle.sheet.specs.Layout.{cellAt};
+ghost use Rattle.sheet.specs.Inner.{otherAt, Whole, Framed};
+
+// Whether byte i of a fixed group of n bytes is another than b.
+fn is_other(s: &[u8], at: usize, i: usize, n: usize, b: u8) -> bool
+    requires { ⌜ (at ≤ 10000) × ((n ≤ 4) × (at + n ≤ length (now s))) ⌝ }
+    ensures { λ r. ⌜ otherAt (now (s .entry)) at i n b r ⌝ }
+{
+    if i < n {
+        return s[at + i] != b;
+    }
+    false
+}
+
+// A fixed group of up to four bytes, byte by byte: it is then never laid down as a list.
+fn is_labelled(label: [u8; 16], n: usize, s: &[u8], at: usize) -> bool
+    requires { ⌜ (at ≤ 10000) × ((n ≤ 4) × (at + n ≤ length (now s))) ⌝ }
+    ensures { λ r. ⌜ (r ≡ true → fixedCode (take n label) (now (s .entry)) at ≡ 0) ⌝ }
+{
+    if is_other(s, at, 0, n, label[0]) {
+        return false;
+    }
+    if is_other(s, at, 1, n, label[1]) {
+        return false;
+    }
+    if is_other(s, at, 2, n, label[2]) {
+        return false;
+    }
+    !is_other(s, at, 3, n, label[3])
+}
+
+// What stands around a field: the fixed group, and CR LF where it ends a line.
+fn is_framed(s: &[u8], c: Cell) -> bool
+    requires { ⌜ Whole (now s) c ⌝ }
+    ensures { λ r. ⌜ (r ≡ true → Framed (now (s .entry)) c) ⌝ }
+{
+    let at = c.at;
+    let n = c.labelled;
+    let label = c.label;
+    let form = c.form;
+    if !is_labelled(label, n, s, at) {
+        return false;
+    }
+    if !c.ends {
+        return true;
+    }
+    match line_end(s, at + n + width_of(form)) {
+        Seen::Bad(_, _) => false,
+        Seen::Fine => true,
+    }
+}
+
+// A name.
+fn is_name(s: &[u8], c: Cell) -> bool
+    requires { ⌜ Whole (now s) c ⌝ }
+    ensures { λ r. ⌜ (r ≡ true → checkCell (now (s .entry)) c ≡ Fine) ⌝ }
+{
+    if !is_framed(s, c) {
+        return false;
+    }
+    let form = c.form;
+    let p = c.at + c.labelled;
+    match form {
+        Form::Name(w) => {
+            let end = p + w;
+            all_allowed(&s[p..end])
+        }
+        _ => false,
+    }
+}
+
+// A status.
+fn is_status(s: &[u8], c: Cell) -> bool
+    requires { ⌜ Whole (now s) c ⌝ }
+    ensures { λ r. ⌜ (r ≡ true → checkCell (now (s .entry)) c ≡ Fine) ⌝ }
+{
+    if !is_framed(s, c) {
+        return false;
+    }
+    let form = c.form;
+    let p = c.at + c.labelled;
+    match form {
+        Form::Digit(most) => read_digit(s[p], most).code == 0,
+        _ => false,
+    }
+}
+
+// A number.
+fn is_number(s: &[u8], c: Cell) -> bool
+    requires { ⌜ Whole (now s) c ⌝ }
+    ensures { λ r. ⌜ (r ≡ true → checkCell (now (s .entry)) c ≡ Fine) ⌝ }
+{
+    if !is_framed(s, c) {
+        return false;
+    }
+    let form = c.form;
+    let p = c.at + c.labelled;
+    match form {
+        Form::Number(w, l) => {
+            let end = p + w;
+            read_number(l, &s[p..end]).code == 0
+        }
+        _ => false,
+    }
+}
+
+// A cell of any form.
+fn is_cell(s: &[u8], c: Cell) -> bool
+    requires { ⌜ Whole (now s) c ⌝ }
+    ensures { λ r. ⌜ (r ≡ true → checkCell (now (s .entry)) c ≡ Fine) ⌝ }
+{
+    if !is_framed(s, c) {
+        return false;
+    }
+    let form = c.form;
+    let p = c.at + c.labelled;
+    let end = p + width_of(form);
+    read_bytes(form, &s[p..end]).code == 0
+}
+
+// Lines 1 to 4. The first cell has a long fixed group.
+fn is_head(s: &[u8]) -> bool
+    requires { ⌜ length (now s) ≡ 913 ⌝ }
+    ensures { λ r. ⌜ (r ≡ true → each (λ k. checkCell (now (s .entry)) (cellAt k)) 0 17 ≡ Fine) ⌝ }
+{
+    match check_cell(s, head_cell(0)) {
+        Seen::Bad(_, _) => {
+            return false;
+        }
+        Seen::Fine => {}
+    }
+    let mut k: usize = 1;
+    while k < 17 {
+        if !is_cell(s, head_cell(k)) {
+            return false;
+        }
+        k += 1;
+    }
+    true
+}
+
+// The line of a box: two corners, a status.
+fn is_box(s: &[u8], i: usize) -> bool
+    requires { ⌜ (length (now s) ≡ 913) × (i < 10) ⌝ }
+    ensures { λ r. ⌜ (r ≡ true → each (λ k. checkCell (now (s .entry)) (cellAt k)) (17 + 5 * i) 5 ≡ Fine) ⌝ }
+{
+    let mut j: usize = 0;
+    while j < 4 {
+        if !is_number(s, box_part(i, j)) {
+            return false;
+        }
+        j += 1;
+    }
+    is_status(s, box_part(i, 4))
+}
+
+fn are_boxes(s: &[u8]) -> bool
+    requires { ⌜ length (now s) ≡ 913 ⌝ }
+    ensures { λ r. ⌜ (r ≡ true → each (λ k. checkCell (now (s .entry)) (cellAt k)) 17 50 ≡ Fine) ⌝ }
+{
+    let mut i: usize = 0;
+    while i < 10 {
+        if !is_box(s, i) {
+            return false;
+        }
+        i += 1;
+    }
+    true
+}
+
+// A row of five airports.
+fn is_row(s: &[u8], row: usize) -> bool
+    requires { ⌜ (length (now s) ≡ 913) × (row < 10) ⌝ }
+    ensures { λ r. ⌜ (r ≡ true → each (λ k. checkCell (now (s .entry)) (cellAt k)) (67 + 10 * row) 10 ≡ Fine) ⌝ }
+{
+    let mut column: usize = 0;
+    while column < 5 {
+        let at = 403 + 51 * row + 10 * column;
+        if !is_name(s, name_cell(at, column, 1 + row + 10 * column)) {
+            return false;
+        }
+        if !is_status(s, status_cell(at, column)) {
+            return false;
+        }
+        column += 1;
+    }
+    true
+}
+
+fn are_airports(s: &[u8]) -> bool
+    requires { ⌜ length (now s) ≡ 913 ⌝ }
+    ensures { λ r. ⌜ (r ≡ true → each (λ k. checkCell (now (s .entry)) (cellAt k)) 67 100 ≡ Fine) ⌝ }
+{
+    let mut row: usize = 0;
+    while row < 10 {
+        if !is_row(s, row) {
+            return false;
+        }
+        row += 1;
+    }
+    true
+}
+
+pub fn is_fine(s: &[u8]) -> bool
+    ensures { λ r. ⌜ (r ≡ true → checkSheet (now (s .entry)) ≡ Fine) ⌝ }
+{
+    if s.len() != 913 {
+        return false;
+    }
+    if !is_head(s) {
+        return false;
+    }
+    if !are_boxes(s) {
+        return false;
+    }
+    are_airports(s)
+}
