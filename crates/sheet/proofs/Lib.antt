@@ -1,6 +1,7 @@
 -- The laws of the sheet's numbers, cells and texts.
 pub mod Choice
 pub mod Scan
+pub mod Counted
 pub mod Small
 pub mod Short
 pub mod Rows

@@ -1,6 +1,6 @@
 -- Steps of the loops over a number's bytes.
-use mathlib.Core.Path.{_≡_, refl, sym, ap, _∙_}
-use mathlib.Core.Bool.{Bool, true, false, cond, _&&_, and-assoc, and-true}
+use mathlib.Core.Path.{_≡_, refl, ap, _∙_}
+use mathlib.Core.Bool.{Bool, true, false, cond, _&&_}
 use mathlib.Core.List.{List, [], _∷_, _++_, append-assoc}
 use Prim.Native.Nat.{ℕ, zero, _+_, _-_, _*_, _≤_, _<_}
 use native.Mathlib.Omega.{arith}
@@ -14,18 +14,9 @@ use Rattle.text.proofs.Cases.{both-left, both-right}
 use Rattle.packed.proofs.Scan.{next}
 use Rattle.field.specs.Decimal.{isDigit, allDigits, value, valueFrom}
 use Rattle.sheet.specs.declared.Limits.{Limits}
-use Rattle.sheet.specs.Number.{refused, within, zeroFirst, digitsRead, signedRead, blanked, marked}
+use Rattle.sheet.specs.Number.{within, zeroFirst, blanked, marked}
 
--- ---- digits
-
-pub digits-turn : (t : Bool) (s : List ℕ) (i : ℕ) → i < length s
-    → (t && allDigits (drop i s)) ≡ (t && isDigit (getD s i 0) && allDigits (drop (i + 1) s))
-unfolding allDigits
-digits-turn t s i h = rw (next s i h) (sym (and-assoc t (isDigit (getD s i 0)) (allDigits (drop (i + 1) s))))
-
-pub digits-end : (t : Bool) (s : List ℕ) (i : ℕ) → length s ≤ i → (t && allDigits (drop i s)) ≡ t
-unfolding allDigits
-digits-end t s i h = rw (drop-of-length-le s {i = i} h) (and-true t)
+-- ---- what digits spell
 
 pub value-turn : (s : List ℕ) (i n : ℕ) → i < length s → valueFrom n (drop i s) ≡ valueFrom (n * 10 + (getD s i 0 - 48)) (drop (i + 1) s)
 unfolding valueFrom
@@ -88,12 +79,6 @@ short-marked (b ∷ c ∷ l) h = absurd (omega arith)
 
 pub mark-end : (l : List ℕ) (i : ℕ) → length l ≤ i + 1 → take i l ++ marked (drop i l) ≡ l
 mark-end l i h = rw (short-marked (drop i l) (omega (arith, length-drop i l))) (take-append-drop i l)
-
--- nothing is no number
-pub empty-read : (l : Limits) (t : List ℕ) → length t ≤ 0 → signedRead l t ≡ refused 4
-unfolding signedRead digitsRead
-empty-read l [] h = refl
-empty-read l (b ∷ t) h = absurd (omega arith)
 
 -- ---- numbers that fit
 

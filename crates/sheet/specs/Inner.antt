@@ -2,15 +2,18 @@
 use mathlib.Core.Bool.{Bool, true, false, cond, _&&_}
 use mathlib.Core.List.{List, [], _∷_}
 use Prim.Native.Nat.{ℕ, _+_, _*_, _%_, _≤_, _<_}
-use lib.ListN.{length, getD, take}
+use lib.ListN.{length, getD, take, drop}
 use mathlib.Core.Path.{_≡_}
 use Rattle.text.specs.Parts.{part}
+use Rattle.packed.specs.Packed.{trim}
+use Rattle.field.specs.Decimal.{isDigit, value}
 use Rattle.text.specs.declared.Seen.the-variants.{Fine}
 use Rattle.sheet.specs.Sheet.{airportOf, seen, labelOf, lineEnd, fixedCode, fieldEnd, cellEnd}
 use lib.Dec.{leb}
 use Rattle.sheet.specs.declared.Form.{Form}
 use Rattle.sheet.specs.declared.Form.the-variants.{Name, Switch, Digit, Number}
 use Rattle.sheet.specs.declared.Cell.{Cell}
+use Rattle.sheet.specs.declared.Found.{Found}
 use Rattle.sheet.specs.declared.Held.{Held}
 use Rattle.sheet.specs.Layout.{widthOf}
 
@@ -23,6 +26,16 @@ smallForm (Number w l) = leb w 6 && (leb (l .below) 32768 && leb (l .most) 32767
 
 unfoldable pub smallCell : Cell → Bool
 smallCell c = leb (c .at) 2000 && (leb (c .labelled) 16 && smallForm (c .form))
+
+-- ---- Numbers
+
+unfoldable pub digitCount : List ℕ → ℕ
+digitCount [] = 0
+digitCount (b ∷ bs) = cond (isDigit b) 1 0 + digitCount bs
+
+-- where a field goes on behind its spaces, its digits wherever they stand, and what all its bytes spell
+abbrev pub foundIn : List ℕ → Found → Type 0
+foundIn f r = ((r .spaces ≤ length f) × (drop (r .spaces) f ≡ trim f)) × ((r .digits ≡ digitCount f) × (r .value ≡ value f))
 
 -- ---- Checking
 

@@ -30,9 +30,10 @@ pub struct Cell {
     pub ends: bool,
 }
 
-// Whether bytes are all digits, and what they spell.
-pub struct Told {
-    pub all: bool,
+// What one pass over a number's bytes finds: how many spaces they begin with, how many digits there are, and what they spell.
+pub struct Found {
+    pub spaces: usize,
+    pub digits: usize,
     pub value: usize,
 }
 

@@ -1,16 +1,15 @@
 // A number of the sheet, by its field's bytes.
+use crate::Found;
 use crate::Limits;
-use crate::Told;
 use crate::Word;
 use field::digits::is_digit;
 use field::write::put_decimal;
-use packed::read::behind_spaces;
 ghost use mathlib.Core.Path.{_≡_};
-ghost use mathlib.Core.Bool.{true};
+ghost use mathlib.Core.Bool.{true, cond};
 ghost use Prim.Native.Nat.{_-_, _≤_, _<_};
 ghost use lib.ListN.{length};
-ghost use Rattle.field.specs.Decimal.{allDigits, value};
-ghost use Rattle.sheet.specs.Number.{wordOf, isBelow, sizeOf, within, refused, digitsRead, signedRead, numberRead, blanked, marked, numberText};
+ghost use Rattle.sheet.specs.Number.{wordOf, isBelow, sizeOf, within, refused, numberRead, blanked, marked, numberText};
+ghost use Rattle.sheet.specs.Inner.{foundIn};
 
 fn worth(b: u8) -> usize
     ensures { λ r. ⌜ (r ≡ b - 48) × (r ≤ 207) ⌝ }
@@ -21,20 +20,33 @@ fn worth(b: u8) -> usize
     (b as usize) - 48
 }
 
-// Whether every byte is a digit, and what up to six of them spell, in one pass.
-fn digits_in(ds: &[u8]) -> Told
-    requires { ⌜ length (now ds) ≤ 6 ⌝ }
-    ensures { λ r. ⌜ (r .all ≡ allDigits (now (ds .entry))) × (r .value ≡ value (now (ds .entry))) ⌝ }
+fn one_if(t: bool) -> usize
+    ensures { λ r. ⌜ (r ≡ cond t 1 0) × (r ≤ 1) ⌝ }
 {
-    let mut all = true;
+    if t { 1 } else { 0 }
+}
+
+// In one pass, and no byte decides where it goes on: which they are cannot be foreseen.
+fn found_in(f: &[u8]) -> Found
+    requires { ⌜ length (now f) ≤ 6 ⌝ }
+    ensures { λ r. ⌜ foundIn (now (f .entry)) r ⌝ }
+{
+    let mut spaces: usize = 0;
+    let mut digits: usize = 0;
     let mut n: usize = 0;
     let mut i = 0;
-    while i < ds.len() {
-        all = all & is_digit(ds[i]);
-        n = n * 10 + worth(ds[i]);
+    while i < f.len() {
+        let b = f[i];
+        spaces = spaces + one_if((spaces == i) & (b == b' '));
+        digits = digits + one_if(is_digit(b));
+        n = n * 10 + worth(b);
         i += 1;
     }
-    Told { all, value: n }
+    Found {
+        spaces,
+        digits,
+        value: n,
+    }
 }
 
 fn is_within(l: Limits, below: bool, v: usize) -> bool
@@ -63,23 +75,27 @@ fn word_of(below: bool, v: usize) -> u16
     v as u16
 }
 
-// The digits behind spaces and sign: 4, then 6, then 5.
-fn read_digits(l: Limits, below: bool, ds: &[u8]) -> Word
-    requires { ⌜ length (now ds) ≤ 6 ⌝ }
+// Spaces, then `-` or none, then digits to the end: 4, then 6, then 5.
+pub fn read_number(l: Limits, f: &[u8]) -> Word
+    requires { ⌜ length (now f) ≤ 6 ⌝ }
     requires { ⌜ (l .below ≤ 32768) × (l .most ≤ 32767) ⌝ }
-    ensures { λ r. ⌜ r ≡ digitsRead l below (now (ds .entry)) ⌝ }
+    ensures { λ r. ⌜ r ≡ numberRead l (now (f .entry)) ⌝ }
 {
-    if ds.len() == 0 {
+    let found = found_in(f);
+    let spaces = found.spaces;
+    let digits = found.digits;
+    let v = found.value;
+    if digits == 0 {
         return no(4);
     }
-    let told = digits_in(ds);
-    if !told.all {
+    let below = f[spaces] == b'-';
+    let first = spaces + one_if(below);
+    if first + digits != f.len() {
         return no(4);
     }
-    if (ds[0] == b'0') & (below | (1 < ds.len())) {
+    if (f[first] == b'0') & (below | (1 < digits)) {
         return no(6);
     }
-    let v = told.value;
     if !is_within(l, below, v) {
         return no(5);
     }
@@ -87,32 +103,6 @@ fn read_digits(l: Limits, below: bool, ds: &[u8]) -> Word
         code: 0,
         word: word_of(below, v),
     }
-}
-
-// What stands behind the spaces.
-fn read_signed(l: Limits, t: &[u8]) -> Word
-    requires { ⌜ length (now t) ≤ 6 ⌝ }
-    requires { ⌜ (l .below ≤ 32768) × (l .most ≤ 32767) ⌝ }
-    ensures { λ r. ⌜ r ≡ signedRead l (now (t .entry)) ⌝ }
-{
-    let n = t.len();
-    if n == 0 {
-        return no(4);
-    }
-    if t[0] == b'-' {
-        return read_digits(l, true, &t[1..n]);
-    }
-    read_digits(l, false, t)
-}
-
-pub fn read_number(l: Limits, f: &[u8]) -> Word
-    requires { ⌜ length (now f) ≤ 6 ⌝ }
-    requires { ⌜ (l .below ≤ 32768) × (l .most ≤ 32767) ⌝ }
-    ensures { λ r. ⌜ r ≡ numberRead l (now (f .entry)) ⌝ }
-{
-    let i = behind_spaces(f);
-    let n = f.len();
-    read_signed(l, &f[i..n])
 }
 
 // ---- Writing
