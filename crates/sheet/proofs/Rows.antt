@@ -8,7 +8,7 @@ use lib.Dec.{leb}
 use lib.ListN.{length, getD}
 use borrow.Author.Tests.{leb-true, lt-ltb, le-ltb}
 use Rattle.text.proofs.Cases.{both-left, both-right}
-use Rattle.sheet.specs.Layout.{headCells, noCell, boxCells, boxCell, nameCellOf, statusCellOf, airportCell, cellAt, widthOf}
+use Rattle.sheet.specs.Layout.{headCells, noCell, boxCells, boxCell, airportCells, airportCell, cellAt, widthOf}
 use Rattle.sheet.specs.Sheet.{cellEnd}
 use Rattle.sheet.specs.Inner.{Whole}
 use Rattle.sheet.proofs.Small.{every, cell-small}
@@ -40,25 +40,11 @@ box-is i j h l =
     let part : (k - 17) % 5 ≡ j = omega arith in
     rw (le-ltb k 17 (omega arith), lt-ltb k 67 (omega arith), line, part)
 
-module _ (row column : ℕ) (h : row < 10) (l : column < 5) where
-  abbrev at : ℕ
-  at = 403 + 51 * row + 10 * column
-
-  abbrev k : ℕ
-  k = 67 + 10 * row + 2 * column
-
-  pub name-is : nameCellOf at column (1 + row + 10 * column) ≡ cellAt k
-  unfolding cellAt airportCell
-  name-is =
-      let r : (k - 67) / 2 / 5 ≡ row = omega arith in
-      let c : (k - 67) / 2 % 5 ≡ column = omega arith in
-      let first : (k - 67) % 2 ≡ 0 = omega arith in
-      rw (le-ltb k 17 (omega arith), le-ltb k 67 (omega arith), r, c, first)
-
-  pub status-is : statusCellOf at column ≡ cellAt (k + 1)
-  unfolding cellAt airportCell
-  status-is =
-      let r : (k + 1 - 67) / 2 / 5 ≡ row = omega arith in
-      let c : (k + 1 - 67) / 2 % 5 ≡ column = omega arith in
-      let second : (k + 1 - 67) % 2 ≡ 1 = omega arith in
-      rw (le-ltb (k + 1) 17 (omega arith), le-ltb (k + 1) 67 (omega arith), r, c, second)
+pub port-is : (row column j : ℕ) → row < 10 → column < 5 → j < 2 → getD (airportCells row column) j noCell ≡ cellAt (67 + 10 * row + (2 * column + j))
+unfolding cellAt airportCell
+port-is row column j h l m =
+    let k : ℕ = 67 + 10 * row + (2 * column + j) in
+    let r : (k - 67) / 2 / 5 ≡ row = omega arith in
+    let c : (k - 67) / 2 % 5 ≡ column = omega arith in
+    let part : (k - 67) % 2 ≡ j = omega arith in
+    rw (le-ltb k 17 (omega arith), le-ltb k 67 (omega arith), r, c, part)

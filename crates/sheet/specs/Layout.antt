@@ -100,14 +100,11 @@ airportLabel column n =
 abbrev pub nameCellOf : ℕ → ℕ → ℕ → Cell
 nameCellOf at column n = cell (at - cond (eqb column 0) 0 1) (airportLabel column n) (Name 4) false
 
-abbrev pub statusCellOf : ℕ → ℕ → Cell
-statusCellOf at column = cell (at + 7) (bytes "/") status (eqb column 4)
-
 -- row by row, and in each row airports r + 1, r + 11, r + 21, r + 31, r + 41: the name's cell, then the status's
 abbrev pub airportCells : ℕ → ℕ → List Cell
 airportCells row column =
     nameCellOf (403 + 51 * row + 10 * column) column (1 + row + 10 * column)
-    ∷ statusCellOf (403 + 51 * row + 10 * column) column
+    ∷ cell (403 + 51 * row + 10 * column + 7) (bytes "/") status (eqb column 4)
     ∷ []
 
 unfoldable pub airportCell : ℕ → Cell

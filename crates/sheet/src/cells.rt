@@ -7,7 +7,7 @@ ghost use Prim.Native.Nat.{_+_, _*_, _<_, _≤_};
 ghost use mathlib.Core.List.{_∷_};
 ghost use lib.ListN.{getD, replicate};
 ghost use Rattle.sheet.specs.declared.Form.the-variants.{Number};
-ghost use Rattle.sheet.specs.Layout.{number, minutes, widthOf, headCells, noCell, boxCells, boxCell, nameCellOf, statusCellOf, airportCell, cellAt};
+ghost use Rattle.sheet.specs.Layout.{number, minutes, widthOf, headCells, noCell, boxCells, boxCell, nameCellOf, airportCells, airportCell, cellAt};
 
 pub fn width_of(form: Form) -> usize
     ensures { λ r. ⌜ r ≡ widthOf form ⌝ }
@@ -140,7 +140,7 @@ fn box_cell(k: usize) -> Cell
 }
 
 // The fixed group and the name of an airport, 1 to 50.
-pub fn name_cell(at: usize, column: usize, n: usize) -> Cell
+fn name_cell(at: usize, column: usize, n: usize) -> Cell
     requires { ⌜ (at ≤ 913) × ((1 ≤ at) × (n < 100)) ⌝ }
     ensures { λ r. ⌜ r ≡ nameCellOf at column n ⌝ }
 {
@@ -162,27 +162,23 @@ pub fn name_cell(at: usize, column: usize, n: usize) -> Cell
     )
 }
 
-// Its status.
-pub fn status_cell(at: usize, column: usize) -> Cell
-    requires { ⌜ at ≤ 913 ⌝ }
-    ensures { λ r. ⌜ r ≡ statusCellOf at column ⌝ }
+// An airport is two cells, its name and its status.
+pub fn airport_part(row: usize, column: usize, j: usize) -> Cell
+    requires { ⌜ (row < 10) × ((column < 5) × (j < 2)) ⌝ }
+    ensures { λ r. ⌜ r ≡ getD (airportCells row column) j noCell ⌝ }
 {
+    let at = 403 + 51 * row + 10 * column;
+    if j == 0 {
+        return name_cell(at, column, 1 + row + 10 * column);
+    }
     cell(at + 7, 1, b'/', 0, 0, 0, Form::Digit(1), column == 4)
 }
 
-// An airport is two cells.
 fn airport_cell(k: usize) -> Cell
     requires { ⌜ k < 100 ⌝ }
     ensures { λ r. ⌜ r ≡ airportCell k ⌝ }
 {
-    let m = k / 2;
-    let row = m / 5;
-    let column = m % 5;
-    let at = 403 + 51 * row + 10 * column;
-    if k % 2 == 0 {
-        return name_cell(at, column, 1 + row + 10 * column);
-    }
-    status_cell(at, column)
+    airport_part(k / 2 / 5, k / 2 % 5, k % 2)
 }
 
 // All of them, from left to right.

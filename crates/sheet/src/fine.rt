@@ -2,10 +2,9 @@
 // and each kind of cell has a function of its own, in which its form is known.
 use crate::Cell;
 use crate::Form;
+use crate::cells::airport_part;
 use crate::cells::box_part;
 use crate::cells::head_cell;
-use crate::cells::name_cell;
-use crate::cells::status_cell;
 use crate::cells::width_of;
 use crate::check::check_cell;
 use crate::check::line_end;
@@ -197,11 +196,10 @@ fn is_row(s: &[u8], row: usize) -> bool
 {
     let mut column: usize = 0;
     while column < 5 {
-        let at = 403 + 51 * row + 10 * column;
-        if !is_name(s, name_cell(at, column, 1 + row + 10 * column)) {
+        if !is_name(s, airport_part(row, column, 0)) {
             return false;
         }
-        if !is_status(s, status_cell(at, column)) {
+        if !is_status(s, airport_part(row, column, 1)) {
             return false;
         }
         column += 1;

@@ -9,8 +9,9 @@ use Rattle.sheet.specs.Layout.{cellAt}
 use Rattle.sheet.specs.Sheet.{each, checkCell}
 use Rattle.sheet.proofs.Small.{not-held}
 use Prim.Native.Nat.{ℕ, _+_, _-_, _*_, _≤_}
+use native.Mathlib.Nat.{add-zero}
 use Rattle.sheet.proofs.Each.{each-more}
-use Rattle.sheet.proofs.Rows.{whole, name-is, status-is}
+use Rattle.sheet.proofs.Rows.{whole, port-is}
 
 abbrev Inv-loop : tie.InvT-loop
 Inv-loop s row column₀ column = (column ≤ 5) × (each (λ k. checkCell s (cellAt k)) (67 + 10 * row) (2 * column) ≡ Fine)
@@ -19,47 +20,23 @@ abbrev μ-loop : tie.MeasureT-loop
 μ-loop s row column₀ column = 5 - column
 
 -- the cell of the name, and that of the status
-name : (c : tie.After-name-cell Inv-loop μ-loop)
-    → c .name-cell .result ≡ cellAt (67 + 10 * c .before .before .before .before .args .row + 2 * c .before .before .loop .column)
-name c = c .name-cell .ensures ∙ name-is _ _ (c .before .before .before .before .pre .1) (c .before .loop-test .taken)
+name : (c : tie.After-airport-part Inv-loop μ-loop)
+    → c .airport-part .result ≡ cellAt (67 + 10 * c .before .before .before .before .args .row + (2 * c .before .before .loop .column + 0))
+name c = c .airport-part .ensures ∙ port-is _ _ 0 (c .before .before .before .before .pre .1) (c .before .loop-test .taken) (omega arith)
 
-status : (c : tie.After-status-cell Inv-loop μ-loop)
+status : (c : tie.After-airport-part2 Inv-loop μ-loop)
     → let l = c .before .before .before .before .before in
-    c .status-cell .result ≡ cellAt (67 + 10 * l .before .before .args .row + 2 * l .loop .column + 1)
+    c .airport-part2 .result ≡ cellAt (67 + 10 * l .before .before .args .row + (2 * l .loop .column + 1))
 status c =
     let loop = c .before .before .before .before in
-    c .status-cell .ensures ∙ status-is _ _ (loop .before .before .before .pre .1) (loop .loop-test .taken)
+    c .airport-part2 .ensures ∙ port-is _ _ 1 (loop .before .before .before .pre .1) (loop .loop-test .taken) (omega arith)
 
 loop-holds : tie.Need-loop-holds Inv-loop μ-loop
 unfolding each
 loop-holds c = (omega arith, refl)
 
-mul-at : tie.Need-mul-at Inv-loop μ-loop
-mul-at c = omega (arith, c .before .before .before .pre .1, c .loop-test .taken)
-
-add-at : tie.Need-add-at Inv-loop μ-loop
-add-at c = omega (arith, c .before .before .before .pre .1, c .loop-test .taken)
-
-mul-at-2 : tie.Need-mul-at-2 Inv-loop μ-loop
-mul-at-2 c = omega (arith, c .before .before .before .pre .1, c .loop-test .taken)
-
-add-at-2 : tie.Need-add-at-2 Inv-loop μ-loop
-add-at-2 c = omega (arith, c .before .before .before .pre .1, c .loop-test .taken)
-
-add-name-cell : tie.Need-add-name-cell Inv-loop μ-loop
-add-name-cell c = omega (arith, c .before .before .before .pre .1, c .loop-test .taken)
-
-mul-name-cell : tie.Need-mul-name-cell Inv-loop μ-loop
-mul-name-cell c = omega (arith, c .before .before .before .pre .1, c .loop-test .taken)
-
-add-name-cell-2 : tie.Need-add-name-cell-2 Inv-loop μ-loop
-add-name-cell-2 c = omega (arith, c .before .before .before .pre .1, c .loop-test .taken)
-
-name-cell-requires : tie.Need-name-cell-requires Inv-loop μ-loop
-name-cell-requires c κs =
-    let row = c .before .before .before .pre .1 in
-    let column = c .loop-test .taken in
-    (omega (arith, row, column), (omega arith, omega (arith, row, column)))
+airport-part-requires : tie.Need-airport-part-requires Inv-loop μ-loop
+airport-part-requires c κs = (c .before .before .before .pre .1, (c .loop-test .taken, omega arith))
 
 is-name-requires : tie.Need-is-name-requires Inv-loop μ-loop
 is-name-requires c κs =
@@ -69,8 +46,10 @@ is-name-requires c κs =
 returns : tie.Need-returns Inv-loop μ-loop
 returns c = λ e. not-held e
 
-status-cell-requires : tie.Need-status-cell-requires Inv-loop μ-loop
-status-cell-requires c κs = omega (arith, c .before .before .before .before .before .before .pre .1, c .before .before .before .loop-test .taken)
+airport-part-requires-2 : tie.Need-airport-part-requires-2 Inv-loop μ-loop
+airport-part-requires-2 c κs =
+    let loop = c .before .before .before in
+    (loop .before .before .before .pre .1, (loop .loop-test .taken, omega arith))
 
 is-status-requires : tie.Need-is-status-requires Inv-loop μ-loop
 is-status-requires c κs =
@@ -93,13 +72,12 @@ loop-again c =
     let first = second .before .before .before in
     let l = first .before .before .loop in
     let k : ℕ = 67 + 10 * first .before .before .before .before .args .row in
-    let more : 2 * (l .column + 1) ≡ 2 * l .column + 1 + 1 = omega arith in
-    let next : k + (2 * l .column + 1) ≡ k + 2 * l .column + 1 = omega arith in (
+    let more : 2 * (l .column + 1) ≡ 2 * l .column + 1 + 1 = omega arith in (
       omega (arith, first .before .loop-test .taken),
       rw more
           (each-more _ (2 * l .column + 1) k
-          (each-more _ (2 * l .column) k (l .inv .1) (rw (name first) at (second .before .before .is-name .ensures (not-false _ (second .before .if1 .left)))))
-          (rw next (rw (status second) at (c .before .is-status .ensures (not-false _ (c .if2 .left)))))),
+          (each-more _ (2 * l .column) k (l .inv .1) (rw (← add-zero (2 * l .column), ← name first) (second .before .before .is-name .ensures (not-false _ (second .before .if1 .left)))))
+          (rw (status second) at (c .before .is-status .ensures (not-false _ (c .if2 .left))))),
     )
 
 returns-3 : tie.Need-returns-3 Inv-loop μ-loop
@@ -115,17 +93,10 @@ is-row-spec =
     Inv-loop
     μ-loop
     loop-holds
-    mul-at
-    add-at
-    mul-at-2
-    add-at-2
-    add-name-cell
-    mul-name-cell
-    add-name-cell-2
-    name-cell-requires
+    airport-part-requires
     is-name-requires
     returns
-    status-cell-requires
+    airport-part-requires-2
     is-status-requires
     returns-2
     add-column
