@@ -1,6 +1,7 @@
 // The record of a text.
 use crate::Got;
 use crate::Sheet;
+use crate::cells::airport_part;
 use crate::cells::cell_at;
 use crate::check::check;
 use crate::check::read_field;
@@ -44,11 +45,11 @@ fn airport_byte(s: &[u8], i: usize) -> u8
 {
     let n = i / 5;
     let j = i % 5;
-    let k = 67 + 2 * (5 * (n % 10) + n / 10);
     if j == 4 {
+        let k = 67 + 2 * (5 * (n % 10) + n / 10);
         return word_at(s, k + 1) as u8;
     }
-    let c = cell_at(k);
+    let c = airport_part(n % 10, n / 10, 0);
     let p = c.at + c.labelled + j;
     s[p]
 }

@@ -3,20 +3,30 @@ use Rattle.sheet.proofs.read.airport_byte.Statement.{statement}
 use Rattle.sheet.proofs.read.airport_byte.Tie as tie
 use borrow.Author.Tests.{eq-eqb, ne-eqb, leb-true}
 use native.Mathlib.Omega.{arith}
-use Prim.Native.Nat.{_+_, _/_, _≤_}
+use mathlib.Core.Path.{_≡_, ap, _∙_}
+use Prim.Native.Nat.{ℕ, _+_, _*_, _/_, _%_, _≤_, _<_}
 use denote.Ref.{now}
 use Rattle.sheet.proofs.Small.{name-near}
 use native.Mathlib.Numerals.{add-one}
+use Rattle.sheet.proofs.Rows.{port-is}
 use Rattle.sheet.specs.Sheet.{airportByte, fieldAt, nameCell}
 use Rattle.sheet.specs.Layout.{cellAt}
 use Rattle.sheet.proofs.Small.{status-small}
 
--- the name's place is known
-near : (c : tie.After-struct-known) → c .before .cell-at .result .at + c .before .cell-at .result .labelled + 4 ≤ 913
+-- the cell of the name, and its place
+name : (c : tie.After-airport-part) → c .airport-part .result ≡ cellAt (nameCell (c .before .before .before .args .i / 5))
+name c =
+    let start = c .before .before .before in
+    let n : ℕ = start .args .i / 5 in
+    let few : n < 50 = omega (arith, start .pre .0) in
+    let k : 67 + 10 * (n % 10) + (2 * (n / 10) + 0) ≡ nameCell n = omega arith in
+    c .airport-part .ensures ∙ port-is (n % 10) (n / 10) 0 (omega arith) (omega arith) (omega arith) ∙ ap cellAt k
+
+near : (c : tie.After-struct-known) → c .before .airport-part .result .at + c .before .airport-part .result .labelled + 4 ≤ 913
 near c =
     let start = c .before .before .before .before in
     let n = start .args .i / 5 in
-    rw (c .before .cell-at .ensures) (leb-true (fieldAt (cellAt (nameCell n)) + 4) 913 (name-near n (omega (arith, start .pre .0))))
+    rw (name (c .before)) (leb-true (fieldAt (cellAt (nameCell n)) + 4) 913 (name-near n (omega (arith, start .pre .0))))
 
 mul-k : tie.Need-mul-k
 mul-k c = search needs
@@ -46,8 +56,8 @@ returns : tie.Need-returns
 unfolding airportByte
 returns c = rw (c .word-at .ensures, add-one, eq-eqb _ 4 (c .before .if1 .taken))
 
-cell-at-requires : tie.Need-cell-at-requires
-cell-at-requires c κs = search needs
+airport-part-requires : tie.Need-airport-part-requires
+airport-part-requires c κs = search needs
 
 add-p : tie.Need-add-p
 add-p c = let s = near c in omega (arith, s)
@@ -60,7 +70,7 @@ shared-slice-read-result c = let s = near (c .before) in omega (arith, s, c .bef
 
 returns-2 : tie.Need-returns-2
 unfolding airportByte
-returns-2 c = rw (c .before .before .cell-at .ensures, ne-eqb _ 4 (c .before .before .before .if1 .left))
+returns-2 c = rw (name (c .before .before), ne-eqb _ 4 (c .before .before .before .if1 .left))
 
 pub airport-byte-spec : {M : Type 1} → statement M
 airport-byte-spec =
@@ -74,7 +84,7 @@ airport-byte-spec =
     word-at-requires
     cast-result
     returns
-    cell-at-requires
+    airport-part-requires
     add-p
     add-p-2
     shared-slice-read-result
