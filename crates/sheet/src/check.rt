@@ -4,7 +4,7 @@ use crate::Form;
 use crate::Word;
 use crate::cells::cell_at;
 use crate::cells::width_of;
-use crate::fine::is_fine;
+use crate::fine::fine_cells;
 use crate::number::read_number;
 use text::Seen;
 use text::all_allowed;
@@ -12,7 +12,7 @@ use text::same_bytes;
 ghost use mathlib.Core.Path.{_≡_};
 ghost use mathlib.Core.Bool.{true};
 ghost use mathlib.Core.List.{_∷_, []};
-ghost use Prim.Native.Nat.{_≤_};
+ghost use Prim.Native.Nat.{_-_, _≤_};
 ghost use lib.ListN.{length};
 ghost use Rattle.sheet.specs.Sheet.{seen, fixedCode, nameRead, switchRead, digitRead, bytesRead, fieldRead, fieldSeen, checkCell, checkSheet, each};
 ghost use Rattle.sheet.specs.Layout.{cellAt, widthOf};
@@ -150,11 +150,12 @@ pub fn check_cell(s: &[u8], c: Cell) -> Seen
     check_field(s, at + n, form, c.ends)
 }
 
-// One cell after the other.
-fn check_cells(s: &[u8]) -> Seen
-    ensures { λ r. ⌜ r ≡ each (λ k. checkCell (now (s .entry)) (cellAt k)) 0 167 ⌝ }
+// One cell after the other, from one on.
+fn check_from(s: &[u8], from: usize) -> Seen
+    requires { ⌜ from ≤ 167 ⌝ }
+    ensures { λ r. ⌜ r ≡ each (λ k. checkCell (now (s .entry)) (cellAt k)) from (167 - from) ⌝ }
 {
-    let mut k: usize = 0;
+    let mut k = from;
     while k < 167 {
         let c = cell_at(k);
         match check_cell(s, c) {
@@ -168,14 +169,11 @@ fn check_cells(s: &[u8]) -> Seen
     Seen::Fine
 }
 
-// Only a text that is refused is looked at cell by cell, for its code and place.
+// Of an accepted text no cell is left to look at here.
 pub fn check(s: &[u8]) -> Seen
     ensures { λ r. ⌜ r ≡ checkSheet (now (s .entry)) ⌝ }
 {
-    if is_fine(s) {
-        return Seen::Fine;
-    }
-    match check_cells(s) {
+    match check_from(s, fine_cells(s)) {
         Seen::Bad(code, place) => Seen::Bad(code, place),
         Seen::Fine => {
             if s.len() == 913 {

@@ -1,5 +1,5 @@
-// Whether a whole sheet is fine, and no more than that: where it is not, `check` says why. All 913 bytes are there, so no cell's end is looked at,
-// and each kind of cell has a function of its own, in which its form is known.
+// How far a whole sheet is fine: from there on `check` goes cell by cell. All 913 bytes are there, so no cell's end is looked for, and each kind
+// of cell has a function of its own, in which its form is known where the code is made.
 use crate::Cell;
 use crate::Form;
 use crate::cells::airport_part;
@@ -18,7 +18,7 @@ ghost use mathlib.Core.Bool.{true};
 ghost use Prim.Native.Nat.{_+_, _*_, _≤_, _<_};
 ghost use lib.ListN.{length, take};
 ghost use Rattle.text.specs.declared.Seen.the-variants.{Fine};
-ghost use Rattle.sheet.specs.Sheet.{fixedCode, checkCell, checkSheet, each};
+ghost use Rattle.sheet.specs.Sheet.{fixedCode, checkCell, each};
 ghost use Rattle.sheet.specs.Layout.{cellAt};
 ghost use Rattle.sheet.specs.Inner.{otherAt, Whole, Framed};
 
@@ -175,18 +175,19 @@ fn is_box(s: &[u8], i: usize) -> bool
     is_status(s, box_part(i, 4))
 }
 
-fn are_boxes(s: &[u8]) -> bool
+// How many boxes are fine, up to the first that is not.
+fn fine_boxes(s: &[u8]) -> usize
     requires { ⌜ length (now s) ≡ 913 ⌝ }
-    ensures { λ r. ⌜ (r ≡ true → each (λ k. checkCell (now (s .entry)) (cellAt k)) 17 50 ≡ Fine) ⌝ }
+    ensures { λ r. ⌜ (r ≤ 10) × (each (λ k. checkCell (now (s .entry)) (cellAt k)) 17 (5 * r) ≡ Fine) ⌝ }
 {
     let mut i: usize = 0;
     while i < 10 {
         if !is_box(s, i) {
-            return false;
+            return i;
         }
         i += 1;
     }
-    true
+    i
 }
 
 // A row of five airports.
@@ -207,31 +208,34 @@ fn is_row(s: &[u8], row: usize) -> bool
     true
 }
 
-fn are_airports(s: &[u8]) -> bool
+// And how many rows.
+fn fine_rows(s: &[u8]) -> usize
     requires { ⌜ length (now s) ≡ 913 ⌝ }
-    ensures { λ r. ⌜ (r ≡ true → each (λ k. checkCell (now (s .entry)) (cellAt k)) 67 100 ≡ Fine) ⌝ }
+    ensures { λ r. ⌜ (r ≤ 10) × (each (λ k. checkCell (now (s .entry)) (cellAt k)) 67 (10 * r) ≡ Fine) ⌝ }
 {
     let mut row: usize = 0;
     while row < 10 {
         if !is_row(s, row) {
-            return false;
+            return row;
         }
         row += 1;
     }
-    true
+    row
 }
 
-pub fn is_fine(s: &[u8]) -> bool
-    ensures { λ r. ⌜ (r ≡ true → checkSheet (now (s .entry)) ≡ Fine) ⌝ }
+// How many cells are fine, line by line; of a text that is no whole sheet none is looked at.
+pub fn fine_cells(s: &[u8]) -> usize
+    ensures { λ r. ⌜ (r ≤ 167) × (each (λ k. checkCell (now (s .entry)) (cellAt k)) 0 r ≡ Fine) ⌝ }
 {
     if s.len() != 913 {
-        return false;
+        return 0;
     }
     if !is_head(s) {
-        return false;
+        return 0;
     }
-    if !are_boxes(s) {
-        return false;
+    let boxes = fine_boxes(s);
+    if boxes < 10 {
+        return 17 + 5 * boxes;
     }
-    are_airports(s)
+    67 + 10 * fine_rows(s)
 }

@@ -1,12 +1,11 @@
-use Rattle.sheet.proofs.fine.are_boxes.Statement.{statement}
-use Rattle.sheet.proofs.fine.are_boxes.Tie as tie
+use Rattle.sheet.proofs.fine.fine_boxes.Statement.{statement}
+use Rattle.sheet.proofs.fine.fine_boxes.Tie as tie
 use borrow.Author.Tests.{not-false}
 use native.Mathlib.Omega.{arith}
 use mathlib.Core.Path.{_≡_, refl}
 use Rattle.text.specs.declared.Seen.the-variants.{Fine}
 use Rattle.sheet.specs.Layout.{cellAt}
 use Rattle.sheet.specs.Sheet.{each, checkCell}
-use Rattle.sheet.proofs.Small.{not-held}
 use Prim.Native.Nat.{_+_, _-_, _*_, _≤_}
 use Rattle.sheet.proofs.Each.{each-join}
 
@@ -24,7 +23,7 @@ is-box-requires : tie.Need-is-box-requires Inv-loop μ-loop
 is-box-requires c κs = (c .before .before .before .pre, c .loop-test .taken)
 
 returns : tie.Need-returns Inv-loop μ-loop
-returns c = λ e. not-held e
+returns c = c .before .before .before .loop .inv
 
 add-i : tie.Need-add-i Inv-loop μ-loop
 add-i c = omega (arith, c .before .before .loop-test .taken)
@@ -40,13 +39,10 @@ loop-again c =
     (omega (arith, box .before .loop-test .taken), rw more (each-join _ (5 * l .i) 5 17 (l .inv .1) (box .is-box .ensures (not-false _ (c .if1 .left)))))
 
 returns-2 : tie.Need-returns-2 Inv-loop μ-loop
-returns-2 c =
-    let l = c .before .loop in
-    let all : 5 * l .i ≡ 50 = omega (arith, l .inv .0, c .loop-test .left) in
-    λ e. rw all at (l .inv .1)
+returns-2 c = c .before .loop .inv
 
-pub are-boxes-spec : {M : Type 1} → statement M
-are-boxes-spec =
+pub fine-boxes-spec : {M : Type 1} → statement M
+fine-boxes-spec =
     tie.close
     (tie.spec
     Inv-loop

@@ -1,5 +1,5 @@
-use Rattle.sheet.proofs.check.check_cells.Statement.{statement}
-use Rattle.sheet.proofs.check.check_cells.Tie as tie
+use Rattle.sheet.proofs.check.check_from.Statement.{statement}
+use Rattle.sheet.proofs.check.check_from.Tie as tie
 use native.Mathlib.Omega.{arith}
 use Prim.Native.Nat.{_-_, _≤_}
 use mathlib.Core.Path.{_≡_, refl, sym, _∙_}
@@ -10,13 +10,13 @@ use Rattle.sheet.specs.Layout.{cellAt}
 use borrow.Author.Needs.{needs}
 
 abbrev Inv-loop : tie.InvT-loop
-Inv-loop s k₀ k = (k ≤ 167) × (each (λ j. checkCell s (cellAt j)) 0 167 ≡ each (λ j. checkCell s (cellAt j)) k (167 - k))
+Inv-loop s from k₀ k = (from ≤ k) × (k ≤ 167) × (each (λ j. checkCell s (cellAt j)) from (167 - from) ≡ each (λ j. checkCell s (cellAt j)) k (167 - k))
 
 abbrev μ-loop : tie.MeasureT-loop
-μ-loop s k₀ k = 167 - k
+μ-loop s from k₀ k = 167 - k
 
 loop-holds : tie.Need-loop-holds Inv-loop μ-loop
-loop-holds c = (omega arith, refl)
+loop-holds c = (omega arith, omega (arith, c .before .pre), refl)
 
 cell-at-requires : tie.Need-cell-at-requires Inv-loop μ-loop
 cell-at-requires c κs = omega (arith, c .loop-test .taken)
@@ -31,7 +31,7 @@ returns : tie.Need-returns Inv-loop μ-loop
 returns c =
     let cell = c .before .before .before .before in
     let l = cell .before .before .loop in
-    sym (l .inv .1 ∙ each-stop _ (l .k) 167 _ _ (cell .before .loop-test .taken) (rw (← cell .cell-at .ensures) (sym (c .before .before .before .check-cell .ensures) ∙ c .before .code .given .1)))
+    sym (l .inv .2 ∙ each-stop _ (l .k) 167 _ _ (cell .before .loop-test .taken) (rw (← cell .cell-at .ensures) (sym (c .before .before .before .check-cell .ensures) ∙ c .before .code .given .1)))
 
 enum-told : tie.Need-enum-told Inv-loop μ-loop
 enum-told c = search needs
@@ -46,13 +46,13 @@ loop-again : tie.Need-loop-again Inv-loop μ-loop
 loop-again c =
     let cell = c .before .before .before in
     let l = cell .before .before .loop in
-    (omega (arith, cell .before .loop-test .taken), l .inv .1 ∙ each-turn _ (l .k) 167 (cell .before .loop-test .taken) (rw (← cell .cell-at .ensures) (sym (c .before .before .check-cell .ensures) ∙ c .enum-told .given .1)))
+    (omega arith, omega (arith, cell .before .loop-test .taken), l .inv .2 ∙ each-turn _ (l .k) 167 (cell .before .loop-test .taken) (rw (← cell .cell-at .ensures) (sym (c .before .before .check-cell .ensures) ∙ c .enum-told .given .1)))
 
 returns-2 : tie.Need-returns-2 Inv-loop μ-loop
-returns-2 c = let l = c .before .loop in sym (l .inv .1 ∙ each-end _ (l .k) 167 (c .loop-test .left))
+returns-2 c = let l = c .before .loop in sym (l .inv .2 ∙ each-end _ (l .k) 167 (c .loop-test .left))
 
-pub check-cells-spec : {M : Type 1} → statement M
-check-cells-spec =
+pub check-from-spec : {M : Type 1} → statement M
+check-from-spec =
     tie.close
     (tie.spec
     Inv-loop

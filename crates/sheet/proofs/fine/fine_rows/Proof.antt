@@ -1,12 +1,11 @@
-use Rattle.sheet.proofs.fine.are_airports.Statement.{statement}
-use Rattle.sheet.proofs.fine.are_airports.Tie as tie
+use Rattle.sheet.proofs.fine.fine_rows.Statement.{statement}
+use Rattle.sheet.proofs.fine.fine_rows.Tie as tie
 use borrow.Author.Tests.{not-false}
 use native.Mathlib.Omega.{arith}
 use mathlib.Core.Path.{_≡_, refl}
 use Rattle.text.specs.declared.Seen.the-variants.{Fine}
 use Rattle.sheet.specs.Layout.{cellAt}
 use Rattle.sheet.specs.Sheet.{each, checkCell}
-use Rattle.sheet.proofs.Small.{not-held}
 use Prim.Native.Nat.{_+_, _-_, _*_, _≤_}
 use Rattle.sheet.proofs.Each.{each-join}
 
@@ -24,7 +23,7 @@ is-row-requires : tie.Need-is-row-requires Inv-loop μ-loop
 is-row-requires c κs = (c .before .before .before .pre, c .loop-test .taken)
 
 returns : tie.Need-returns Inv-loop μ-loop
-returns c = λ e. not-held e
+returns c = c .before .before .before .loop .inv
 
 add-row : tie.Need-add-row Inv-loop μ-loop
 add-row c = omega (arith, c .before .before .loop-test .taken)
@@ -40,13 +39,10 @@ loop-again c =
     (omega (arith, row .before .loop-test .taken), rw more (each-join _ (10 * l .row) 10 67 (l .inv .1) (row .is-row .ensures (not-false _ (c .if1 .left)))))
 
 returns-2 : tie.Need-returns-2 Inv-loop μ-loop
-returns-2 c =
-    let l = c .before .loop in
-    let all : 10 * l .row ≡ 100 = omega (arith, l .inv .0, c .loop-test .left) in
-    λ e. rw all at (l .inv .1)
+returns-2 c = c .before .loop .inv
 
-pub are-airports-spec : {M : Type 1} → statement M
-are-airports-spec =
+pub fine-rows-spec : {M : Type 1} → statement M
+fine-rows-spec =
     tie.close
     (tie.spec
     Inv-loop
