@@ -1,7 +1,7 @@
 -- What the inner functions ask for. No promise to a caller rests on these names.
-use mathlib.Core.Bool.{Bool, true, false, cond, _&&_}
+use mathlib.Core.Bool.{Bool, true, cond, _&&_}
 use mathlib.Core.List.{List, [], _∷_}
-use Prim.Native.Nat.{ℕ, _+_, _*_, _%_, _≤_, _<_}
+use Prim.Native.Nat.{ℕ, _+_, _*_, _%_, _≤_}
 use lib.ListN.{length, getD, take, drop}
 use mathlib.Core.Path.{_≡_}
 use Rattle.text.specs.Parts.{part}
@@ -38,10 +38,6 @@ abbrev pub foundIn : List ℕ → Found → Type 0
 foundIn f r = ((r .spaces ≤ length f) × (drop (r .spaces) f ≡ trim f)) × ((r .digits ≡ digitCount f) × (r .value ≡ value f))
 
 -- ---- Checking
-
--- whether byte i of n bytes at a place is another than b
-abbrev pub otherAt : List ℕ → ℕ → ℕ → ℕ → ℕ → Bool → Type 0
-otherAt s at i n b r = (r ≡ true → (i < n) × (getD s (at + i) 0 ≡ b → ⊥)) × (r ≡ false → i < n → getD s (at + i) 0 ≡ b)
 
 -- a cell with a short fixed group, all of whose bytes are there
 abbrev pub Whole : List ℕ → Cell → Type 0

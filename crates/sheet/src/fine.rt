@@ -16,21 +16,21 @@ use text::all_allowed;
 ghost use mathlib.Core.Path.{_≡_};
 ghost use mathlib.Core.Bool.{true};
 ghost use Prim.Native.Nat.{_+_, _*_, _≤_, _<_};
-ghost use lib.ListN.{length, take};
+ghost use lib.ListN.{length, getD, take};
 ghost use Rattle.text.specs.declared.Seen.the-variants.{Fine};
 ghost use Rattle.sheet.specs.Sheet.{fixedCode, checkCell, each};
 ghost use Rattle.sheet.specs.Layout.{cellAt};
-ghost use Rattle.sheet.specs.Inner.{otherAt, Whole, Framed};
+ghost use Rattle.sheet.specs.Inner.{Whole, Framed};
 
-// Whether byte i of a fixed group of n bytes is another than b.
-fn is_other(s: &[u8], at: usize, i: usize, n: usize, b: u8) -> bool
+// Whether byte i of a fixed group of n bytes is b, or there is none.
+fn is_there(s: &[u8], at: usize, i: usize, n: usize, b: u8) -> bool
     requires { ⌜ (at ≤ 10000) × ((n ≤ 4) × (at + n ≤ length (now s))) ⌝ }
-    ensures { λ r. ⌜ otherAt (now (s .entry)) at i n b r ⌝ }
+    ensures { λ r. ⌜ (r ≡ true → i < n → getD (now (s .entry)) (at + i) 0 ≡ b) ⌝ }
 {
     if i < n {
-        return s[at + i] != b;
+        return s[at + i] == b;
     }
-    false
+    true
 }
 
 // A fixed group of up to four bytes, byte by byte: it is then never laid down as a list.
@@ -38,16 +38,16 @@ fn is_labelled(label: [u8; 16], n: usize, s: &[u8], at: usize) -> bool
     requires { ⌜ (at ≤ 10000) × ((n ≤ 4) × (at + n ≤ length (now s))) ⌝ }
     ensures { λ r. ⌜ (r ≡ true → fixedCode (take n label) (now (s .entry)) at ≡ 0) ⌝ }
 {
-    if is_other(s, at, 0, n, label[0]) {
+    if !is_there(s, at, 0, n, label[0]) {
         return false;
     }
-    if is_other(s, at, 1, n, label[1]) {
+    if !is_there(s, at, 1, n, label[1]) {
         return false;
     }
-    if is_other(s, at, 2, n, label[2]) {
+    if !is_there(s, at, 2, n, label[2]) {
         return false;
     }
-    !is_other(s, at, 3, n, label[3])
+    is_there(s, at, 3, n, label[3])
 }
 
 // What stands around a field: the fixed group, and CR LF where it ends a line.
