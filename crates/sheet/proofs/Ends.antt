@@ -46,6 +46,10 @@ before-ends j k l h =
     let order : sizes 0 (j + 1) ≤ sizes 0 k = rw rest at (sizes-add 0 (j + 1) (k - (j + 1))) in
     omega (arith, ends j (omega arith))
 
+-- no cell ends behind a later one
+pub ends-rise : (j k : ℕ) → j ≤ k → k < 167 → cellEnd (cellAt j) ≤ cellEnd (cellAt k)
+ends-rise j k l h = omega (arith, before-ends j (k + 1) (omega arith) (omega arith), ends k h)
+
 -- each byte of m cells stands in one of them
 found : (n m : ℕ) → m ≤ 167 → n < sizes 0 m → (k : ℕ) × Has k n
 unfolding sizes

@@ -4,7 +4,6 @@ pub mod Scan
 pub mod Counted
 pub mod Small
 pub mod Short
-pub mod Rows
 pub mod Each
 pub mod Filled
 pub mod Checked
@@ -17,3 +16,4 @@ pub mod Allowed
 pub mod Printed
 pub mod Codes
 pub mod Ends
+pub mod Rows

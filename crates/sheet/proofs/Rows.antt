@@ -1,31 +1,29 @@
--- Cells by their line: a box's five, an airport's two. In a whole sheet each cell is whole.
+-- Cells by their line: a box's five, an airport's two. Where a line is all there, each of its cells is.
 use mathlib.Core.Path.{_≡_, refl}
-use mathlib.Core.Bool.{true, _&&_}
+use mathlib.Core.Bool.{true}
 use mathlib.Core.List.{List}
-use Prim.Native.Nat.{ℕ, suc, _+_, _-_, _*_, _/_, _%_, _<_}
+use Prim.Native.Nat.{ℕ, suc, _+_, _-_, _*_, _/_, _%_, _≤_, _<_}
 use native.Mathlib.Omega.{arith}
 use lib.Dec.{leb}
 use lib.ListN.{length, getD}
 use borrow.Author.Tests.{leb-true, lt-ltb, le-ltb}
-use Rattle.text.proofs.Cases.{both-left, both-right}
-use Rattle.sheet.specs.Layout.{headCells, noCell, boxCells, boxCell, airportCells, airportCell, cellAt, widthOf}
+use Rattle.sheet.specs.Layout.{headCells, noCell, boxCells, boxCell, airportCells, airportCell, cellAt}
 use Rattle.sheet.specs.Sheet.{cellEnd}
 use Rattle.sheet.specs.Inner.{Whole}
 use Rattle.sheet.proofs.Small.{every, cell-small}
+use Rattle.sheet.proofs.Ends.{ends-rise}
 
--- computed: but for the first, a short fixed group, and an end among the 913 bytes
-near : (k : ℕ) → k < 166 → (leb (cellAt (suc k) .labelled) 4 && leb (cellEnd (cellAt (suc k))) 913) ≡ true
-unfolding cellAt boxCell airportCell widthOf
-near = every (λ k. leb (cellAt (suc k) .labelled) 4 && leb (cellEnd (cellAt (suc k))) 913) 166 refl
+-- computed: but for the first, a short fixed group
+short : (k : ℕ) → k < 166 → leb (cellAt (suc k) .labelled) 4 ≡ true
+unfolding cellAt boxCell airportCell
+short = every (λ k. leb (cellAt (suc k) .labelled) 4) 166 refl
 
-pub whole : (s : List ℕ) → length s ≡ 913 → (k : ℕ) → 0 < k → k < 167 → Whole s (cellAt k)
-whole s long k low high =
-    let is : suc (k - 1) ≡ k = omega arith in
-    let short = leb (cellAt k .labelled) 4 in
-    let end = leb (cellEnd (cellAt k)) 913 in
-    let both : (short && end) ≡ true = rw is at (near (k - 1) (omega arith)) in (
-      cell-small k high,
-      (leb-true (cellAt k .labelled) 4 (both-left short end both), omega (arith, long, leb-true (cellEnd (cellAt k)) 913 (both-right short end both))),
+-- where a later cell is all there
+pub whole : (s : List ℕ) (k last : ℕ) → 0 < k → k ≤ last → last < 167 → cellEnd (cellAt last) ≤ length s → Whole s (cellAt k)
+whole s k last low high few long =
+    let is : suc (k - 1) ≡ k = omega arith in (
+      cell-small k (omega arith),
+      (rw is at (leb-true (cellAt (suc (k - 1)) .labelled) 4 (short (k - 1) (omega arith))), omega (arith, ends-rise k last high few, long)),
     )
 
 pub head-is : (k : ℕ) → k < 17 → getD headCells k noCell ≡ cellAt k

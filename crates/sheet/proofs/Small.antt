@@ -14,7 +14,7 @@ use Rattle.sheet.specs.declared.Form.the-variants.{Name, Switch, Digit, 
 use Rattle.sheet.specs.declared.Cell.{Cell}
 use Rattle.sheet.specs.declared.Word.{Word}
 use Rattle.sheet.specs.Layout.{widthOf, cellAt, boxCell, airportCell}
-use Rattle.sheet.specs.Inner.{smallForm, smallCell}
+use Rattle.sheet.specs.Inner.{smallForm, smallCell, sizeOfCell}
 use lib.ListN.{length, getD}
 use mathlib.Core.List.{List, _∷_}
 use Rattle.text.specs.Parts.{part}
@@ -73,6 +73,16 @@ small-parts c e =
         both-right (leb (c .labelled) 16) (smallForm (c .form)) rest,
       ),
     )
+
+pub small-size : (c : Cell) → smallCell c ≡ true → sizeOfCell c ≤ 200
+unfolding sizeOfCell
+small-size c e =
+    let parts = small-parts c e in
+    omega (arith, parts .1 .0, small-width (c .form) (parts .1 .1), two (c .ends))
+  where
+    two : (t : Bool) → cond t 2 0 ≤ 2
+    two true = omega arith
+    two false = omega arith
 
 -- ---- the cells of the airports
 

@@ -3,11 +3,13 @@ use crate::Cell;
 use crate::Form;
 use crate::Limits;
 ghost use mathlib.Core.Path.{_≡_};
+ghost use mathlib.Core.Bool.{true};
 ghost use Prim.Native.Nat.{_+_, _*_, _<_, _≤_};
 ghost use mathlib.Core.List.{_∷_};
 ghost use lib.ListN.{getD, replicate};
 ghost use Rattle.sheet.specs.declared.Form.the-variants.{Number};
 ghost use Rattle.sheet.specs.Layout.{number, minutes, widthOf, headCells, noCell, boxCells, boxCell, nameCellOf, airportCells, airportCell, cellAt};
+ghost use Rattle.sheet.specs.Inner.{smallCell, sizeOfCell};
 
 pub fn width_of(form: Form) -> usize
     ensures { λ r. ⌜ r ≡ widthOf form ⌝ }
@@ -18,6 +20,19 @@ pub fn width_of(form: Form) -> usize
         Form::Digit(_) => 1,
         Form::Number(w, _) => w,
     }
+}
+
+// How many bytes a cell is.
+pub fn size_of_cell(c: Cell) -> usize
+    requires { ⌜ smallCell c ≡ true ⌝ }
+    ensures { λ r. ⌜ r ≡ sizeOfCell c ⌝ }
+{
+    let form = c.form;
+    let size = c.labelled + width_of(form);
+    if c.ends {
+        return size + 2;
+    }
+    size
 }
 
 fn number(w: usize, least: usize, most: usize) -> Form

@@ -1,10 +1,11 @@
-// How far a whole sheet is fine: from there on `check` goes cell by cell. All 913 bytes are there, so no cell's end is looked for, and each kind
-// of cell has a function of its own, in which its form is known where the code is made.
+// How far a text is fine, line by line: from there on `check` goes cell by cell. A line that is all there is looked at without a look for its
+// end in each cell, and each kind of cell has a function of its own, in which its form is known where the code is made.
 use crate::Cell;
 use crate::Form;
 use crate::cells::airport_part;
 use crate::cells::box_part;
 use crate::cells::head_cell;
+use crate::cells::size_of_cell;
 use crate::cells::width_of;
 use crate::check::check_cell;
 use crate::check::line_end;
@@ -18,9 +19,9 @@ ghost use mathlib.Core.Bool.{true};
 ghost use Prim.Native.Nat.{_+_, _*_, _≤_, _<_};
 ghost use lib.ListN.{length, getD, take};
 ghost use Rattle.text.specs.declared.Seen.the-variants.{Fine};
-ghost use Rattle.sheet.specs.Sheet.{fixedCode, checkCell, each};
+ghost use Rattle.sheet.specs.Sheet.{cellEnd, fixedCode, checkCell, each};
 ghost use Rattle.sheet.specs.Layout.{cellAt};
-ghost use Rattle.sheet.specs.Inner.{Whole, Framed};
+ghost use Rattle.sheet.specs.Inner.{smallCell, Whole, Framed};
 
 // Whether byte i of a fixed group of n bytes is b, or there is none.
 fn is_there(s: &[u8], at: usize, i: usize, n: usize, b: u8) -> bool
@@ -139,9 +140,18 @@ fn is_cell(s: &[u8], c: Cell) -> bool
     read_bytes(form, &s[p..end]).code == 0
 }
 
+// Whether a text goes on to the end of a cell.
+fn is_long(s: &[u8], c: Cell) -> bool
+    requires { ⌜ smallCell c ≡ true ⌝ }
+    ensures { λ r. ⌜ (r ≡ true → cellEnd c ≤ length (now (s .entry))) ⌝ }
+{
+    let size = size_of_cell(c);
+    c.at + size <= s.len()
+}
+
 // Lines 1 to 4. The first cell has a long fixed group.
 fn is_head(s: &[u8]) -> bool
-    requires { ⌜ length (now s) ≡ 913 ⌝ }
+    requires { ⌜ cellEnd (cellAt 16) ≤ length (now s) ⌝ }
     ensures { λ r. ⌜ (r ≡ true → each (λ k. checkCell (now (s .entry)) (cellAt k)) 0 17 ≡ Fine) ⌝ }
 {
     match check_cell(s, head_cell(0)) {
@@ -162,7 +172,7 @@ fn is_head(s: &[u8]) -> bool
 
 // The line of a box: two corners, a status.
 fn is_box(s: &[u8], i: usize) -> bool
-    requires { ⌜ (length (now s) ≡ 913) × (i < 10) ⌝ }
+    requires { ⌜ (i < 10) × (cellEnd (cellAt (17 + 5 * i + 4)) ≤ length (now s)) ⌝ }
     ensures { λ r. ⌜ (r ≡ true → each (λ k. checkCell (now (s .entry)) (cellAt k)) (17 + 5 * i) 5 ≡ Fine) ⌝ }
 {
     let mut j: usize = 0;
@@ -177,11 +187,13 @@ fn is_box(s: &[u8], i: usize) -> bool
 
 // How many boxes are fine, up to the first that is not.
 fn fine_boxes(s: &[u8]) -> usize
-    requires { ⌜ length (now s) ≡ 913 ⌝ }
     ensures { λ r. ⌜ (r ≤ 10) × (each (λ k. checkCell (now (s .entry)) (cellAt k)) 17 (5 * r) ≡ Fine) ⌝ }
 {
     let mut i: usize = 0;
     while i < 10 {
+        if !is_long(s, box_part(i, 4)) {
+            return i;
+        }
         if !is_box(s, i) {
             return i;
         }
@@ -192,7 +204,7 @@ fn fine_boxes(s: &[u8]) -> usize
 
 // A row of five airports.
 fn is_row(s: &[u8], row: usize) -> bool
-    requires { ⌜ (length (now s) ≡ 913) × (row < 10) ⌝ }
+    requires { ⌜ (row < 10) × (cellEnd (cellAt (67 + 10 * row + 9)) ≤ length (now s)) ⌝ }
     ensures { λ r. ⌜ (r ≡ true → each (λ k. checkCell (now (s .entry)) (cellAt k)) (67 + 10 * row) 10 ≡ Fine) ⌝ }
 {
     let mut column: usize = 0;
@@ -210,11 +222,13 @@ fn is_row(s: &[u8], row: usize) -> bool
 
 // And how many rows.
 fn fine_rows(s: &[u8]) -> usize
-    requires { ⌜ length (now s) ≡ 913 ⌝ }
     ensures { λ r. ⌜ (r ≤ 10) × (each (λ k. checkCell (now (s .entry)) (cellAt k)) 67 (10 * r) ≡ Fine) ⌝ }
 {
     let mut row: usize = 0;
     while row < 10 {
+        if !is_long(s, airport_part(row, 4, 1)) {
+            return row;
+        }
         if !is_row(s, row) {
             return row;
         }
@@ -223,11 +237,11 @@ fn fine_rows(s: &[u8]) -> usize
     row
 }
 
-// How many cells are fine, line by line; of a text that is no whole sheet none is looked at.
+// How many cells are fine, line by line.
 pub fn fine_cells(s: &[u8]) -> usize
     ensures { λ r. ⌜ (r ≤ 167) × (each (λ k. checkCell (now (s .entry)) (cellAt k)) 0 r ≡ Fine) ⌝ }
 {
-    if s.len() != 913 {
+    if !is_long(s, head_cell(16)) {
         return 0;
     }
     if !is_head(s) {

@@ -4,6 +4,7 @@ use crate::Form;
 use crate::Held;
 use crate::Sheet;
 use crate::cells::cell_at;
+use crate::cells::size_of_cell;
 use crate::cells::width_of;
 use crate::check::seen_of;
 use crate::number::is_allowed;
@@ -192,18 +193,6 @@ fn put_cells(x: Sheet, d: &mut [u8])
         p = end;
         k += 1;
     }
-}
-
-fn size_of_cell(c: Cell) -> usize
-    requires { ⌜ smallCell c ≡ true ⌝ }
-    ensures { λ r. ⌜ r ≡ sizeOfCell c ⌝ }
-{
-    let form = c.form;
-    let size = c.labelled + width_of(form);
-    if c.ends {
-        return size + 2;
-    }
-    size
 }
 
 pub fn write(x: Sheet, d: &mut [u8]) -> Seen

@@ -4,23 +4,36 @@ use Rattle.sheet.proofs.fine.fine_cells.Tie as tie
 use borrow.Author.Tests.{not-false}
 use native.Mathlib.Omega.{arith}
 use Prim.Native.Nat.{_*_}
-use mathlib.Core.Path.{_≡_, refl}
+use mathlib.Core.Path.{_≡_, refl, _∙_}
 use denote.Ref.{now}
 use Rattle.text.specs.declared.Seen.the-variants.{Fine}
 use Rattle.sheet.specs.Layout.{cellAt}
 use Rattle.sheet.specs.Sheet.{each, checkCell}
+use Rattle.sheet.proofs.Small.{cell-small}
 use Rattle.sheet.proofs.Each.{each-join}
+use Rattle.sheet.proofs.Rows.{head-is}
 
--- lines 1 to 4 are
-lines : (c : tie.After-fine-boxes) → each (λ k. checkCell (now (c .before .before .before .before .before .args .s)) (cellAt k)) 0 17 ≡ Fine
+-- the last cell of lines 1 to 4
+last : (c : tie.After-head-cell) → c .head-cell .result ≡ cellAt 16
+last c = c .head-cell .ensures ∙ head-is 16 (omega arith)
+
+-- they are fine
+lines : (c : tie.After-fine-boxes)
+    → each (λ k. checkCell (now (c .before .before .before .before .before .before .before .args .s)) (cellAt k)) 0 17 ≡ Fine
 lines c = c .before .before .is-head .ensures (not-false _ (c .before .if2 .left))
+
+head-cell-requires : tie.Need-head-cell-requires
+head-cell-requires c κs = omega arith
+
+is-long-requires : tie.Need-is-long-requires
+is-long-requires c κs = rw (last c) (cell-small 16 (omega arith))
 
 returns : tie.Need-returns
 unfolding each
 returns c = (omega arith, refl)
 
 is-head-requires : tie.Need-is-head-requires
-is-head-requires c κs = search needs
+is-head-requires c κs = rw (last (c .before .before)) at (c .before .is-long .ensures (not-false _ (c .if1 .left)))
 
 returns-2 : tie.Need-returns-2
 unfolding each
@@ -59,6 +72,8 @@ pub fine-cells-spec : {M : Type 1} → statement M
 fine-cells-spec =
     tie.close
     (tie.spec
+    head-cell-requires
+    is-long-requires
     returns
     is-head-requires
     returns-2

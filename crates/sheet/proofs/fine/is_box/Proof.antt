@@ -21,22 +21,22 @@ abbrev μ-loop : tie.MeasureT-loop
 -- a coordinate's cell, and the status's
 coordinate : (c : tie.After-box-part Inv-loop μ-loop)
     → c .box-part .result ≡ cellAt (17 + 5 * c .before .before .before .before .args .i + c .before .before .loop .j)
-coordinate c = c .box-part .ensures ∙ box-is _ _ (c .before .before .before .before .pre .1) (omega (arith, c .before .loop-test .taken))
+coordinate c = c .box-part .ensures ∙ box-is _ _ (c .before .before .before .before .pre .0) (omega (arith, c .before .loop-test .taken))
 
 last : (c : tie.After-box-part2 Inv-loop μ-loop) → c .box-part2 .result ≡ cellAt (17 + 5 * c .before .before .before .before .args .i + 4)
-last c = c .box-part2 .ensures ∙ box-is _ _ (c .before .before .before .before .pre .1) (omega arith)
+last c = c .box-part2 .ensures ∙ box-is _ _ (c .before .before .before .before .pre .0) (omega arith)
 
 loop-holds : tie.Need-loop-holds Inv-loop μ-loop
 unfolding each
 loop-holds c = (omega arith, refl)
 
 box-part-requires : tie.Need-box-part-requires Inv-loop μ-loop
-box-part-requires c κs = (c .before .before .before .pre .1, omega (arith, c .loop-test .taken))
+box-part-requires c κs = (c .before .before .before .pre .0, omega (arith, c .loop-test .taken))
 
 is-number-requires : tie.Need-is-number-requires Inv-loop μ-loop
 is-number-requires c κs =
     let start = c .before .before .before .before in
-    rw (coordinate c) (whole (now (start .args .s)) (start .pre .0) _ (omega arith) (omega (arith, start .pre .1, c .before .loop-test .taken)))
+    rw (coordinate c) (whole (now (start .args .s)) _ _ (omega arith) (omega (arith, c .before .loop-test .taken)) (omega (arith, start .pre .0)) (start .pre .1))
 
 returns : tie.Need-returns Inv-loop μ-loop
 returns c = λ e. not-held e
@@ -54,12 +54,12 @@ loop-again c =
     (omega (arith, cell .before .loop-test .taken), each-more _ (l .j) _ (l .inv .1) (rw (coordinate cell) at (c .before .is-number .ensures (not-false _ (c .if1 .left)))))
 
 box-part-requires-2 : tie.Need-box-part-requires-2 Inv-loop μ-loop
-box-part-requires-2 c κs = (c .before .before .before .pre .1, omega arith)
+box-part-requires-2 c κs = (c .before .before .before .pre .0, omega arith)
 
 is-status-requires : tie.Need-is-status-requires Inv-loop μ-loop
 is-status-requires c κs =
     let start = c .before .before .before .before in
-    rw (last c) (whole (now (start .args .s)) (start .pre .0) _ (omega arith) (omega (arith, start .pre .1)))
+    rw (last c) (whole (now (start .args .s)) _ _ (omega arith) (omega arith) (omega (arith, start .pre .0)) (start .pre .1))
 
 returns-2 : tie.Need-returns-2 Inv-loop μ-loop
 returns-2 c =

@@ -55,7 +55,7 @@ is-cell-requires : tie.Need-is-cell-requires Inv-loop μ-loop
 is-cell-requires c κs =
     let l = c .before .before in
     let start = l .before .before .before .before .before .before in
-    rw (next c) (whole (now (start .args .s)) (start .pre) _ (omega (arith, l .loop .inv .0)) (omega (arith, c .before .loop-test .taken)))
+    rw (next c) (whole (now (start .args .s)) _ 16 (omega (arith, l .loop .inv .0)) (omega (arith, c .before .loop-test .taken)) (omega arith) (start .pre))
 
 returns-2 : tie.Need-returns-2 Inv-loop μ-loop
 returns-2 c = λ e. not-held e

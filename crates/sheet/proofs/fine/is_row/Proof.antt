@@ -22,26 +22,26 @@ abbrev μ-loop : tie.MeasureT-loop
 -- the cell of the name, and that of the status
 name : (c : tie.After-airport-part Inv-loop μ-loop)
     → c .airport-part .result ≡ cellAt (67 + 10 * c .before .before .before .before .args .row + (2 * c .before .before .loop .column + 0))
-name c = c .airport-part .ensures ∙ port-is _ _ 0 (c .before .before .before .before .pre .1) (c .before .loop-test .taken) (omega arith)
+name c = c .airport-part .ensures ∙ port-is _ _ 0 (c .before .before .before .before .pre .0) (c .before .loop-test .taken) (omega arith)
 
 status : (c : tie.After-airport-part2 Inv-loop μ-loop)
     → let l = c .before .before .before .before .before in
     c .airport-part2 .result ≡ cellAt (67 + 10 * l .before .before .args .row + (2 * l .loop .column + 1))
 status c =
     let loop = c .before .before .before .before in
-    c .airport-part2 .ensures ∙ port-is _ _ 1 (loop .before .before .before .pre .1) (loop .loop-test .taken) (omega arith)
+    c .airport-part2 .ensures ∙ port-is _ _ 1 (loop .before .before .before .pre .0) (loop .loop-test .taken) (omega arith)
 
 loop-holds : tie.Need-loop-holds Inv-loop μ-loop
 unfolding each
 loop-holds c = (omega arith, refl)
 
 airport-part-requires : tie.Need-airport-part-requires Inv-loop μ-loop
-airport-part-requires c κs = (c .before .before .before .pre .1, (c .loop-test .taken, omega arith))
+airport-part-requires c κs = (c .before .before .before .pre .0, (c .loop-test .taken, omega arith))
 
 is-name-requires : tie.Need-is-name-requires Inv-loop μ-loop
 is-name-requires c κs =
     let start = c .before .before .before .before in
-    rw (name c) (whole (now (start .args .s)) (start .pre .0) _ (omega arith) (omega (arith, start .pre .1, c .before .loop-test .taken)))
+    rw (name c) (whole (now (start .args .s)) _ _ (omega arith) (omega (arith, c .before .loop-test .taken)) (omega (arith, start .pre .0)) (start .pre .1))
 
 returns : tie.Need-returns Inv-loop μ-loop
 returns c = λ e. not-held e
@@ -49,13 +49,13 @@ returns c = λ e. not-held e
 airport-part-requires-2 : tie.Need-airport-part-requires-2 Inv-loop μ-loop
 airport-part-requires-2 c κs =
     let loop = c .before .before .before in
-    (loop .before .before .before .pre .1, (loop .loop-test .taken, omega arith))
+    (loop .before .before .before .pre .0, (loop .loop-test .taken, omega arith))
 
 is-status-requires : tie.Need-is-status-requires Inv-loop μ-loop
 is-status-requires c κs =
     let loop = c .before .before .before .before in
     let start = loop .before .before .before in
-    rw (status c) (whole (now (start .args .s)) (start .pre .0) _ (omega arith) (omega (arith, start .pre .1, loop .loop-test .taken)))
+    rw (status c) (whole (now (start .args .s)) _ _ (omega arith) (omega (arith, loop .loop-test .taken)) (omega (arith, start .pre .0)) (start .pre .1))
 
 returns-2 : tie.Need-returns-2 Inv-loop μ-loop
 returns-2 c = λ e. not-held e

@@ -1,6 +1,6 @@
 use borrow.Author.Needs.{needs}
-use Rattle.sheet.proofs.write.size_of_cell.Statement.{statement}
-use Rattle.sheet.proofs.write.size_of_cell.Tie as tie
+use Rattle.sheet.proofs.cells.size_of_cell.Statement.{statement}
+use Rattle.sheet.proofs.cells.size_of_cell.Tie as tie
 use native.Mathlib.Omega.{arith}
 use Rattle.sheet.proofs.Small.{small-width, small-parts}
 use Rattle.sheet.specs.Inner.{sizeOfCell}
