@@ -11,7 +11,7 @@ ghost use Rattle.packed.specs.Packed.{worths, readPacked, trim, isSolidu
 ghost use Rattle.packed.specs.Inner.{refusedField};
 
 // Where the field goes on behind its leading spaces.
-pub fn behind_spaces(f: &[u8]) -> usize
+fn behind_spaces(f: &[u8]) -> usize
     ensures { λ r. ⌜ (r ≤ length (now (f .entry))) × (drop r (now (f .entry)) ≡ trim (now (f .entry))) ⌝ }
 {
     let mut i = 0;
