@@ -1,6 +1,7 @@
 -- The laws of the desk.
 mod Asking
 mod Listed
+mod OnBoard
 mod Shared
 mod Waited
 pub mod Given
