@@ -2,6 +2,7 @@
 mod Asking
 mod Listed
 mod OnBoard
+mod OnList
 mod Shared
 mod Waited
 pub mod Given

@@ -50,6 +50,7 @@ use Rattle.tails.proofs.keys.keys_of.Symbol.{name as #keys-of}
 use Rattle.tails.proofs.keys.keys_of.Met as keys-thm
 use Rattle.desk.specs.Tails.{tailNumbers}
 use Rattle.desk.specs.declared.HostTail.{HostTail}
+use Rattle.desk.proofs.OnList.{kvals, spelt-k, Key, to-keys, ready-keys-kept, said-keys}
 use Rattle.desk.proofs.HostTail as N
 use Rattle.desk.proofs.HostTail.Laws as N′
 use Rattle.desk.proofs.tails_calls.serve_find as serve
@@ -64,17 +65,11 @@ use Rattle.desk.proofs.tails_calls.esk_tails_find.Code as code
 abbrev stayed : Stays (f.ended .signature .params) (f.ended .kept)
 stayed = (stay-none-slice (0 ∷ []) tt (plain (λ _. T.the-row)) yes, (stay-none-slice (1 ∷ []) tt (plain (λ _. u8)) yes, (stay-none-slice (2 ∷ []) tt (plain (λ _. u8)) yes, tt)))
 
-abbrev kvals : Keys → List Val
-kvals = LL.vals K.the-type K′.the-laws
-
 abbrev tail-val : HostTail → Val
 tail-val = LL.val N.the-type N′.the-laws
 
 module _ {M : Type 1} (𝓤 : URA M) (H : Heap 𝓤) (A : Atoms 𝓤) (mem : Memory → SProp 𝓤) (run : Routine → Fun 𝓤) where
   -- the contracts that the proof cites
-  abbrev Key : Contract 𝓤
-  Key = tripleOf 𝓤 H A keys.signature (keys.spec 𝓤 H A mem run)
-
   abbrev Serve : Contract 𝓤
   Serve = tripleOf 𝓤 H A serve.signature (serve.spec 𝓤 H A mem run)
 
@@ -119,21 +114,6 @@ module _ {M : Type 1} (𝓤 : URA M) (H : Heap 𝓤) (A : Atoms 𝓤) (W : Given
       says ! (e₂ ∙ ap (λ (z : Keys). tailNumbers (soughtIn z (list .now) (wantedBy (des .now)))) e ∙ ap tailNumbers (sought-in (s .now) (list .now) (des .now))) $
       move ! (2 ∷ []) $ split ! $ move ! (0 ∷ 2 ∷ []) $ join ! $ frame ! $ move ! (1 ∷ []) $ split ! $ move ! (1 ∷ 2 ∷ []) $ fjoin ! $ move ! (1 ∷ 0 ∷ []) $ fjoin ! $ move ! (1 ∷ 0 ∷ []) $ fjoin ! $ frame ! $ owned ! N.the-row (Is N.the-row) (LL.makes N.the-type N′.the-plain 𝓤 H A) r _ is $ done !
 
-  -- ---- the call of `keys_of`
-  abbrev to-keys : Key 𝓤 H A mem run .Ghost
-  to-keys = (((κ, tt), (q, tt), tt, (s, tt), (sv ∷ [], tt)), tt)
-
-  asked-keys : ent 𝓤 (onEntry 𝓤 H A keys.signature (κ, tt) (q, tt) (s, tt) (sv ∷ [], tt)) (Key 𝓤 H A mem run .pre to-keys)
-  asked-keys = qed W ((‵ (flft κ q) ⊛ ‵ ftrue) ∷ ‵ (owns (ShrSlice (named 0) κ T.the-row ∷ []) (s, tt) (sv ∷ [], tt)) ∷ []) ∵ join ! $ frame ! $ done !
-
-  ready-keys : ent 𝓤 (sep 𝓤 (A .lft κ q) (sem 𝓤 H A Slots)) (sep 𝓤 (Key 𝓤 H A mem run .pre to-keys) (sem 𝓤 H A Slots))
-  ready-keys =
-      qed W (‵ (flft κ q) ∷ ‵ Slots ∷ []) ∵ move ! (1 ∷ []) $ use1 W (‵ Slots ⊛ ‵ Slots) (shr-slice-copy 𝓤 H A W (named 0) κ T.the-row .twice s (sv ∷ [])) $ split ! $
-      nothing ! $ move ! (1 ∷ 0 ∷ []) $ fjoin ! $ nothing ! $ move ! (3 ∷ 0 ∷ []) $ join ! $ use2 W (raw (Key 𝓤 H A mem run .pre to-keys)) asked-keys $ frame ! $ done !
-
-  said-keys : (r : Keys) → ent 𝓤 (ensured 𝓤 H A keys.ended (keys.clauses 𝓤 H A mem run) (κ, tt) (s, tt) tt r) (fact 𝓤 (r ≡ keysIn (s .now)))
-  said-keys r = exE 𝓤 _ (λ ws. snd∗ 𝓤 (sem 𝓤 H A (lasts keys.ended (κ, tt) (s, tt) ws)) (fact 𝓤 (r ≡ keysIn (s .now))))
-
   -- ---- the call of `serve_find`
   module _ (k : Keys) where
     abbrev to-serve : Serve 𝓤 H A mem run .Ghost
@@ -161,13 +141,13 @@ module _ {M : Type 1} (𝓤 : URA M) (H : Heap 𝓤) (A : Atoms 𝓤) (W : Given
         pass1 ! (init ! 6 refl (shr-slice-lawful 𝓤 H A W (named 0) κ T.the-row .typed s _ is-s .0)) $ pass1 ! (init ! 4 refl (shr-slice-lawful 𝓤 H A W (named 1) κ₁ u8 .typed list _ is-l .0)) $ pass1 ! (init ! 2 refl (shr-slice-lawful 𝓤 H A W (named 2) κ₂ u8 .typed des _ is-d .0)) $ pass0 ! $
         move ! (11 ∷ []) $ fsplit ! $ move ! (1 ∷ []) $ fsplit ! $ move ! (1 ∷ []) $ fsplit ! $ move ! (14 ∷ []) $ split ! $
         keep ! (0 ∷ 5 ∷ 1 ∷ 2 ∷ 4 ∷ 6 ∷ 7 ∷ 8 ∷ 9 ∷ 10 ∷ 11 ∷ 12 ∷ 13 ∷ 14 ∷ 15 ∷ []) $
-        use2 W (raw (Key 𝓤 H A mem run .pre to-keys) ⊛ ‵ Slots) ready-keys $ split ! $
-        calls-at ! fm (Key 𝓤 H A mem run) known-keys to-keys (and-then ! (load ! (from ! (stop !)) (look ! 11 refl)) (no-more !)) (λ w₁.
+        use2 W (raw (Key 𝓤 H A mem run .pre (to-keys 𝓤 H A mem run W κ q s)) ⊛ ‵ Slots) (ready-keys-kept 𝓤 H A mem run W κ q s) $ split ! $
+        calls-at ! fm (Key 𝓤 H A mem run) known-keys (to-keys 𝓤 H A mem run W κ q s) (and-then ! (load ! (from ! (stop !)) (look ! 11 refl)) (no-more !)) (λ w₁.
         use1 W (later (some (λ (k : Keys). ((‵ (flft κ q) ⊛ ‵ ftrue) ⊛ ‵ (K.the-row .own k (w₁ ∷ []))) ⊛ raw (ensured 𝓤 H A keys.ended (keys.clauses 𝓤 H A mem run) (κ, tt) (s, tt) tt k)))) (id⊢ 𝓤 _) $ await ! tt $ pick ! (λ k.
-        split ! $ move ! (1 ∷ []) $ use1 W (raw (fact 𝓤 (k ≡ keysIn (s .now)))) (said-keys k) $ heard ! (k ≡ keysIn (s .now)) (λ e. split ! $ move ! (1 ∷ []) $
+        split ! $ move ! (1 ∷ []) $ use1 W (raw (fact 𝓤 (k ≡ keysIn (s .now)))) (said-keys 𝓤 H A mem run W κ q s k) $ heard ! (k ≡ keysIn (s .now)) (λ e. split ! $ move ! (1 ∷ []) $
         peeks ! K.the-row (Is K.the-row) (shows 𝓤 H A K.the-row) k (w₁ ∷ []) (λ is-k.
         land ! (from ! (stop !)) (init ! 6 refl (LL.lawful K.the-type K′.the-laws 𝓤 H A W .typed k _ is-k .0)) $ rewrite ! 6 (λ (u : Val). ‵ (fat fullShare K′.mir l₄ 0 u)) (ap only (LL.tells K.the-type K′.the-laws k _ is-k)) refl $ drop ! $
-        move ! (3 ∷ 4 ∷ []) $ join ! $ move ! (3 ∷ 0 ∷ []) $ use2 W (raw (Serve 𝓤 H A mem run .pre (to-serve k)) ⊛ (‵ Listed ⊛ ‵ Des)) (ready-serve k (LL.owes K.the-type K′.the-laws k (LL.owed K.the-type K′.the-laws k _ is-k))) $ split ! $
+        move ! (3 ∷ 4 ∷ []) $ join ! $ move ! (3 ∷ 0 ∷ []) $ use2 W (raw (Serve 𝓤 H A mem run .pre (to-serve k)) ⊛ (‵ Listed ⊛ ‵ Des)) (ready-serve k (spelt-k k _ is-k)) $ split ! $
         calls-at ! fm (Serve 𝓤 H A mem run) known-serve (to-serve k) (and-then ! (load ! (from ! (stop !)) (look ! 4 refl)) (and-then ! (load ! (from ! (stop !)) (look ! 8 refl)) (and-then ! (load ! (from ! (stop !)) (look ! 6 refl)) (no-more !)))) (λ w₂.
         use1 W (later (some (λ (r : HostTail). ((‵ (flft κ₁ q₁) ⊛ ‵ (flft κ₂ q₂) ⊛ ‵ ftrue) ⊛ ‵ (N.the-row .own r (w₂ ∷ []))) ⊛ raw (ensured 𝓤 H A serve.ended (serve.clauses 𝓤 H A mem run) (κ₁, (κ₂, tt)) (k, (list, (des, tt))) tt r)))) (id⊢ 𝓤 _) $ await ! tt $ pick ! (λ r.
         split ! $ move ! (1 ∷ []) $ use1 W (raw (fact 𝓤 (r ≡ tailNumbers (soughtIn k (list .now) (wantedBy (des .now)))))) (said-serve k r) $ heard ! (r ≡ tailNumbers (soughtIn k (list .now) (wantedBy (des .now)))) (λ e₂. split ! $ move ! (1 ∷ []) $
