@@ -12,11 +12,12 @@ use crate::table::SECONDS;
 use crate::table::SINCE;
 use packed::Figure;
 use packed::write::put;
+use text::fill;
 ghost use mathlib.Core.Path.{_≡_};
 ghost use mathlib.Core.Bool.{true, false};
 ghost use mathlib.Core.List.{[], _∷_, _++_};
 ghost use Prim.Native.Nat.{_+_, _≤_};
-ghost use lib.ListN.{length, replicate};
+ghost use lib.ListN.{length};
 ghost use Rattle.text.specs.Over.{over};
 ghost use Rattle.text.specs.declared.Seen.the-variants.{Fine};
 ghost use Rattle.packed.specs.Packed.{digits, fieldOf, fitting};
@@ -104,17 +105,6 @@ fn put_observation(t: &[u8; 40], o: Observation, n: usize, a: Row, b: Row, c: Ro
     put_water(t, water, third, d);
 }
 
-// An absent observation.
-fn fill(d: &mut [u8])
-    ensures { λ _. ⌜ now (d .exit) ≡ replicate (length (now (d .entry))) 47 ⌝ }
-{
-    let mut i = 0;
-    while i < d.len() {
-        d[i] = b'/';
-        i += 1;
-    }
-}
-
 // The first observation, 27 bytes.
 pub fn write_first(t: &[u8; 40], o: Observation, d: &mut [u8])
     requires { ⌜ now t ≡ digits ⌝ }
@@ -131,7 +121,7 @@ pub fn write_later(t: &[u8; 40], l: Later, d: &mut [u8])
     ensures { λ _. ⌜ now (d .exit) ≡ laterText l ⌝ }
 {
     match l {
-        Later::Absent => fill(d),
+        Later::Absent => fill(d, b'/'),
         Later::Present(o) => put_observation(t, o, 7, CHANGE, CHANGE, SINCE, d),
     }
 }

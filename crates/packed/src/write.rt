@@ -5,11 +5,12 @@ use crate::sign::plus;
 use crate::sign::size;
 use crate::table::digit;
 use crate::table::digit_table;
+use text::fill;
 ghost use mathlib.Core.Path.{_≡_};
 ghost use mathlib.Core.Bool.{true, cond};
 ghost use mathlib.Core.List.{[]};
 ghost use Prim.Native.Nat.{_≤_, _<_};
-ghost use lib.ListN.{length, replicate};
+ghost use lib.ListN.{length};
 ghost use lib.Signed.{mag};
 ghost use Rattle.packed.specs.Packed.{
   digits,
@@ -39,16 +40,6 @@ fn fewest_of(w: usize, m: u32) -> usize
         k = j;
     }
     k
-}
-
-fn fill(out: &mut [u8], b: u8)
-    ensures { λ _. ⌜ now (out .exit) ≡ replicate (length (now (out .entry))) b ⌝ }
-{
-    let mut i = 0;
-    while i < out.len() {
-        out[i] = b;
-        i += 1;
-    }
 }
 
 fn low(n: u32) -> usize

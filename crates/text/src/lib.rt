@@ -1,7 +1,7 @@
 // What every layer above speaks of: bytes, the characters of names, texts written over a buffer.
 ghost use mathlib.Core.Path.{_≡_};
 ghost use mathlib.Core.Bool.{cond};
-ghost use lib.ListN.{length};
+ghost use lib.ListN.{length, replicate};
 ghost use lib.Dec.{leb};
 ghost use Rattle.text.specs.Names.{allowed, allAllowed, isDesignator};
 ghost use Rattle.text.specs.Equal.{sameBytes};
@@ -76,5 +76,16 @@ pub fn copy(d: &mut [u8], s: &[u8])
             d[i] = s[i];
             i += 1;
         }
+    }
+}
+
+// Writes `b` over all of `out`.
+pub fn fill(out: &mut [u8], b: u8)
+    ensures { λ _. ⌜ now (out .exit) ≡ replicate (length (now (out .entry))) b ⌝ }
+{
+    let mut i = 0;
+    while i < out.len() {
+        out[i] = b;
+        i += 1;
     }
 }
