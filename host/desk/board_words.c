@@ -277,18 +277,20 @@ static int act(call *c, int count, char **words)
         return put(c, board_return, count, words);
     if (strcmp(verb, "take") == 0)
         return take(c, count, words);
-    if (c->in_db && count == 1 && strcmp(verb, "list") == 0)
-        return db_look_at(c->file, c->wait, words[0]);
-    if (c->in_db && count == 0 && (strcmp(verb, "list") == 0 || strcmp(verb, "check") == 0))
-        return db_look(c->file, c->wait, strcmp(verb, "list") == 0);
-    if (count < 2 && strcmp(verb, "list") == 0)
-        return count == 0 ? board_look(c->file, 1) : board_look_at(c->file, words[0]);
+    int is_list = strcmp(verb, "list") == 0;
+    int is_check = strcmp(verb, "check") == 0;
+    if (is_list && count > 1)
+        return trouble("list", "give one designator, or none for all");
+    if (is_check && count > 0)
+        return trouble("check", "it takes no words");
+    if (is_list && count == 1)
+        return c->in_db ? db_look_at(c->file, c->wait, words[0]) : board_look_at(c->file, words[0]);
+    if (is_list || is_check)
+        return c->in_db ? db_look(c->file, c->wait, is_list) : board_look(c->file, is_list);
     if (count != 1 && strcmp(verb, "find") == 0)
         return trouble("find", "give what the designators begin with, once; '' for all");
     if (strcmp(verb, "find") == 0)
         return c->in_db ? db_find(c->file, c->wait, words[0]) : board_find(c->file, words[0]);
-    if (count == 0 && strcmp(verb, "check") == 0)
-        return board_look(c->file, 0);
     return trouble(verb, "no such thing to do with a board; --help tells what there is");
 }
 

@@ -86,6 +86,10 @@ answers 2 'no prefix' board tails find
 err_has 'find: give what the designators begin with'
 answers 2 'two of them' board tails find X Y
 err_has 'find: give what the designators begin with'
+answers 2 'two designators' board tails list XY0001 XY0002
+err_has 'list: give one designator, or none for all'
+answers 2 'a word for check' board tails check XY0001
+err_has 'check: it takes no words'
 answers 0 'taken out of the middle' board tails take AB0002
 answers 0 'the others are still found' board tails find AB
 out_is "  slot  2  AB0001 $one"

@@ -58,6 +58,10 @@ answers 1 'small letters' board --db b find xy
 err_has 'prefix: refused: code 4 at byte 0: xy: a designator'
 answers 2 'no prefix' board --db b find
 err_has 'find: give what the designators begin with'
+answers 2 'two designators' board --db b list XY0000 XY0001
+err_has 'list: give one designator, or none for all'
+answers 2 'a word for check' board --db b check XY0000
+err_has 'check: it takes no words'
 answers 2 'seven bytes' board --db b find XY00011
 answers 0 'in words' board --db b list XY0001
 out_has "XY0001  31 bytes  $both" '  from 23:00 up to 01:00, over midnight'
