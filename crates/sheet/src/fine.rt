@@ -1,5 +1,5 @@
-// How far a text is fine, line by line: from there on `check` goes cell by cell. A line that is all there is looked at without a look for its
-// end in each cell, and each kind of cell has a function of its own, in which its form is known where the code is made.
+// How many cells of a text are fine, line by line; from there on `check` goes cell by cell. Where a line is all there, its cells are not tested
+// for the text's end. Each kind of cell has a function of its own: inlined into its loop, the cell's form and label are constants there.
 use crate::Cell;
 use crate::Form;
 use crate::cells::airport_part;

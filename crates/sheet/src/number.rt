@@ -26,7 +26,7 @@ fn one_if(t: bool) -> usize
     if t { 1 } else { 0 }
 }
 
-// In one pass, and no byte decides where it goes on: which they are cannot be foreseen.
+// One pass with no branch on a byte: numbers differ in length and sign from field to field, and a processor guesses such branches wrong.
 fn found_in(f: &[u8]) -> Found
     requires { ⌜ length (now f) ≤ 6 ⌝ }
     ensures { λ r. ⌜ foundIn (now (f .entry)) r ⌝ }
@@ -75,7 +75,7 @@ fn word_of(below: bool, v: usize) -> u16
     v as u16
 }
 
-// Spaces, then `-` or none, then digits to the end: 4, then 6, then 5.
+// Spaces, then `-` or none, then digits to the end: the three then add up to the field's length. 4, then 6, then 5.
 pub fn read_number(l: Limits, f: &[u8]) -> Word
     requires { ⌜ length (now f) ≤ 6 ⌝ }
     requires { ⌜ (l .below ≤ 32768) × (l .most ≤ 32767) ⌝ }
