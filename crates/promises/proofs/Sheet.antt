@@ -26,7 +26,7 @@ use Rattle.sheet.proofs.Codes.{coded, textCodes, recordCodes, text-codes, recor
 use Rattle.sheet.proofs.Small.{not-held, airport-label}
 use Rattle.sheet.proofs.TextOfRead.{text-of-read, name-there}
 use Rattle.sheet.proofs.ReadOfText.{text-accepted, text-length, read-of-text}
-use Rattle.sheet.proofs.Allowed.{allowed-fine, fine-allowed, read-fine, read-sized, read-allowed}
+use Rattle.sheet.proofs.Allowed.{allowed-fine, fine-allowed, read-fine, read-sized, read-allowed, widths}
 use Rattle.sheet.proofs.Ends.{has, early-end, goes-on, wholeCodes, whole-codes}
 use Rattle.sheet.proofs.Printed.{printed-accepted, printed-read}
 use Rattle.desk.specs.Numbers.{accepted, answerOf, checkNumbers, writeNumbers}
@@ -265,5 +265,6 @@ sheet-promises =
       empty = empty;
       eight = eight;
       names = names;
+      widths = widths;
       printed-one = printed-one;
     }

@@ -4,15 +4,17 @@ use mathlib.Core.Path.{_≡_}
 use mathlib.Core.Logic.{_↔_}
 use mathlib.Core.Bool.{true}
 use mathlib.Core.List.{List, [], _∷_, _++_}
-use Prim.Native.Nat.{ℕ, suc, _*_, _≤_, _<_}
-use lib.ListN.{length, take, drop}
+use Prim.Native.Nat.{ℕ, suc, _*_, _^_, _≤_, _<_}
+use lib.ListN.{length, getD, take, drop}
 use Rattle.text.specs.Bytes.{isOneOf}
 use Rattle.text.specs.Parts.{part}
 use Rattle.packed.specs.Packed.{trim}
 use Rattle.sheet.specs.Layout.{cellAt}
 use Rattle.sheet.specs.Sheet.{checkSheet, readSheet, noSheet, sheetText, writeSeen, leftBy, labelOf, fieldAt, nameCell, numeral, Has, beginsAt}
-use Rattle.sheet.specs.Allowed.{Allowed, Sized}
+use Rattle.sheet.specs.Allowed.{from, numberLimits, Allowed, Sized}
 use Rattle.sheet.specs.Printed.{printed, printedSheet}
+use Rattle.sheet.specs.declared.Limits.{Limits}
+use Rattle.sheet.specs.declared.Form.the-variants.{Number}
 use Rattle.sheet.specs.declared.Sheet.{Sheet}
 use Rattle.desk.specs.Numbers.{accepted, answerOf, checkNumbers, writeNumbers}
 use Rattle.desk.specs.Sheets.{sheetNumbers}
@@ -78,5 +80,7 @@ pub record SheetPromises : Type 0 where
   pub names : (s : List ℕ) (n : ℕ) → check s .code ≡ 0 → n < 50
       → (part (5 * n) 4 (read s .sheet .airports) ≡ part (fieldAt (cellAt (nameCell n))) 4 s)
       × (trim (labelOf (cellAt (nameCell n))) ≡ 65 ∷ numeral (suc n))
+  -- "where it says only Integer, the widths of its layout": the greatest number of lines 2 to 4 is the greatest that its field's bytes show
+  pub widths : (i w : ℕ) (l : Limits) → i < 16 → cellAt (suc i) .form ≡ Number w l → suc (getD numberLimits i (from 0 0) .most) ≡ 10 ^ w
   -- the printed sheet: there are accepted texts, and so allowed records
   pub printed-one : read printed ≡ record { answer = accepted 0; sheet = printedSheet; spare = 0 }

@@ -2,7 +2,7 @@
 use mathlib.Core.Path.{_≡_, refl, sym, ap, _∙_}
 use mathlib.Core.Bool.{Bool, true, false, cond, _&&_}
 use mathlib.Core.List.{List, [], _∷_}
-use Prim.Native.Nat.{ℕ, suc, _+_, _-_, _*_, _%_, _≤_, _<_}
+use Prim.Native.Nat.{ℕ, suc, _+_, _-_, _*_, _%_, _^_, _≤_, _<_}
 use native.Mathlib.Omega.{arith}
 use lib.Dec.{leb, eqb}
 use lib.ListN.{getD}
@@ -64,6 +64,20 @@ number-limits i h = same-is (limitsOf (cellAt (1 + i) .form)) (getD numberLimits
 
 edge-limits : (i : ℕ) → i < 50 → limitsOf (cellAt (17 + i) .form) ≡ getD boxLimits (i % 5) (from 0 0)
 edge-limits i h = same-is (limitsOf (cellAt (17 + i) .form)) (getD boxLimits (i % 5) (from 0 0)) (edge-cells i h)
+
+-- a number that is not in degrees goes as far as its width does
+abbrev fills : Form → ℕ → Bool
+fills (Name w) most = true
+fills Switch most = true
+fills (Digit d) most = true
+fills (Number w l) most = eqb (suc most) (10 ^ w)
+
+width-cells : (i : ℕ) → i < 16 → fills (cellAt (suc i) .form) (getD numberLimits i (from 0 0) .most) ≡ true
+unfolding cellAt boxCell airportCell
+width-cells = every (λ i. fills (cellAt (suc i) .form) (getD numberLimits i (from 0 0) .most)) 16 refl
+
+pub widths : (i w : ℕ) (l : Limits) → i < 16 → cellAt (suc i) .form ≡ Number w l → suc (getD numberLimits i (from 0 0) .most) ≡ 10 ^ w
+widths i w l h e = eqb-true (suc (getD numberLimits i (from 0 0) .most)) (10 ^ w) (rw e at (width-cells i h))
 
 -- few values from 0 on
 few-within : (most w : ℕ) → most < 32768 → w < 65536 → within (from 0 most) (isBelow w) (sizeOf w) ≡ leb w most

@@ -14,35 +14,58 @@ use Rattle.sheet.specs.Number.{isBelow, sizeOf, within}
 abbrev pub from : ℕ → ℕ → Limits
 from least most = record { below = 0; least = least; most = most }
 
--- so far on either side of zero
-abbrev pub around : ℕ → Limits
-around most = record { below = most; least = 0; most = most }
+-- minutes, so many degrees on either side of zero
+abbrev pub degrees : ℕ → Limits
+degrees d = record { below = 60 * d; least = 0; most = 60 * d }
+
+abbrev pub switch : Limits
+switch = from 0 1
+
+-- hPa between two observations
+abbrev pub interval : Limits
+interval = from 1 99
+
+abbrev pub seconds : Limits
+seconds = from 0 999
+
+-- hPa of a trigger level
+abbrev pub level : Limits
+level = from 0 9999
+
+abbrev pub observations : Limits
+observations = from 0 99
+
+abbrev pub method : Limits
+method = from 0 2
+
+abbrev pub constant : Limits
+constant = from 0 9
 
 -- ascent and its two intervals, level flight and its interval, descent and its two intervals; two trigger levels, observations; smoothing and
 -- four time constants
 abbrev pub numberLimits : List Limits
 numberLimits =
-    from 0 1
-    ∷ from 1 99
-    ∷ from 1 99
-    ∷ from 0 1
-    ∷ from 0 999
-    ∷ from 0 1
-    ∷ from 1 99
-    ∷ from 1 99
-    ∷ from 0 9999
-    ∷ from 0 9999
-    ∷ from 0 99
-    ∷ from 0 2
-    ∷ from 0 9
-    ∷ from 0 9
-    ∷ from 0 9
-    ∷ from 0 9
+    switch
+    ∷ interval
+    ∷ interval
+    ∷ switch
+    ∷ seconds
+    ∷ switch
+    ∷ interval
+    ∷ interval
+    ∷ level
+    ∷ level
+    ∷ observations
+    ∷ method
+    ∷ constant
+    ∷ constant
+    ∷ constant
+    ∷ constant
     ∷ []
 
--- two corners in minutes, latitude before longitude, and a status
+-- two corners, latitude before longitude, anywhere on the globe, and a status
 abbrev pub boxLimits : List Limits
-boxLimits = around 5400 ∷ around 10800 ∷ around 5400 ∷ around 10800 ∷ from 0 1 ∷ []
+boxLimits = degrees 90 ∷ degrees 180 ∷ degrees 90 ∷ degrees 180 ∷ switch ∷ []
 
 -- a word of 16 bits, as C's int16_t has it
 abbrev pub InRange : Limits → ℕ → Type 0
