@@ -1,4 +1,6 @@
 // The board of commands that wait for aircraft out of coverage.
+#![tactic(auto)]
+
 pub mod hand;
 pub mod look;
 pub mod place;
@@ -11,7 +13,7 @@ pub const TOO_MANY: usize = MOST_SLOTS + 1;
 
 // One slot: for which aircraft, and how long the text is that waits. Length 0 is free.
 #[repr(C)]
-#[derive(Drop)]
+#[derive(Clone, Copy)]
 pub struct Slot {
     pub designator: [u8; 6],
     pub length: u16,
@@ -19,7 +21,7 @@ pub struct Slot {
 
 // The aircraft that a call is about; where its designator is not six allowed bytes, `fine` is false and the bytes are zero.
 #[repr(C)]
-#[derive(Drop)]
+#[derive(Clone, Copy)]
 pub struct Wanted {
     pub designator: [u8; 6],
     pub fine: bool,
@@ -28,7 +30,7 @@ pub struct Wanted {
 // What one look over the slots finds. `own` is the slot that waits for the aircraft and `length` its text's, `free` the
 // lowest free slot; each is `count`, the number of slots, where there is none.
 #[repr(C)]
-#[derive(Drop)]
+#[derive(Clone, Copy)]
 pub struct Findings {
     pub valid: bool,
     pub length: u16,
@@ -39,7 +41,7 @@ pub struct Findings {
 
 // What a call did: the answer's code, place and length, and the slot that is then stored at `at`, which is `count` where none is.
 #[repr(C)]
-#[derive(Drop)]
+#[derive(Clone, Copy)]
 pub struct Done {
     pub code: u8,
     pub place: usize,

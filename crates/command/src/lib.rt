@@ -1,4 +1,6 @@
 // The uplink command of document 01.
+#![tactic(auto)]
+
 pub mod check;
 pub mod read;
 
@@ -10,7 +12,7 @@ pub const LONGEST: usize = 845;
 // What a command carries: flags 0, 1 or 9 (no change), the sections that it names, all others zero; the downlink digit;
 // and for each section number from 2 on, that number where the section is named, else 0; `spare` is 0.
 #[repr(C)]
-#[derive(Drop)]
+#[derive(Clone, Copy)]
 pub struct Command {
     pub settings: Settings,
     pub downlink: u8,
@@ -19,7 +21,7 @@ pub struct Command {
 }
 
 // What reading means: the command, or the refusal's code and place beside the one empty command. Contracts speak of it.
-#[derive(Drop)]
+#[derive(Clone, Copy)]
 pub struct Got {
     pub code: u8,
     pub place: usize,

@@ -1,4 +1,6 @@
 // When two commands may be sent either way round: which flags and sections both set, and differently.
+#![tactic(auto)]
+
 ghost use Rattle.std.specs.Prelude.{◌≡◌, cond, ◌&&◌, ◌≤◌, length};
 ghost use Rattle.section.specs.Layout.{numbers};
 ghost use Rattle.command.specs.Text.{is_named};
@@ -9,7 +11,7 @@ use command::check::{is_named, walk};
 use text::{Seen, same_bytes};
 
 // The flags and the sections that both set differently, a bit for each, or the refusal's code and place and which text is at fault.
-#[derive(Drop)]
+#[derive(Clone, Copy)]
 pub enum Compared {
     Apart(u8, u8),
     Refused(u8, usize, u8),

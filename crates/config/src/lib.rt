@@ -1,4 +1,6 @@
 // The onboard configuration that a command changes.
+#![tactic(auto)]
+
 pub mod applying;
 pub mod flags;
 
@@ -6,7 +8,7 @@ use settings::Settings;
 
 // What applying a command gives: the downlink digit that it asks for and the settings afterwards, or the refusal's code
 // and place beside the one empty digit and settings.
-#[derive(Drop)]
+#[derive(Clone, Copy)]
 pub struct Applied {
     pub code: u8,
     pub place: usize,

@@ -1,10 +1,12 @@
 // Whether an aircraft reports, and why.
+#![tactic(auto)]
+
 mod airfield;
 mod boxes;
 pub mod rules;
 mod window;
 
-#[derive(Drop)]
+#[derive(Clone, Copy)]
 pub enum Decision {
     Silent,
     Routine,
@@ -13,7 +15,7 @@ pub enum Decision {
 
 // Why, in document 02's order. Boxes and flags are numbered from 1: a box by the lowest number of those that hold the place,
 // a flag 5 (ascent), 6 (enroute) or 7 (descent). A digit is named by its section: 3, 6 or 8.
-#[derive(Drop)]
+#[derive(Clone, Copy)]
 pub enum Reason {
     AmdarOff,
     Hours,
@@ -27,14 +29,14 @@ pub enum Reason {
 }
 
 // The reason, or the refusal's code.
-#[derive(Drop)]
+#[derive(Clone, Copy)]
 pub enum Explained {
     Because(Reason),
     Refusal(u8),
 }
 
 // The decision, or the refusal's code.
-#[derive(Drop)]
+#[derive(Clone, Copy)]
 pub enum Decided {
     Is(Decision),
     Refused(u8),

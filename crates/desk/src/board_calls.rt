@@ -14,7 +14,7 @@ use board::{Done, Findings, Slot, Wanted};
 
 // What the host is told, and the slot that is then stored.
 #[repr(C)]
-#[derive(Drop)]
+#[derive(Clone, Copy)]
 pub struct Served {
     pub answer: Answer,
     pub at: usize,

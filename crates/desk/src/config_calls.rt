@@ -35,7 +35,7 @@ pub extern "C" fn esk_settings_valid(settings: &Settings) -> Answer
 }
 
 // What the host is told, and the settings that an accepted command leaves.
-#[derive(Drop)]
+#[derive(Clone, Copy)]
 pub struct Outcome {
     pub answer: HostApplied,
     pub settings: Settings,

@@ -121,7 +121,7 @@ pub extern "C" fn esk_journal_print(journal: &[u8], end: usize, out: &mut [u8]) 
 }
 
 // What the host is told, and the settings that are then stored.
-#[derive(Drop)]
+#[derive(Clone, Copy)]
 pub struct ReplayOutcome {
     pub answer: Answer,
     pub settings: Settings,

@@ -1,4 +1,6 @@
 // The exported calls, for the host program in C. Each takes numbers and byte strings, and its answer is made of numbers.
+#![tactic(auto)]
+
 mod answers;
 mod board_calls;
 mod command_calls;
@@ -24,7 +26,7 @@ use track::HostPoint;
 
 // The answer of a call that checks or writes.
 #[repr(C)]
-#[derive(Drop)]
+#[derive(Clone, Copy)]
 pub struct Answer {
     pub place: usize,
     pub length: u32,
@@ -35,7 +37,7 @@ pub struct Answer {
 
 // The answer of reading a packed field.
 #[repr(C)]
-#[derive(Drop)]
+#[derive(Clone, Copy)]
 pub struct PackedAnswer {
     pub number: i32,
     pub place: u16,
@@ -45,7 +47,7 @@ pub struct PackedAnswer {
 
 // The answer of reading a report.
 #[repr(C)]
-#[derive(Drop)]
+#[derive(Clone, Copy)]
 pub struct ReportAnswer {
     pub answer: Answer,
     pub report: HostReport,
@@ -53,7 +55,7 @@ pub struct ReportAnswer {
 
 // The answer of following a report: a point for each present observation; those from the count on are all 0.
 #[repr(C)]
-#[derive(Drop)]
+#[derive(Clone, Copy)]
 pub struct HostTrack {
     pub answer: Answer,
     pub count: u32,
@@ -63,7 +65,7 @@ pub struct HostTrack {
 
 // The answer of reading a status sheet.
 #[repr(C)]
-#[derive(Drop)]
+#[derive(Clone, Copy)]
 pub struct SheetAnswer {
     pub answer: Answer,
     pub sheet: Sheet,
@@ -72,7 +74,7 @@ pub struct SheetAnswer {
 
 // The answer of reading a command.
 #[repr(C)]
-#[derive(Drop)]
+#[derive(Clone, Copy)]
 pub struct CommandAnswer {
     pub answer: Answer,
     pub command: Command,
@@ -80,7 +82,7 @@ pub struct CommandAnswer {
 
 // The answer of applying a command: the digit where it is accepted.
 #[repr(C)]
-#[derive(Drop)]
+#[derive(Clone, Copy)]
 pub struct HostApplied {
     pub place: usize,
     pub code: u8,
@@ -91,7 +93,7 @@ pub struct HostApplied {
 
 // The answer of why: the decision, and the reason with its number, both 0 in a refusal.
 #[repr(C)]
-#[derive(Drop)]
+#[derive(Clone, Copy)]
 pub struct HostExplained {
     pub place: usize,
     pub code: u8,
@@ -103,7 +105,7 @@ pub struct HostExplained {
 
 // The answer of whether to report: 0 silent, 1 routine, 2 scheme.
 #[repr(C)]
-#[derive(Drop)]
+#[derive(Clone, Copy)]
 pub struct HostDecided {
     pub place: usize,
     pub code: u8,
@@ -115,7 +117,7 @@ pub struct HostDecided {
 // The answer of whether two commands may be sent either way round: yes 1 or 0, and a bit for each flag and section that both set
 // differently. All are 0 in a refusal.
 #[repr(C)]
-#[derive(Drop)]
+#[derive(Clone, Copy)]
 pub struct HostCommute {
     pub place: usize,
     pub code: u8,
@@ -130,7 +132,7 @@ pub struct HostCommute {
 // The answer of a search through a board's list: the slot, and how many of the list come before the aircraft. Where none waits for it
 // the code is 11 and the slot 0; both are 0 in another refusal.
 #[repr(C)]
-#[derive(Drop)]
+#[derive(Clone, Copy)]
 pub struct HostTail {
     pub place: usize,
     pub code: u8,
@@ -143,7 +145,7 @@ pub struct HostTail {
 // The answer of what differs between two configurations: how many flags and sections, and which. Flags are 1 to 7, a section is 10 and
 // its number; entries from the count on are 0, all in a refusal.
 #[repr(C)]
-#[derive(Drop)]
+#[derive(Clone, Copy)]
 pub struct HostDiffering {
     pub answer: Answer,
     pub count: u8,
@@ -153,7 +155,7 @@ pub struct HostDiffering {
 // The answer of a step from the end of a journal: where an entry starts, where its text does and how long that is. `given` is 0
 // where no entry is left, and in a refusal.
 #[repr(C)]
-#[derive(Drop)]
+#[derive(Clone, Copy)]
 pub struct HostEntry {
     pub place: usize,
     pub offset: usize,
@@ -167,7 +169,7 @@ pub struct HostEntry {
 // The answer of finding a section: where its part of the text begins and how long it is, both 0 where it isn't named; or the
 // refusal's place, and no length.
 #[repr(C)]
-#[derive(Drop)]
+#[derive(Clone, Copy)]
 pub struct HostPart {
     pub place: usize,
     pub length: u32,
@@ -178,7 +180,7 @@ pub struct HostPart {
 
 // The answer of esk_gust: tenths of a metre a second, 0 in a refusal. The place of a refusal is always 0.
 #[repr(C)]
-#[derive(Drop)]
+#[derive(Clone, Copy)]
 pub struct HostGust {
     pub gust: i32,
     pub code: u8,

@@ -1,4 +1,6 @@
 // What differs between two configurations: the list of flags and sections, and the command that makes the first into the second.
+#![tactic(auto)]
+
 pub mod between;
 pub mod listing;
 pub mod same;
@@ -13,14 +15,14 @@ use settings::Settings;
 use settings::valid::is_valid;
 
 // Flags are 1 to 7, a section is 10 and its number; entries from the count on are 0.
-#[derive(Drop)]
+#[derive(Clone, Copy)]
 pub struct Listed {
     pub count: u8,
     pub items: [u8; 15],
 }
 
 // The list and the command's length, or the refusal's code beside the empty list. The place of a refusal is 0.
-#[derive(Drop)]
+#[derive(Clone, Copy)]
 pub struct Differing {
     pub code: u8,
     pub length: usize,

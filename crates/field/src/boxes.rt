@@ -8,7 +8,7 @@ use crate::fine::is_fine;
 use crate::{Circle, Step};
 
 // Where an edge lies, in degrees from 1000 below zero, or the code of its refusal.
-#[derive(Drop)]
+#[derive(Clone, Copy)]
 enum Line {
     Lies(usize),
     Wrong(u8),

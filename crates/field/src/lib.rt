@@ -1,4 +1,6 @@
 // The fields that a command's sections are made of: numbers, marks, airfields, edges, boxes.
+#![tactic(auto)]
+
 pub mod boxes;
 pub mod check;
 pub mod digits;
@@ -8,14 +10,14 @@ pub mod record;
 pub mod write;
 
 // Where a check of a text has come to: the place behind what was checked, or the refusal's code and place.
-#[derive(Drop)]
+#[derive(Clone, Copy)]
 pub enum Step {
     Next(usize),
     Stop(u8, usize),
 }
 
 // How an edge is spelt: its digits, the most degrees, the letter at and above zero, the letter below it.
-#[derive(Drop)]
+#[derive(Clone, Copy)]
 pub struct Circle {
     pub width: usize,
     pub most: usize,
@@ -25,14 +27,14 @@ pub struct Circle {
 
 // An edge of a box: whole degrees, and on which side of zero they lie, as its letter.
 #[repr(C)]
-#[derive(Drop)]
+#[derive(Clone, Copy)]
 pub struct Edge {
     pub degrees: u8,
     pub letter: u8,
 }
 
 #[repr(C)]
-#[derive(Drop)]
+#[derive(Clone, Copy)]
 pub struct Region {
     pub north: Edge,
     pub south: Edge,

@@ -1,4 +1,6 @@
 // The derived equivalent gust of document 02, §10, in tenths of a metre a second.
+#![tactic(auto)]
+
 pub mod answer;
 mod floor;
 mod formula;
@@ -6,7 +8,7 @@ mod rows;
 
 // A type of aircraft: its constants as whole numbers, 1000·c1, 1,000,000·c2, 1000·c3, 100·c4 and 1000·c5, and its
 // reference mass in kilograms.
-#[derive(Drop)]
+#[derive(Clone, Copy)]
 pub struct Row {
     pub c1: i64,
     pub c2: i64,
@@ -17,7 +19,7 @@ pub struct Row {
 }
 
 // A gust, or the refusal's code. The place is always 0.
-#[derive(Drop)]
+#[derive(Clone, Copy)]
 pub enum Derived {
     Gust(i32),
     Refused(u8),

@@ -1,5 +1,7 @@
 // Two commands joined into one: each flag and section from the second text where it sets one, else from the first; the
 // larger downlink digit is kept.
+#![tactic(auto)]
+
 mod head;
 mod sections;
 
@@ -14,7 +16,7 @@ use command::check::walk;
 use text::Seen;
 
 // The joined text's length, or the refusal's code and place and which text is at fault.
-#[derive(Drop)]
+#[derive(Clone, Copy)]
 pub enum Told {
     Text(usize),
     Refused(u8, usize, u8),

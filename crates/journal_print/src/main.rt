@@ -1,5 +1,7 @@
 // Prints journals, newest entry first: each file that an argument names, or standard input where there is no argument. Of a broken
 // journal nothing is printed.
+#![tactic(auto)]
+
 use journal::Told;
 use journal::print::print;
 use libc::{STDIN_FILENO, STDOUT_FILENO};

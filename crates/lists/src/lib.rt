@@ -1,4 +1,6 @@
 // The counted lists of a command: airfields and boxes. Unused entries of a record are zero.
+#![tactic(auto)]
+
 use field::Region;
 
 pub mod check;
@@ -13,14 +15,14 @@ pub const MOST_AIRFIELDS: usize = 20;
 pub const NAME_BYTES: usize = 4 * MOST_AIRFIELDS;
 
 #[repr(C)]
-#[derive(Drop)]
+#[derive(Clone, Copy)]
 pub struct Airfields {
     pub count: u8,
     pub names: [u8; NAME_BYTES],
 }
 
 #[repr(C)]
-#[derive(Drop)]
+#[derive(Clone, Copy)]
 pub struct Boxes {
     pub count: u8,
     pub regions: [Region; MOST_BOXES],

@@ -1,4 +1,6 @@
 // One observation of a report: the first, with an absolute position and time, or a later one, with changes.
+#![tactic(auto)]
+
 mod byte;
 pub mod check;
 mod gather;
@@ -11,7 +13,7 @@ pub mod write;
 use packed::Figure;
 
 // A figure's place in an observation: how wide it is written, and the least and the greatest it may be.
-#[derive(Drop)]
+#[derive(Clone, Copy)]
 pub struct Row {
     pub width: usize,
     pub least: i32,
@@ -19,14 +21,14 @@ pub struct Row {
 }
 
 // Where and when: absolute in the first observation, changes since the previous in a later one.
-#[derive(Drop)]
+#[derive(Clone, Copy)]
 pub struct Position {
     pub latitude: Figure,
     pub longitude: Figure,
     pub time: Figure,
 }
 
-#[derive(Drop)]
+#[derive(Clone, Copy)]
 pub struct Air {
     pub altitude: Figure,
     pub temperature: Figure,
@@ -34,14 +36,14 @@ pub struct Air {
     pub speed: Figure,
 }
 
-#[derive(Drop)]
+#[derive(Clone, Copy)]
 pub struct Water {
     pub gust: Figure,
     pub vapour: Figure,
     pub quality: u8,
 }
 
-#[derive(Drop)]
+#[derive(Clone, Copy)]
 pub struct Observation {
     pub kind: u8,
     pub position: Position,
@@ -50,28 +52,28 @@ pub struct Observation {
 }
 
 // A later observation is present or absent.
-#[derive(Drop)]
+#[derive(Clone, Copy)]
 pub enum Later {
     Present(Observation),
     Absent,
 }
 
 // What reading the first observation gives.
-#[derive(Drop)]
+#[derive(Clone, Copy)]
 pub enum FirstRead {
     Is(Observation),
     Not(u8, usize),
 }
 
 // What reading a later observation gives.
-#[derive(Drop)]
+#[derive(Clone, Copy)]
 pub enum LaterRead {
     Is(Later),
     Not(u8, usize),
 }
 
 // What a later observation's part is found to be: an observation, an absent one, or refused with code and place.
-#[derive(Drop)]
+#[derive(Clone, Copy)]
 pub enum Found {
     Present,
     Absent,
@@ -79,19 +81,19 @@ pub enum Found {
 }
 
 // What reading each group of figures gives.
-#[derive(Drop)]
+#[derive(Clone, Copy)]
 enum PositionRead {
     Is(Position),
     Not(u8, usize),
 }
 
-#[derive(Drop)]
+#[derive(Clone, Copy)]
 enum AirRead {
     Is(Air),
     Not(u8, usize),
 }
 
-#[derive(Drop)]
+#[derive(Clone, Copy)]
 enum WaterRead {
     Is(Water),
     Not(u8, usize),

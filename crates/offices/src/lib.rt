@@ -1,4 +1,6 @@
 // Two offices, one board: a command is added within its office's grant.
+#![tactic(auto)]
+
 ghost use Rattle.std.specs.Prelude.{◌≡◌, ◌≤◌, length};
 ghost use Rattle.board.specs.Lent.{on_area};
 ghost use Rattle.board.specs.Inner.{done_of};
@@ -13,7 +15,7 @@ use text::Seen;
 
 // What an office may do: a byte that is not 0 grants. Its order is that of a command's bytes 5 to 20.
 #[repr(C)]
-#[derive(Drop)]
+#[derive(Clone, Copy)]
 pub struct Grant {
     pub flags: [u8; 7],
     pub downlinks: u8,

@@ -1,4 +1,6 @@
 // The packed field of document 01: a figure in base 40, given or missing, in 1 to 5 bytes.
+#![tactic(auto)]
+
 pub mod decode;
 pub mod read;
 pub mod sign;
@@ -6,14 +8,14 @@ pub mod table;
 pub mod write;
 
 // What a field or a record holds: a number, or that there is none.
-#[derive(Drop)]
+#[derive(Clone, Copy)]
 pub enum Figure {
     Given(i32),
     Missing,
 }
 
 // What reading a field gives: what it holds, or the refusal's code and its place in the field.
-#[derive(Drop)]
+#[derive(Clone, Copy)]
 pub enum Packed {
     Is(Figure),
     Refused(u8, usize),
@@ -21,7 +23,7 @@ pub enum Packed {
 
 // A field as it is decoded without a branch: whether it is a missing figure or a given one, and which number that is.
 // The number of any other field says nothing.
-#[derive(Drop)]
+#[derive(Clone, Copy)]
 pub struct Decoded {
     pub missing: bool,
     pub given: bool,

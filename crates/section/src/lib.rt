@@ -1,10 +1,12 @@
 // The sections of a command, by their numbers 2 to 9: what each is made of, and its text.
+#![tactic(auto)]
+
 pub mod check;
 pub mod numbers;
 pub mod table;
 
 // Digits: how many, the least and the most that they spell, and the code of another number.
-#[derive(Drop)]
+#[derive(Clone, Copy)]
 pub struct Row {
     pub code: u8,
     pub width: u8,
@@ -13,7 +15,7 @@ pub struct Row {
 }
 
 // A section: so many lists of boxes, so many of airfields, then digits, as its rows say, `count` of them, and `/`.
-#[derive(Drop)]
+#[derive(Clone, Copy)]
 pub struct Layout {
     pub boxes: usize,
     pub airfields: usize,

@@ -1,5 +1,7 @@
 // The record of flags and sections: what an aircraft holds, and what a command carries of it. Empty, zero, within its limits, reset; each
 // section out of its text and into it.
+#![tactic(auto)]
+
 use lists::{Airfields, Boxes};
 
 pub mod empty;
@@ -12,7 +14,7 @@ pub mod valid;
 
 // Section 2.
 #[repr(C)]
-#[derive(Drop)]
+#[derive(Clone, Copy)]
 pub struct Regions {
     pub reporting: Boxes,
     pub inhibiting: Boxes,
@@ -20,7 +22,7 @@ pub struct Regions {
 
 // An airfield list for each phase that has one.
 #[repr(C)]
-#[derive(Drop)]
+#[derive(Clone, Copy)]
 pub struct ByPhase {
     pub ascent: Airfields,
     pub descent: Airfields,
@@ -28,7 +30,7 @@ pub struct ByPhase {
 
 // Section 3.
 #[repr(C)]
-#[derive(Drop)]
+#[derive(Clone, Copy)]
 pub struct Airports {
     pub selected: ByPhase,
     pub inhibited: ByPhase,
@@ -37,7 +39,7 @@ pub struct Airports {
 
 // Section 4: the interval, and whether the maximum wind is reported.
 #[repr(C)]
-#[derive(Drop)]
+#[derive(Clone, Copy)]
 pub struct Enroute {
     pub interval: u8,
     pub wind: u8,
@@ -45,7 +47,7 @@ pub struct Enroute {
 
 // Section 5.
 #[repr(C)]
-#[derive(Drop)]
+#[derive(Clone, Copy)]
 pub struct Ascent {
     pub mode: u8,
     pub interval1: u8,
@@ -59,7 +61,7 @@ pub struct Ascent {
 
 // Section 7. The mode is 0 or 1: 16 bits hold it so that nothing stands between the members.
 #[repr(C)]
-#[derive(Drop)]
+#[derive(Clone, Copy)]
 pub struct Descent {
     pub mode: u16,
     pub interval: u16,
@@ -70,7 +72,7 @@ pub struct Descent {
 
 // Section 9.
 #[repr(C)]
-#[derive(Drop)]
+#[derive(Clone, Copy)]
 pub struct Hours {
     pub start: u8,
     pub end: u8,
@@ -78,7 +80,7 @@ pub struct Hours {
 
 // Seven flags and every section.
 #[repr(C)]
-#[derive(Drop)]
+#[derive(Clone, Copy)]
 pub struct Settings {
     pub flags: [u8; 7],
     pub regions: Regions,
@@ -92,7 +94,7 @@ pub struct Settings {
 }
 
 // The sections of numbers alone, 4 to 9: small enough to be handed on by value, where the lists would be copied.
-#[derive(Drop)]
+#[derive(Clone, Copy)]
 pub struct Fixed {
     pub enroute: Enroute,
     pub ascent: Ascent,

@@ -12,7 +12,7 @@ use field::Step;
 use field::digits::value_at;
 
 // Where the four lists of section 3 stand, and the digit behind them.
-#[derive(Drop)]
+#[derive(Clone, Copy)]
 pub struct ListPlaces {
     pub first: usize,
     pub second: usize,

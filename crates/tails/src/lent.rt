@@ -11,7 +11,7 @@ use crate::search::{Tail, byte, place_of, slot_at};
 use board::{Findings, Slot, Wanted};
 
 // Where an aircraft waits: its slot, and how many of the list come before it. Where none waits for it the code is 11 and the slot 0.
-#[derive(Drop)]
+#[derive(Clone, Copy)]
 pub struct Sought {
     pub code: u8,
     pub slot: u8,

@@ -3,7 +3,7 @@ ghost use Rattle.std.specs.Prelude.{◌≡◌, true, ◌≤◌, ◌<◌, length}
 ghost use Rattle.tails.specs.Tails.{below, sorted, all_slots, find_in};
 
 // Where a key is found: a slot's number.
-#[derive(Drop)]
+#[derive(Clone, Copy)]
 pub enum Tail {
     At(u8),
     Nowhere,

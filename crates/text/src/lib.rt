@@ -1,11 +1,13 @@
 // What every layer above speaks of: bytes, the characters of names, texts written over a buffer.
+#![tactic(auto)]
+
 ghost use Rattle.std.specs.Prelude.{◌≡◌, cond, length, replicate, leb};
 ghost use Rattle.text.specs.Names.{allowed, all_allowed, is_designator};
 ghost use Rattle.text.specs.Equal.{same_bytes};
 ghost use Rattle.text.specs.Over.{over};
 
 // What a check finds: all fine, or a refusal with its code and its place.
-#[derive(Drop)]
+#[derive(Clone, Copy)]
 pub enum Seen {
     Fine,
     Bad(u8, usize),
