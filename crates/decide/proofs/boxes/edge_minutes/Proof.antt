@@ -16,7 +16,7 @@ line-of-requires c κs = search rules
 mul-result : tie.Need-overflow-mul-result
 mul-result c =
     let a = c.before.args in
-    omega (arith, c.Line-of.ensures, line_small a.c a.e, small c.before)
+    omega (arith, c.line-of.ensures, line_small a.c a.e, small c.before)
 
 returns : tie.Need-returns
 returns c = search rules

@@ -32,7 +32,7 @@ returns : tie.Need-returns
 returns c =
     c.host-explained.ensures
     ∙ rw (
-      c.before.Named-by.ensures,
+      c.before.named-by.ensures,
       c.before.before.code_of.ensures,
       c.before.before.before.number_of_lem.ensures,
       c.before.before.before.before.decision-of.ensures,

@@ -14,7 +14,7 @@ shared-slice-read-t7 : tie.Need-shared-slice-read-t7
 shared-slice-read-t7 c = omega arith
 
 returns : tie.Need-returns
-returns c = rw c.before.Small-at.ensures
+returns c = rw c.before.small-at.ensures
 
 pub edge-at-spec : {M : Type 1} → statement M
 edge-at-spec = tie.close (tie.spec add-last small-at-requires shared-slice-read-t7 returns)

@@ -18,7 +18,7 @@ second c = sym c.before.before.edge-allowed2.ensures ∙ c.enum-told2.given.1
 tested : (c : tie.After-in-order)
     → let a = c.before.before.before.before.before.before.before.before.before.args in
     in_order a.falling a.c a.first a.second ≡ c.in_order.result
-tested c = sym (c.in_order.ensures ∙ rw (c.before.line-of2.ensures, c.before.before.Line-of.ensures))
+tested c = sym (c.in_order.ensures ∙ rw (c.before.line-of2.ensures, c.before.before.line-of.ensures))
 
 edge-allowed-requires : tie.Need-edge-allowed-requires
 edge-allowed-requires c κs = tt

@@ -14,7 +14,7 @@ named : (c : tie.Start) → let a = c.args in Named a.s.now a.at (a.at + 2 + 4 *
 named c = airfields _ _ _ c.requires.1
 
 counted : (c : tie.After-wide) → c.wide.result ≡ count_at c.before.before.before.args.s.now c.before.before.before.args.at
-counted c = c.wide.ensures ∙ c.before.Small-at.ensures
+counted c = c.wide.ensures ∙ c.before.small-at.ensures
 
 small-at-requires : tie.Need-small-at-requires
 small-at-requires c κs =
@@ -38,7 +38,7 @@ names-of-requires c κs =
 
 returns : tie.Need-returns
 unfolding airfields_at
-returns c = rw (c.names_of.ensures, counted c.before, c.before.before.Small-at.ensures)
+returns c = rw (c.names_of.ensures, counted c.before, c.before.before.small-at.ensures)
 
 pub airfields-at-spec : {M : Type 1} → statement M
 airfields-at-spec =

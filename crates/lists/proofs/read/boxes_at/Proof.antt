@@ -15,7 +15,7 @@ listed : (c : tie.Start) → let a = c.args in Counted 16 check_box a.s.now a.at
 listed c = counted _ _ _ _ _ c.requires.1
 
 many : (c : tie.After-wide) → c.wide.result ≡ count_at c.before.before.before.args.s.now c.before.before.before.args.at
-many c = c.wide.ensures ∙ c.before.Small-at.ensures
+many c = c.wide.ensures ∙ c.before.small-at.ensures
 
 small-at-requires : tie.Need-small-at-requires
 small-at-requires c κs =
@@ -36,7 +36,7 @@ regions-of-requires c κs =
 
 returns : tie.Need-returns
 unfolding boxes_at
-returns c = rw (c.regions-of.ensures, many c.before, c.before.before.Small-at.ensures)
+returns c = rw (c.regions-of.ensures, many c.before, c.before.before.small-at.ensures)
 
 pub boxes-at-spec : {M : Type 1} → statement M
 boxes-at-spec =

@@ -35,7 +35,7 @@ unfolding layout_of table_of contents_at airports_from
 returns c =
     let e = c.before.before.before.before.requires.1 in
     rw (
-      c.Small-at.ensures,
+      c.small-at.ensures,
       c.before.phases-at2.ensures,
       c.before.before.phases-at.ensures,
       ap (λ (x : ListPlaces). x.last) e,

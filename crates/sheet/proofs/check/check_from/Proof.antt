@@ -22,7 +22,7 @@ cell-at-requires : tie.Need-cell-at-requires invariant-loop decreases-loop
 cell-at-requires c κs = omega (arith, c.loop-test.true)
 
 check-cell-requires : tie.Need-check-cell-requires invariant-loop decreases-loop
-check-cell-requires c κs = rw c.Cell-at.ensures (cell-small _ (omega (arith, c.before.loop-test.true)))
+check-cell-requires c κs = rw c.cell-at.ensures (cell-small _ (omega (arith, c.before.loop-test.true)))
 
 enum-known-code : tie.Need-enum-known-code invariant-loop decreases-loop
 enum-known-code c = search rules
@@ -31,7 +31,7 @@ returns : tie.Need-returns invariant-loop decreases-loop
 returns c =
     let cell = c.before.before.before.before in
     let l = cell.before.before.loop in
-    sym (l.invariant.2 ∙ each_stop _ l.k 167 _ _ cell.before.loop-test.true (rw (← cell.Cell-at.ensures) (sym c.before.before.before.check-cell.ensures ∙ c.before.code.given.1)))
+    sym (l.invariant.2 ∙ each_stop _ l.k 167 _ _ cell.before.loop-test.true (rw (← cell.cell-at.ensures) (sym c.before.before.before.check-cell.ensures ∙ c.before.code.given.1)))
 
 enum_told : tie.Need-enum-told invariant-loop decreases-loop
 enum_told c = search rules
@@ -46,7 +46,7 @@ loop-again : tie.Need-loop-preserved invariant-loop decreases-loop
 loop-again c =
     let cell = c.before.before.before in
     let l = cell.before.before.loop in
-    (omega arith, omega (arith, cell.before.loop-test.true), l.invariant.2 ∙ each_turn _ l.k 167 cell.before.loop-test.true (rw (← cell.Cell-at.ensures) (sym c.before.before.check-cell.ensures ∙ c.enum_told.given.1)))
+    (omega arith, omega (arith, cell.before.loop-test.true), l.invariant.2 ∙ each_turn _ l.k 167 cell.before.loop-test.true (rw (← cell.cell-at.ensures) (sym c.before.before.check-cell.ensures ∙ c.enum_told.given.1)))
 
 returns-2 : tie.Need-returns-2 invariant-loop decreases-loop
 returns-2 c = let l = c.before.loop in sym (l.invariant.2 ∙ each_end _ l.k 167 c.loop-test.false)

@@ -8,13 +8,13 @@ cell-at-requires : tie.Need-cell-at-requires
 cell-at-requires c κs = search rules
 
 add_at : tie.Need-overflow-add-at
-add_at c = let s = small-parts _ (rw (← c.before.Cell-at.ensures) at (cell-small _ c.before.before.before.requires)) in omega (arith, s.0, s.1.0)
+add_at c = let s = small-parts _ (rw (← c.before.cell-at.ensures) at (cell-small _ c.before.before.before.requires)) in omega (arith, s.0, s.1.0)
 
 read-field-requires : tie.Need-read-field-requires
-read-field-requires c κs = let s = small-parts _ (rw (← c.before.Cell-at.ensures) at (cell-small _ c.before.before.before.requires)) in (s.1.1, omega (arith, s.0, s.1.0))
+read-field-requires c κs = let s = small-parts _ (rw (← c.before.cell-at.ensures) at (cell-small _ c.before.before.before.requires)) in (s.1.1, omega (arith, s.0, s.1.0))
 
 returns : tie.Need-returns
-returns c = rw (c.read-field.ensures, c.before.before.Cell-at.ensures)
+returns c = rw (c.read-field.ensures, c.before.before.cell-at.ensures)
 
 pub word-at-spec : {M : Type 1} → statement M
 word-at-spec = tie.close (tie.spec cell-at-requires add_at read-field-requires returns)

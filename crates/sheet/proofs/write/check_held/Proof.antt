@@ -10,20 +10,20 @@ cell-at-requires : tie.Need-cell-at-requires
 cell-at-requires c κs = search rules
 
 add_at : tie.Need-overflow-add-at
-add_at c = let s = small-parts _ (rw (← c.before.Cell-at.ensures) at (cell-small _ c.before.before.requires)) in omega (arith, s.0, s.1.0)
+add_at c = let s = small-parts _ (rw (← c.before.cell-at.ensures) at (cell-small _ c.before.before.requires)) in omega (arith, s.0, s.1.0)
 
 held-at-requires : tie.Need-held-at-requires
 held-at-requires c κs = search rules
 
 code-of-requires : tie.Need-code-of-requires
-code-of-requires c κs = rw c.before.before.Cell-at.ensures (held_forms _ c.before.before.before.requires)
+code-of-requires c κs = rw c.before.before.cell-at.ensures (held_forms _ c.before.before.before.requires)
 
 seen-of-requires : tie.Need-seen-of-requires
 seen-of-requires c κs = search rules
 
 returns : tie.Need-returns
 unfolding allowed_cell
-returns c = rw (c.seen_of.ensures, c.before.code_of.ensures, c.before.before.before.before.Cell-at.ensures, c.before.before.held_at.ensures)
+returns c = rw (c.seen_of.ensures, c.before.code_of.ensures, c.before.before.before.before.cell-at.ensures, c.before.before.held_at.ensures)
 
 pub check-held-spec : {M : Type 1} → statement M
 check-held-spec =

@@ -32,7 +32,7 @@ ends : (c : tie.After-size-of-cell invariant-loop decreases-loop)
 ends c =
     let turn = c.before.before.before in
     let l = turn.before.loop in
-    let size : c.size-of-cell.result ≡ size_of_cell (cell_at l.k) = c.size-of-cell.ensures ∙ ap size_of_cell c.before.before.Cell-at.ensures in
+    let size : c.size-of-cell.result ≡ size_of_cell (cell_at l.k) = c.size-of-cell.ensures ∙ ap size_of_cell c.before.before.cell-at.ensures in
     (omega (arith, size, l.invariant.1.1.0, sizes-within l.k turn.loop-test.true), (size, turn.before.before.before.requires.1))
 
 -- the text of the cell
@@ -50,7 +50,7 @@ text-is c =
     let few = turn.loop-test.true in
     let six : length held.held_at.result.name ≡ 6 = search (rules, held.held_at.type-inv) in
     let wide = rw held.held_at.ensures at (field-length (cell_at k).form held.held_at.result six (held_forms k few)) in (
-      c.put-cell.ensures ∙ rw (cell.Cell-at.ensures, held.held_at.ensures),
+      c.put-cell.ensures ∙ rw (cell.cell-at.ensures, held.held_at.ensures),
       cell-length (cell_at k) (held_at x k) (label_length k few) wide,
     )
 
@@ -95,7 +95,7 @@ held-at-requires : tie.Need-held-at-requires invariant-loop decreases-loop
 held-at-requires c κs = c.before.loop-test.true
 
 size-of-cell-requires : tie.Need-size-of-cell-requires invariant-loop decreases-loop
-size-of-cell-requires c κs = rw c.before.Cell-at.ensures (cell-small _ c.before.before.loop-test.true)
+size-of-cell-requires c κs = rw c.before.cell-at.ensures (cell-small _ c.before.before.loop-test.true)
 
 add-end : tie.Need-overflow-add-end invariant-loop decreases-loop
 add-end c = omega (arith, ends c)
@@ -117,12 +117,12 @@ put-cell-requires c κs =
     let l = turn.before.loop in
     let start = turn.before.before.before in
     let long = part_length l.d l.p (l.p + size.size-of-cell.result) (omega (arith, ends size, l.invariant.1.0)) in (
-      rw cell.Cell-at.ensures (cell-small _ turn.loop-test.true),
+      rw cell.cell-at.ensures (cell-small _ turn.loop-test.true),
       (
-        rw cell.Cell-at.ensures (held_forms _ turn.loop-test.true),
+        rw cell.cell-at.ensures (held_forms _ turn.loop-test.true),
         (
           long ∙ omega (arith, size.size-of-cell.ensures),
-          rw (cell.Cell-at.ensures, size.before.held_at.ensures) (allowed-held _ start.requires.0 _ turn.loop-test.true),
+          rw (cell.cell-at.ensures, size.before.held_at.ensures) (allowed-held _ start.requires.0 _ turn.loop-test.true),
         ),
       ),
     )
