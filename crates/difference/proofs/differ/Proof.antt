@@ -81,7 +81,7 @@ returns-3 c =
     let l : c.before.before.before.before.before.write.new.1.0 ≡ writeLeft (write_seen (between a b) (length out)) (command_text (between a b)) out =
     c.before.before.before.before.before.write.ensures.1 ∙ ap (λ (r : Command). writeLeft (write_seen r (length out)) (command_text r) out) made in
     let ok = valid-both c.before.before.before.before.before.before.before.before.before.before.before in
-    let items = c.List-set_of_Decides.ensures ∙ ap (λ (r : Command). listing (set_items r.settings.flags r.named 0 15)) made
+    let items = c.list_set.ensures ∙ ap (λ (r : Command). listing (set_items r.settings.flags r.named 0 15)) made
     ∙ ap listing (listed-differs a b (both_right (valid a) (valid b) ok)) in
     rw (items, w, l) (tells_written a b out ok (ap (λ (r : Wrote). r.code) (sym w) ∙ c.before.if2.false))
 

@@ -23,7 +23,7 @@ host-decided-requires-2 : tie.Need-host-decided-requires-2
 host-decided-requires-2 c κs = search rules
 
 returns : tie.Need-returns
-returns c = c.host-decided.ensures ∙ rw (c.before.number_of_lem.ensures, c.before.before.before.d.given.1)
+returns c = c.host-decided.ensures ∙ rw (c.before.number_of.ensures, c.before.before.before.d.given.1)
 
 returns-2 : tie.Need-returns-2
 returns-2 c = c.host-decided2.ensures ∙ rw c.before.before.d2.given.1

@@ -34,7 +34,7 @@ returns c =
     ∙ rw (
       c.before.named-by.ensures,
       c.before.before.code_of.ensures,
-      c.before.before.before.number_of_lem.ensures,
+      c.before.before.before.number_of.ensures,
       c.before.before.before.before.decision-of.ensures,
       c.before.before.before.before.before.before.e.given.1,
     )

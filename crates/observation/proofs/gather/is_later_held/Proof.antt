@@ -22,7 +22,7 @@ is-water-held-requires : tie.Need-is-water-held-requires
 is-water-held-requires c κs = search rules
 
 returns : tie.Need-returns
-returns c = rw (c.is-water-held.ensures, c.before.is-wind-held.ensures, c.before.before.is-height-held.ensures, c.before.before.before.is-held3.ensures, c.before.before.before.before.is-held2.ensures, c.before.before.before.before.before.is_held_lem.ensures) (later_gathered _)
+returns c = rw (c.is-water-held.ensures, c.before.is-wind-held.ensures, c.before.before.is-height-held.ensures, c.before.before.before.is-held3.ensures, c.before.before.before.before.is-held2.ensures, c.before.before.before.before.before.is_held.ensures) (later_gathered _)
 
 pub is-later-held-spec : {M : Type 1} → statement M
 is-later-held-spec =

@@ -22,7 +22,7 @@ is-quality-requires : tie.Need-is-quality-requires
 is-quality-requires c κs = search rules
 
 returns : tie.Need-returns
-returns c = rw (c.is-quality.ensures, c.before.before.is-held2.ensures, c.before.before.before.is_held_lem.ensures) (water_gathered _ _)
+returns c = rw (c.is-quality.ensures, c.before.before.is-held2.ensures, c.before.before.before.is_held.ensures) (water_gathered _ _)
 
 pub is-water-held-spec : {M : Type 1} → statement M
 is-water-held-spec =

@@ -15,15 +15,15 @@ width-of-requires : tie.Need-width-of-requires
 width-of-requires c κs = search rules
 
 add-line-end : tie.Need-overflow-add-line-end
-add-line-end c = let s = c.before.before.before.before.before in omega (arith, s.requires.1, small_width _ s.requires.0, c.width_of_lem.ensures)
+add-line-end c = let s = c.before.before.before.before.before in omega (arith, s.requires.1, small_width _ s.requires.0, c.width_of.ensures)
 
 line-end-requires : tie.Need-line-end-requires
-line-end-requires c κs = let s = c.before.before.before.before.before in omega (arith, s.requires.1, small_width _ s.requires.0, c.width_of_lem.ensures)
+line-end-requires c κs = let s = c.before.before.before.before.before in omega (arith, s.requires.1, small_width _ s.requires.0, c.width_of.ensures)
 
 returns-2 : tie.Need-returns-2
 returns-2 c =
     let e = c.before.before.before in
-    rw (c.line-end.ensures, c.before.width_of_lem.ensures, ← e.before.read-field.ensures, eq-eqb e.before.read-field.result.code 0 e.if1.false, c.before.before.if2.true)
+    rw (c.line-end.ensures, c.before.width_of.ensures, ← e.before.read-field.ensures, eq-eqb e.before.read-field.result.code 0 e.if1.false, c.before.before.if2.true)
 
 returns-3 : tie.Need-returns-3
 returns-3 c =

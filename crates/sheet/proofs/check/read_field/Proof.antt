@@ -14,7 +14,7 @@ width-of-requires : tie.Need-width-of-requires
 width-of-requires c κs = search rules
 
 add-end : tie.Need-overflow-add-end
-add-end c = omega (arith, small_width c.before.before.args.form c.before.before.requires.0, c.width_of_lem.ensures, c.before.before.requires.1)
+add-end c = omega (arith, small_width c.before.before.args.form c.before.before.requires.0, c.width_of.ensures, c.before.before.requires.1)
 
 given-requires : tie.Need-given-requires
 given-requires c κs = search rules
@@ -23,7 +23,7 @@ returns : tie.Need-returns
 unfolding field_read
 returns c =
     let a = c.before.before.before.before.args in
-    let w = c.before.before.width_of_lem.ensures in
+    let w = c.before.before.width_of.ensures in
     rw (c.given.ensures, lt-leb (a.at + width_of a.form) (length a.s.now) (omega (arith, w, c.before.if1.true)))
 
 sub-read-bytes : tie.Need-overflow-sub-read-bytes
@@ -42,8 +42,8 @@ returns-2 : tie.Need-returns-2
 unfolding field_read
 returns-2 c =
     let a = c.before.before.before.before.before.args in
-    let w = c.before.before.before.width_of_lem.ensures in
-    let e : a.at + c.before.before.before.width_of_lem.result - a.at ≡ width_of a.form = omega (arith, w) in
+    let w = c.before.before.before.width_of.ensures in
+    let e : a.at + c.before.before.before.width_of.result - a.at ≡ width_of a.form = omega (arith, w) in
     rw (le-leb (a.at + width_of a.form) (length a.s.now) (omega (arith, w, c.before.before.if1.false)), ← e) c.read-bytes.ensures
 
 pub read-field-spec : {M : Type 1} → statement M

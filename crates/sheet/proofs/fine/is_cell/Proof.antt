@@ -47,7 +47,7 @@ returns-2 c =
     let start = framed.before.before in
     let a = start.args in
     let p : ℕ = a.c.at + a.c.labelled in
-    let wide : p + width.width_of_lem.result - p ≡ width_of a.c.form = omega (arith, width.width_of_lem.ensures) in
+    let wide : p + width.width_of.result - p ≡ width_of a.c.form = omega (arith, width.width_of.ensures) in
     λ e.
     framed_fine a.s.now a.c a.c.form refl start.requires.1.1
     (framed.is_framed.ensures (not-false _ width.before.before.if1.false))

@@ -36,7 +36,7 @@ add-line-end-2 c = search rules
 line-end-requires : tie.Need-line-end-requires
 line-end-requires c κs =
     let s = c.before.before.before.before.before.before.before in
-    omega (arith, (parts s).0, s.requires.1.0, small_width _ (parts s).1.1, c.width_of_lem.ensures)
+    omega (arith, (parts s).0, s.requires.1.0, small_width _ (parts s).1.1, c.width_of.ensures)
 
 enum_told : tie.Need-enum-told
 enum_told c = search rules
@@ -54,7 +54,7 @@ returns-4 c =
     let more = width.before in
     let label = more.before.before.before in
     let cell = label.before.before.before.args.c in
-    λ e. (label.is-labelled.ensures (not-false _ more.before.before.if1.false), rw (not-false cell.ends more.if2.false, ← width.width_of_lem.ensures) (sym end.line-end.ensures ∙ c.enum-told2.given.1))
+    λ e. (label.is-labelled.ensures (not-false _ more.before.before.if1.false), rw (not-false cell.ends more.if2.false, ← width.width_of.ensures) (sym end.line-end.ensures ∙ c.enum-told2.given.1))
 
 pub is-framed-spec : {M : Type 1} → statement M
 is-framed-spec =

@@ -12,7 +12,7 @@ is-within-requires : tie.Need-is-within-requires
 is-within-requires c κs = search rules
 
 returns : tie.Need-returns
-returns c = rw (c.is_Within.ensures, c.before.type_size.ensures, c.before.before.is_below.ensures)
+returns c = rw (c.is_within.ensures, c.before.size_of.ensures, c.before.before.is_below.ensures)
 
 pub is-allowed-spec : {M : Type 1} → statement M
 is-allowed-spec =

@@ -42,7 +42,7 @@ returns c =
     let digits = blanks.before.before.before.before in
     let a = digits.before.before.before.before.args in
     c.before.before.mark.ensures
-    ∙ ap marked (blanks.blank.ensures ∙ ap blanked (digits.put-decimal.ensures ∙ ap (decimal (length a.d.now)) digits.before.type_size.ensures))
+    ∙ ap marked (blanks.blank.ensures ∙ ap blanked (digits.put-decimal.ensures ∙ ap (decimal (length a.d.now)) digits.before.size_of.ensures))
     ∙ sym (text-below (length a.d.now) a.x (sym below.is_below.ensures ∙ c.before.before.before.before.if1.true))
 
 same-length-2 : tie.Need-same-length-2
@@ -55,7 +55,7 @@ returns-2 c =
     let digits = blanks.before.before.before.before in
     let a = digits.before.before.before.before.args in
     blanks.blank.ensures
-    ∙ ap blanked (digits.put-decimal.ensures ∙ ap (decimal (length a.d.now)) digits.before.type_size.ensures)
+    ∙ ap blanked (digits.put-decimal.ensures ∙ ap (decimal (length a.d.now)) digits.before.size_of.ensures)
     ∙ sym (text-above (length a.d.now) a.x (sym below.is_below.ensures ∙ c.if1.false))
 
 pub put-number-spec : {M : Type 1} → statement M

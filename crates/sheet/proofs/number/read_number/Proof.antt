@@ -115,14 +115,14 @@ unfolding digits_read
 returns-4 c =
     let within = c.before.before in
     let e = within.before.before.before in
-    rw (c.no4.ensures, read e, (all e).0, (all e).1, zero e, within.before.if3.false, ← spells e, sym within.is_Within.ensures ∙ not-true _ c.before.if4.true)
+    rw (c.no4.ensures, read e, (all e).0, (all e).1, zero e, within.before.if3.false, ← spells e, sym within.is_within.ensures ∙ not-true _ c.before.if4.true)
 
 word-of-requires : tie.Need-word-of-requires
 word-of-requires c κs =
     let within = c.before in
     let e = within.before.before.before in
     let start = e.before.before.before.before.before.before in (
-      within-small _ _ _ start.requires.1 (sym within.is_Within.ensures ∙ not-false _ c.if4.false),
+      within-small _ _ _ start.requires.1 (sym within.is_within.ensures ∙ not-false _ c.if4.false),
       (λ below. rw (spells e) (value_positive _ (all e).0 (all e).1 (ap (λ (m : Bool). zero_first m (tail (f e) (r e) (h e))) (sym below) ∙ zero e ∙ within.before.if3.false))),
     )
 
@@ -131,7 +131,7 @@ unfolding digits_read
 returns-5 c =
     let within = c.before.before in
     let e = within.before.before.before in
-    rw (c.word_of.ensures, read e, (all e).0, (all e).1, zero e, within.before.if3.false, ← spells e, sym within.is_Within.ensures ∙ not-false _ c.before.if4.false)
+    rw (c.word_of.ensures, read e, (all e).0, (all e).1, zero e, within.before.if3.false, ← spells e, sym within.is_within.ensures ∙ not-false _ c.before.if4.false)
 
 pub read-number-spec : {M : Type 1} → statement M
 read-number-spec =

@@ -37,11 +37,11 @@ field_is c = let six : length c.args.h.name ≡ 6 = search rules in field-length
 -- the field ends within the buffer, two bytes before its end where the cell ends a line
 sized : (c : tie.After-width-of)
     → let a = c.before.before.before.args in
-    (c.width_of_lem.result ≡ width_of a.c.form) × (a.c.labelled + c.width_of_lem.result + cond a.c.ends 2 0 ≡ length a.d.now)
+    (c.width_of.result ≡ width_of a.c.form) × (a.c.labelled + c.width_of.result + cond a.c.ends 2 0 ≡ length a.d.now)
 unfolding size_of_cell
 sized c =
     let start = c.before.before.before in
-    (c.width_of_lem.ensures, omega (arith, c.width_of_lem.ensures, start.requires.1.1.0))
+    (c.width_of.ensures, omega (arith, c.width_of.ensures, start.requires.1.1.0))
 
 -- the buffer with the fixed group
 abbrev one : tie.After-copy → List ℕ
@@ -78,7 +78,7 @@ width-of-requires c κs = search rules
 text-long : (c : tie.After-put-field)
     → let width = c.before.before.before.before.before.before.before.before in
     let a = width.before.before.before.args in
-    length (label_of a.c ++ field_text a.c.form (held_is a.c.form a.h)) ≡ a.c.labelled + width.width_of_lem.result
+    length (label_of a.c ++ field_text a.c.form (held_is a.c.form a.h)) ≡ a.c.labelled + width.width_of.result
 text-long c =
     let width = c.before.before.before.before.before.before.before.before in
     let start = width.before.before.before in
@@ -90,7 +90,7 @@ second : (c : tie.After-put-field)
     → let copy = c.before.before.before.before in
     let width = copy.before.before.before.before in
     let a = width.before.before.before.args in
-    put_mid a.c.labelled (a.c.labelled + width.width_of_lem.result - a.c.labelled) (put_mid 0 (a.c.labelled - 0) a.d.now copy.copy.new.0) c.put-field.new.1.1.0
+    put_mid a.c.labelled (a.c.labelled + width.width_of.result - a.c.labelled) (put_mid 0 (a.c.labelled - 0) a.d.now copy.copy.new.0) c.put-field.new.1.1.0
     ≡ over a.d.now 0 (label_of a.c ++ field_text a.c.form (held_is a.c.form a.h))
 second c =
     let copy = c.before.before.before.before in
@@ -99,13 +99,13 @@ second c =
     let a = start.args in
     let s = sized width in
     then_whole a.d.now (put_mid 0 (a.c.labelled - 0) a.d.now copy.copy.new.0) c.put-field.new.1.1.0 (label_of a.c) (field_text a.c.form (held_is a.c.form a.h)) 0 a.c.labelled
-    (a.c.labelled + width.width_of_lem.result) (first copy) (omega (arith, label_is start)) (omega (arith, field_is start, s.0)) (omega (arith, s.1)) c.put-field.ensures
+    (a.c.labelled + width.width_of.result) (first copy) (omega (arith, label_is start)) (omega (arith, field_is start, s.0)) (omega (arith, s.1)) c.put-field.ensures
 
 long-two : (c : tie.After-put-field)
     → let copy = c.before.before.before.before in
     let width = copy.before.before.before.before in
     let a = width.before.before.before.args in
-    length (put_mid a.c.labelled (a.c.labelled + width.width_of_lem.result - a.c.labelled) (put_mid 0 (a.c.labelled - 0) a.d.now copy.copy.new.0) c.put-field.new.1.1.0)
+    length (put_mid a.c.labelled (a.c.labelled + width.width_of.result - a.c.labelled) (put_mid 0 (a.c.labelled - 0) a.d.now copy.copy.new.0) c.put-field.new.1.1.0)
     ≡ length a.d.now
 long-two c =
     let width = c.before.before.before.before.before.before.before.before in
@@ -116,7 +116,7 @@ long-two c =
 line : (c : tie.After-put-field)
     → let width = c.before.before.before.before.before.before.before.before in
     let a = width.before.before.before.args in
-    a.c.ends ≡ true → a.c.labelled + width.width_of_lem.result + 2 ≡ length a.d.now
+    a.c.ends ≡ true → a.c.labelled + width.width_of.result + 2 ≡ length a.d.now
 line c e =
     let width = c.before.before.before.before.before.before.before.before in
     let a = width.before.before.before.args in
@@ -124,7 +124,7 @@ line c e =
     omega (arith, (sized width).1, two)
 
 add-end : tie.Need-overflow-add-end
-add-end c = let s = parts c.before.before.before in omega (arith, s.1.0, small_width _ s.1.1, c.width_of_lem.ensures)
+add-end c = let s = parts c.before.before.before in omega (arith, s.1.0, small_width _ s.1.1, c.width_of.ensures)
 
 sub-copy : tie.Need-overflow-sub-copy
 sub-copy c = search rules
@@ -161,7 +161,7 @@ put-field-requires c κs =
     let copied = c.before.before.before in
     let s = sized copied.before.before.before.before in
     let a = copied.before.before.before.before.before.before.before.args in
-    let w = copied.before.before.before.before.width_of_lem in (
+    let w = copied.before.before.before.before.width_of in (
       copied.before.before.before.before.before.before.before.requires.1.0,
       (
         part_length (one copied) a.c.labelled (a.c.labelled + w.result) (omega (arith, s, long-one copied)) ∙ omega (arith, w.ensures),
@@ -173,7 +173,7 @@ slice-write-d : tie.Need-slice-write-d
 slice-write-d c = let s = sized c.before.before.before.before.before.before.before.before.before.before.before in let t = line c.before.before.before c.if1.true in omega (arith, s.0, t, long-two c.before.before.before)
 
 add-d : tie.Need-overflow-add-d
-add-d c = let s = parts c.before.before.before.before.before.before.before.before.before.before.before.before.before.before in omega (arith, s.1.0, small_width _ s.1.1, c.before.before.before.before.before.before.before.before.before.before.before.width_of_lem.ensures)
+add-d c = let s = parts c.before.before.before.before.before.before.before.before.before.before.before.before.before.before in omega (arith, s.1.0, small_width _ s.1.1, c.before.before.before.before.before.before.before.before.before.before.before.width_of.ensures)
 
 slice-write-d-2 : tie.Need-slice-write-d-2
 slice-write-d-2 c = let t = line c.before.before.before c.if1.true in rw (length-set {A = ℕ} _ _ 13) (omega (arith, t, long-two c.before.before.before))
@@ -183,7 +183,7 @@ same_length c =
     let put = c.before.before.before in
     let width = put.before.before.before.before.before.before.before.before in
     let a = width.before.before.before.args in
-    let end = a.c.labelled + width.width_of_lem.result in
+    let end = a.c.labelled + width.width_of.result in
     two-sets (put_mid a.c.labelled (end - a.c.labelled) (put_mid 0 (a.c.labelled - 0) a.d.now put.before.before.before.before.copy.new.0) put.put-field.new.1.1.0) end (end + 1) _ (long-two put)
 
 returns : tie.Need-returns
@@ -195,7 +195,7 @@ returns c =
     let a = start.args in
     let v = held_is a.c.form a.h in
     let t = label_of a.c ++ field_text a.c.form v in
-    let end = a.c.labelled + width.width_of_lem.result in
+    let end = a.c.labelled + width.width_of.result in
     let s = line put c.if1.true in
     let n : length t ≡ end = text-long put in
     let one_more = then_byte a.d.now _ t 13 0 end (second put) (omega (arith, n)) (omega (arith, s)) in
