@@ -17,7 +17,7 @@ len_is c = omega (arith, c.middle-n.ensures)
 
 -- the text that the join told of
 text_of : (c : In-Text)
-    → Onto (join (take (longest * c.before.args.v.own + c.middle.result - longest * c.before.args.v.own) (drop (longest * c.before.args.v.own) c.before.args.area.now)) c.before.args.t.now longest) c.in-Text.m c.join_texts.new.out
+    → Onto (join (take (longest * c.args.v.own + c.middle-n.result - longest * c.args.v.own) (drop (longest * c.args.v.own) c.args.area.now)) c.args.t.now longest) c.in-Text.m c.join_texts.new.out
 text_of c = onto _ _ (replicate longest 0) _ _ c.in-Text.m refl refl (sym c.join_texts.ensures.0 ∙ c.in-Text.is) c.join_texts.ensures.1
 
 pub returns-then-not-fits_at : goal.returns-then-not-fits_at
@@ -38,9 +38,9 @@ overflow_add-end c = let a = c.args in
     omega (arith, f.0, f.1, c.middle-n.ensures)
 
 pub slice_bounds-join_texts-end : goal.slice_bounds-join_texts-end
-slice_bounds-join_texts-end c = let g : fits_at c.before.args.v.own c.before.args.v.length (length c.before.args.area.now) ≡ true = rw c.middle.ensures at (sym c.fits-at.ensures ∙ not-false _ c.if1.false) in
-    let f = fits c.before.args.v.own c.before.args.v.length (length c.before.args.area.now) g in
-    omega (arith, f.1, f.2, c.middle.ensures)
+slice_bounds-join_texts-end c = let g : fits_at c.args.v.own c.args.v.length (length c.args.area.now) ≡ true = rw c.middle-n.ensures at (sym c.fits_at.ensures ∙ not-false _ c.if-not-fits_at.false-raw) in
+    let f = fits c.args.v.own c.args.v.length (length c.args.area.now) g in
+    omega (arith, f.1, f.2, c.middle-n.ensures)
 
 pub slice_bounds-joined-end : goal.slice_bounds-joined-end
 slice_bounds-joined-end c = (text_of (goal.at.slice_bounds-joined-end c).In-Text).room
@@ -51,8 +51,8 @@ slice_bounds-put_at-end c = let j = text_of (goal.at.slice_bounds-put_at-end c).
     sym (length-take-le c.in-Text.m l j.room)
 
 pub put_at-requires : goal.put_at-requires
-put_at-requires c = let g : fits_at c.before.args.v.own c.before.args.v.length (length c.before.args.area.now) ≡ true = rw c.middle.ensures at (sym c.fits-at.ensures ∙ not-false _ c.if1.false) in
-    let f = fits c.before.args.v.own c.before.args.v.length (length c.before.args.area.now) g in
+put_at-requires c = let g : fits_at c.args.v.own c.args.v.length (length c.args.area.now) ≡ true = rw c.middle-n.ensures at (sym c.fits_at.ensures ∙ not-false _ c.if-not-fits_at.false-raw) in
+    let f = fits c.args.v.own c.args.v.length (length c.args.area.now) g in
     let j = text_of (goal.at.put_at-requires c).In-Text in
     (f.0, rw (length-take-le c.in-Text.m c.join_texts.new.out j.room) j.short, f.2)
 
@@ -61,16 +61,16 @@ stored-requires c = (text_of (goal.at.stored-requires c).In-Text).short
 
 pub returns-in-Refused : goal.returns-in-Refused
 unfolding own_move
-returns-in-Refused c = let g : fits_at c.before.args.v.own c.before.args.v.length (length c.before.args.area.now) ≡ true = rw c.middle.ensures at (sym c.fits-at.ensures ∙ not-false _ c.if1.false) in
-    let f = fits c.before.args.v.own c.before.args.v.length (length c.before.args.area.now) g in
-    let n = ap (λ (k : ℕ). told (join (take k (drop (longest * c.before.args.v.own) c.before.args.area.now)) c.before.args.t.now longest)) (len_is (goal.at.returns-in-Refused c).Else-not-fits_at) in
-    rw (g, told-refused (join (waits_at c.before.args.v c.before.args.area.now) c.before.args.t.now longest) _ _ _ c.before.args.v.own c.before.args.w.designator (sym (c.join_texts.ensures.0 ∙ n) ∙ c.in-Refused.is))
+returns-in-Refused c = let g : fits_at c.args.v.own c.args.v.length (length c.args.area.now) ≡ true = rw c.middle-n.ensures at (sym c.fits_at.ensures ∙ not-false _ c.if-not-fits_at.false-raw) in
+    let f = fits c.args.v.own c.args.v.length (length c.args.area.now) g in
+    let n = ap (λ (k : ℕ). told (join (take k (drop (longest * c.args.v.own) c.args.area.now)) c.args.t.now longest)) (len_is (goal.at.returns-in-Refused c).Else-not-fits_at) in
+    rw (g, told-refused (join (waits_at c.args.v c.args.area.now) c.args.t.now longest) _ _ _ c.args.v.own c.args.w.designator (sym (c.join_texts.ensures.0 ∙ n) ∙ c.in-Refused.is))
     (c.refused-in-Refused.ensures, refl)
 
 pub returns-in-Text : goal.returns-in-Text
 unfolding own_move
-returns-in-Text c = let g : fits_at c.before.args.v.own c.before.args.v.length (length c.before.args.area.now) ≡ true = rw c.middle.ensures at (sym c.fits-at.ensures ∙ not-false _ c.if1.false) in
-    let f = fits c.before.args.v.own c.before.args.v.length (length c.before.args.area.now) g in
+returns-in-Text c = let g : fits_at c.args.v.own c.args.v.length (length c.args.area.now) ≡ true = rw c.middle-n.ensures at (sym c.fits_at.ensures ∙ not-false _ c.if-not-fits_at.false-raw) in
+    let f = fits c.args.v.own c.args.v.length (length c.args.area.now) g in
     let j = text_of (goal.at.returns-in-Text c).In-Text in
-    let n = ap (λ (k : ℕ). join (take k (drop (longest * c.before.args.v.own) c.before.args.area.now)) c.before.args.t.now longest) (len_is (goal.at.returns-in-Text c).Else-not-fits_at) in
+    let n = ap (λ (k : ℕ). join (take k (drop (longest * c.args.v.own) c.args.area.now)) c.args.t.now longest) (len_is (goal.at.returns-in-Text c).Else-not-fits_at) in
     rw (g, sym n ∙ j.is) (c.stored.ensures ∙ rw j.long, c.put_at.ensures ∙ rw j.found)

@@ -8,7 +8,7 @@ use Rattle.finder.proofs.pass.digits_size.Given as goal
 
 abbrev pub invariant-loop-i : goal.invariant-loop-i
 invariant-loop-i l =
-    (l.n ≡ length (table_of l.k).l.rows) × ((l.i ≤ l.n) × ((l.size ≤ 3 * l.i) × (width_of (table_of l.k).l.rows ≡ l.size + width_of (drop l.i (table_of l.k).l.rows))))
+    (l.n ≡ length (table_of l.k).rows) × ((l.i ≤ l.n) × ((l.size ≤ 3 * l.i) × (width_of (table_of l.k).rows ≡ l.size + width_of (drop l.i (table_of l.k).rows))))
 
 abbrev pub decreases-loop-i : goal.decreases-loop-i
 decreases-loop-i l = l.n - l.i

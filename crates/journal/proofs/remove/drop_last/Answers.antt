@@ -20,7 +20,7 @@ returns-in-Nothing c =
     let l = c.loop-place in
     let a = c.args in
     c.kept_told.ensures
-    ∙ ap kept_told (sym (l.invariant ∙ walk-nothing kept_at _ l.here l.auto (sym c.last.ensures ∙ c.in-Nothing.is)))
+    ∙ ap kept_told (sym (l.invariant ∙ walk-nothing kept_at _ l.here l.kept (sym c.last.ensures ∙ c.in-Nothing.is)))
     ∙ sym (drop_walks a.journal.now a.end a.count)
 
 pub returns-in-Fails : goal.returns-in-Fails
@@ -28,7 +28,7 @@ unfolding kept_told
 returns-in-Fails c =
     let l = c.loop-place in
     let a = c.args in
-    ap kept_told (sym (l.invariant ∙ walk-fails kept_at _ l.here _ l.auto (sym c.last.ensures ∙ c.in-Fails.is)))
+    ap kept_told (sym (l.invariant ∙ walk-fails kept_at _ l.here _ l.kept (sym c.last.ensures ∙ c.in-Fails.is)))
     ∙ sym (drop_walks a.journal.now a.end a.count)
 
 pub loop-place-smaller : goal.loop-place-smaller
@@ -39,4 +39,4 @@ loop-place-preserved c =
     let l = c.loop-place in
     let s = c.args.journal.now in
     let at = c.in-Starts.at in
-    l.invariant ∙ walk_starts kept_at s l.here at _ l.auto (found (goal.at.loop-place-preserved c).In-Starts) ∙ ap (λ (k : Kept). walk kept_at s at k) (sym c.kept_at-kept.ensures)
+    l.invariant ∙ walk_starts kept_at s l.here at _ l.kept (found (goal.at.loop-place-preserved c).In-Starts) ∙ ap (λ (k : Kept). walk kept_at s at k) (sym c.kept_at-kept.ensures)

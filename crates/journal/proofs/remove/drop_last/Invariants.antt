@@ -6,7 +6,7 @@ use Rattle.journal.proofs.remove.drop_last.Given as goal
 
 abbrev pub invariant-loop-place : goal.invariant-loop-place
 invariant-loop-place l =
-    walk kept_at l.journal l.end (record { wanted = l.count; l.end = l.end }) ≡ walk kept_at l.journal l.here l.kept
+    walk kept_at l.journal l.end (record { wanted = l.count; end = l.end }) ≡ walk kept_at l.journal l.here l.kept
 
 abbrev pub decreases-loop-place : goal.decreases-loop-place
 decreases-loop-place l = l.here
