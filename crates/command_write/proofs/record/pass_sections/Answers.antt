@@ -41,7 +41,7 @@ returns-in-Stop c =
 pub returns-in-Next : goal.returns-in-Next
 returns-in-Next c =
     let x = c.args.c in
-    let n = rw c.fixed_of.ensures (goal.at.returns-in-Next c).In-Next c.pass_numbered.ensures in
+    let n = rw c.fixed_of.ensures at c.pass_numbered.ensures in
     n
     ∙ numbered_are (drop 2 numbers) c.in-Next.at x (omega arith)
-    ∙ rw (sym c.pass_lists.ensures.0 ∙ c.in-Next.is) (goal.at.returns-in-Next c).In-Next (whole (goal.at.returns-in-Next c).Start)
+    ∙ (rw (sym c.pass_lists.ensures.0 ∙ c.in-Next.is) at (whole (goal.at.returns-in-Next c).Start))

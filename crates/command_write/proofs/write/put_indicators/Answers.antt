@@ -47,12 +47,6 @@ third c =
     then_byte d (put_mid 1 8 (set d 0 (48 + c.args.downlink)) c.put_digits.new.d)
     ((48 + c.args.downlink) ∷ digit_bytes c.args.named) 47 0 9 (second c) (omega (arith, nine)) (omega (arith, c.requires.0))
 
-pub slice_bounds-put_digits-end : goal.slice_bounds-put_digits-end
-slice_bounds-put_digits-end c =
-    let d = c.args.d.now in
-    let h : 9 ≤ length (set d 0 (48 + c.args.downlink)) = omega (arith, c.requires.0, length_then d (set d 0 (48 + c.args.downlink)) ((48 + c.args.downlink) ∷ []) 0 (first (goal.at.slice_bounds-put_digits-end c).Start) (omega (arith, c.requires.0))) in
-    h
-
 pub bounds-d-9 : goal.bounds-d-9
 bounds-d-9 c =
     let d = c.args.d.now in

@@ -74,7 +74,7 @@ put_fixed-at-requires c =
 written : (c : After-put_fixed-at)
     → let l = c.loop-k in
     let a = c.args in
-    put_mid l.at (length l.d - l.at) l.d c.put_fixed-at.new.d ≡ over a.d.now 0 (l.invariant.3.text ++ one)
+    put_mid l.at (length l.d - l.at) l.d c.put_fixed-at.new.d ≡ over a.d.now 0 (l.invariant.3.text ++ text_if (eqb (get_or a.named (l.k - 2) 0) l.k) l.k (fixed_hold a.x l.k))
 written c =
     let one : List ℕ = let a = c.args in text_if (eqb (get_or a.named (c.loop-k.k - 2) 0) c.loop-k.k) c.loop-k.k (fixed_hold a.x c.loop-k.k) in
     let next : let a = c.args in
@@ -104,7 +104,9 @@ written c =
     rest-written a.d.now l.d w.text l.at w.is w.long c.put_fixed-at.new.d (one) (fits) (rw c.wide.ensures at c.put_fixed-at.ensures.1)
 
 -- as many bytes as that
-size : (c : After-put_fixed-at) → c.put_fixed-at.result ≡ length (one)
+size : (c : After-put_fixed-at)
+    → let k = c.loop-k.k in
+    c.put_fixed-at.result ≡ length (text_if (eqb (get_or c.args.named (k - 2) 0) k) k (fixed_hold c.args.x k))
 size c = rw c.wide.ensures at c.put_fixed-at.ensures.0
 
 pub overflow_add-at : goal.overflow_add-at

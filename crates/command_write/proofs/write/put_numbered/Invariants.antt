@@ -10,11 +10,11 @@ use Rattle.command_write.specs.Inner.{numbered_text}
 use Rattle.command_write.proofs.write.put_numbered.Given as goal
 
 -- the sections before k are written, the others are left
-record Written (x : Fixed) (named d₀ d : List ℕ) (at k : ℕ) : Type 0 where
-  text : List ℕ
-  long : at ≡ length text
-  is : d ≡ over d₀ 0 text
-  rest : numbered_text (drop 2 numbers) x named ≡ text ++ numbered_text (drop (k - 2) numbers) x named
+pub record Written (x : Fixed) (named d₀ d : List ℕ) (at k : ℕ) : Type 0 where
+  pub text : List ℕ
+  pub long : at ≡ length text
+  pub is : d ≡ over d₀ 0 text
+  pub rest : numbered_text (drop 2 numbers) x named ≡ text ++ numbered_text (drop (k - 2) numbers) x named
 
 abbrev pub invariant-loop-k : goal.invariant-loop-k
 invariant-loop-k l = (4 ≤ l.k) × (l.k ≤ 10) × (length l.d ≡ length l.initial.d) × Written l.x l.named l.initial.d l.d l.at l.k

@@ -38,28 +38,28 @@ loop-i-init c =
     (omega arith, rw e)
 
 pub overflow_mul-p : goal.overflow_mul-p
-overflow_mul-p c = omega (arith, room (goal.at.overflow_mul-p c).In-loop-i)
+overflow_mul-p c = omega (arith, c.loop-i-test.true, c.requires, c.wide-n.ensures)
 
 pub bounds-names-p : goal.bounds-names-p
-bounds-names-p c = omega (arith, room (goal.at.bounds-names-p c).In-loop-i)
+bounds-names-p c = omega (arith, c.loop-i-test.true, c.requires, c.wide-n.ensures)
 
 pub overflow_add-p : goal.overflow_add-p
-overflow_add-p c = omega (arith, room (goal.at.overflow_add-p c).In-loop-i)
+overflow_add-p c = omega (arith, c.loop-i-test.true, c.requires, c.wide-n.ensures)
 
 pub bounds-names-p-in-loop-i : goal.bounds-names-p-in-loop-i
-bounds-names-p-in-loop-i c = omega (arith, room (goal.at.bounds-names-p-in-loop-i c).In-loop-i)
+bounds-names-p-in-loop-i c = omega (arith, c.loop-i-test.true, c.requires, c.wide-n.ensures)
 
 pub overflow_add-p-in-loop-i : goal.overflow_add-p-in-loop-i
-overflow_add-p-in-loop-i c = omega (arith, room (goal.at.overflow_add-p-in-loop-i c).In-loop-i)
+overflow_add-p-in-loop-i c = omega (arith, c.loop-i-test.true, c.requires, c.wide-n.ensures)
 
 pub bounds-names-p-in-loop-i-2 : goal.bounds-names-p-in-loop-i-2
-bounds-names-p-in-loop-i-2 c = omega (arith, room (goal.at.bounds-names-p-in-loop-i-2 c).In-loop-i)
+bounds-names-p-in-loop-i-2 c = omega (arith, c.loop-i-test.true, c.requires, c.wide-n.ensures)
 
 pub overflow_add-p-in-loop-i-2 : goal.overflow_add-p-in-loop-i-2
-overflow_add-p-in-loop-i-2 c = omega (arith, room (goal.at.overflow_add-p-in-loop-i-2 c).In-loop-i)
+overflow_add-p-in-loop-i-2 c = omega (arith, c.loop-i-test.true, c.requires, c.wide-n.ensures)
 
 pub bounds-names-p-in-loop-i-3 : goal.bounds-names-p-in-loop-i-3
-bounds-names-p-in-loop-i-3 c = omega (arith, room (goal.at.bounds-names-p-in-loop-i-3 c).In-loop-i)
+bounds-names-p-in-loop-i-3 c = omega (arith, c.loop-i-test.true, c.requires, c.wide-n.ensures)
 
 pub returns-then-is_name : goal.returns-then-is_name
 returns-then-is_name c =
@@ -68,7 +68,7 @@ returns-then-is_name c =
     (sym (c.loop-i.invariant.1 ∙ has_stop a.l.names a.name c.wide-n.result c.loop-i.i c.loop-i-test.true (sym (seen (goal.at.returns-then-is_name c).After-is_name) ∙ c.if-is_name.true)))
 
 pub overflow_add-i : goal.overflow_add-i
-overflow_add-i c = omega (arith, room (goal.at.overflow_add-i c).In-loop-i)
+overflow_add-i c = omega (arith, c.loop-i-test.true, c.requires, c.wide-n.ensures)
 
 pub loop-i-preserved : goal.loop-i-preserved
 loop-i-preserved c =

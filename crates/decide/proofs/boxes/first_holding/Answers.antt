@@ -1,3 +1,4 @@
+use borrow.Author.Rules.{rules}
 use native.Mathlib.Omega.{arith}
 use mathlib.Core.Path.{◌≡◌, sym, ap, ◌∙◌}
 use Prim.Native.Nat.{ℕ, ◌-◌, ◌<◌}
@@ -10,7 +11,7 @@ use Rattle.decide.proofs.boxes.first_holding.Goals.{After-box_holds, In-loop-i, 
 
 -- the array has its 16 boxes, as owning the record tells
 full : (c : Start) → length c.args.l.regions ≡ 16
-full c = sym (length-map c.args.l.regions _) ∙ c.well-formed.0.1.1.1.0.1.0.1
+full c = search rules
 
 -- and this one is among them
 room : (c : In-loop-i) → c.loop-i.i < 16
