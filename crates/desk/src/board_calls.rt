@@ -64,8 +64,7 @@ fn checked(v: Findings) -> Answer
     }
 }
 
-#[unsafe(no_mangle)]
-pub extern "C" fn esk_board_check(slots: &[Slot], area: &[u8]) -> Answer
+pub fn esk_board_check(slots: &[Slot], area: &[u8]) -> Answer
     ensures { result ≡ board_numbers (is_valid_lent slots.now area.now) }
 {
     let w = nobody();
@@ -73,8 +72,7 @@ pub extern "C" fn esk_board_check(slots: &[Slot], area: &[u8]) -> Answer
     checked(v)
 }
 
-#[unsafe(no_mangle)]
-pub extern "C" fn esk_board_add(
+pub fn esk_board_add(
     slots: &mut [Slot],
     area: &mut [u8],
     designator: &[u8],
@@ -91,8 +89,7 @@ pub extern "C" fn esk_board_add(
     s.answer
 }
 
-#[unsafe(no_mangle)]
-pub extern "C" fn esk_board_take(
+pub fn esk_board_take(
     slots: &mut [Slot],
     area: &[u8],
     designator: &[u8],

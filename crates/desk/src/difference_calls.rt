@@ -37,8 +37,7 @@ fn difference_answer(first: Settings, second: Settings, out: &mut [u8]) -> HostD
     differing_answer(d)
 }
 
-#[unsafe(no_mangle)]
-pub extern "C" fn esk_difference(
+pub fn esk_difference(
     first: &Settings,
     second: &Settings,
     out: &mut [u8],

@@ -28,8 +28,7 @@ fn gust_answer(d: Derived) -> HostGust
     }
 }
 
-#[unsafe(no_mangle)]
-pub extern "C" fn esk_gust(
+pub fn esk_gust(
     row: u32,
     height: i32,
     mass: u32,
