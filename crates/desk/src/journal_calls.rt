@@ -88,12 +88,7 @@ pub fn esk_journal_last(journal: &[u8], end: usize) -> HostEntry
     entry_answer(last(journal, end))
 }
 
-pub fn esk_journal_add(
-    journal: &mut [u8],
-    end: usize,
-    designator: &[u8],
-    text: &[u8],
-) -> Answer
+pub fn esk_journal_add(journal: &mut [u8], end: usize, designator: &[u8], text: &[u8]) -> Answer
     ensures { (result ≡ journal_numbers (added journal.old end designator.now text.now))
         × (journal.new ≡ added_over journal.old end designator.now text.now) }
 {
