@@ -64,8 +64,7 @@ fn checked(v: Findings) -> Answer
     }
 }
 
-#[unsafe(no_mangle)]
-pub extern "C" fn esk_board_check(slots: &[Slot], area: &[u8]) -> Answer
+pub fn esk_board_check(slots: &[Slot], area: &[u8]) -> Answer
     ensures { result ≡ board_numbers (is_valid_lent slots.now area.now) }
 {
     let w = nobody();
@@ -73,13 +72,7 @@ pub extern "C" fn esk_board_check(slots: &[Slot], area: &[u8]) -> Answer
     checked(v)
 }
 
-#[unsafe(no_mangle)]
-pub extern "C" fn esk_board_add(
-    slots: &mut [Slot],
-    area: &mut [u8],
-    designator: &[u8],
-    text: &[u8],
-) -> Answer
+pub fn esk_board_add(slots: &mut [Slot], area: &mut [u8], designator: &[u8], text: &[u8]) -> Answer
     ensures { (result ≡ reply_numbers (reply_of (add_lent slots.old area.old designator.now text.now)))
         × (slots.new ≡ on_slots (add_lent slots.old area.old designator.now text.now) slots.old)
         × (area.new ≡ on_area (add_lent slots.old area.old designator.now text.now) area.old) }
@@ -91,13 +84,7 @@ pub extern "C" fn esk_board_add(
     s.answer
 }
 
-#[unsafe(no_mangle)]
-pub extern "C" fn esk_board_take(
-    slots: &mut [Slot],
-    area: &[u8],
-    designator: &[u8],
-    out: &mut [u8],
-) -> Answer
+pub fn esk_board_take(slots: &mut [Slot], area: &[u8], designator: &[u8], out: &mut [u8]) -> Answer
     ensures { (result ≡ reply_numbers (reply_of (take_lent slots.old area.now designator.now (length out.old))))
         × (slots.new ≡ on_slots (take_lent slots.old area.now designator.now (length out.old)) slots.old)
         × (out.new ≡ on_out (take_lent slots.old area.now designator.now (length out.old)) out.old) }

@@ -15,15 +15,13 @@ use command_write::Wrote;
 use command_write::write::write;
 use text::Seen;
 
-#[unsafe(no_mangle)]
-pub extern "C" fn esk_command_check(text: &[u8]) -> Answer
+pub fn esk_command_check(text: &[u8]) -> Answer
     ensures { result ≡ check_numbers (check_command text.now) }
 {
     numbers(check(text), 0)
 }
 
-#[unsafe(no_mangle)]
-pub extern "C" fn esk_command_read(text: &[u8]) -> CommandAnswer
+pub fn esk_command_read(text: &[u8]) -> CommandAnswer
     ensures { result ≡ command_numbers (read_command text.now) }
 {
     let mut places: [usize; 11] = [0; 11];
@@ -61,8 +59,7 @@ fn write_answer(command: Command, out: &mut [u8]) -> Answer
     wrote_answer(w)
 }
 
-#[unsafe(no_mangle)]
-pub extern "C" fn esk_command_write(command: &Command, out: &mut [u8]) -> Answer
+pub fn esk_command_write(command: &Command, out: &mut [u8]) -> Answer
     ensures { (result ≡ write_numbers (write_seen command.now (length out.old)) (length (command_text command.now)))
         × (out.new
         ≡ left_by (write_seen command.now (length out.old)) (command_text command.now) out.old) }

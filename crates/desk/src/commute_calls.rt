@@ -43,8 +43,7 @@ fn commute_answer(c: Compared) -> HostCommute
     }
 }
 
-#[unsafe(no_mangle)]
-pub extern "C" fn esk_commute(a: &[u8], b: &[u8]) -> HostCommute
+pub fn esk_commute(a: &[u8], b: &[u8]) -> HostCommute
     ensures { result ≡ commute_numbers (compared a.now b.now) }
 {
     commute_answer(compare(a, b))

@@ -11,8 +11,7 @@ use settings::Settings;
 use settings::reset::after_reset;
 use settings::valid::is_valid;
 
-#[unsafe(no_mangle)]
-pub extern "C" fn esk_reset() -> Settings
+pub fn esk_reset() -> Settings
     ensures { result ≡ reset }
 {
     after_reset()
@@ -27,8 +26,7 @@ fn valid_answer(x: Settings) -> Answer
     answer_of(12, 0)
 }
 
-#[unsafe(no_mangle)]
-pub extern "C" fn esk_settings_valid(settings: &Settings) -> Answer
+pub fn esk_settings_valid(settings: &Settings) -> Answer
     ensures { result ≡ valid_numbers (valid settings.now) }
 {
     valid_answer(*settings)
@@ -59,8 +57,7 @@ fn outcome_of(x: Settings, text: &[u8]) -> Outcome
 }
 
 // In place: a refusal stores nothing.
-#[unsafe(no_mangle)]
-pub extern "C" fn esk_apply(settings: &mut Settings, text: &[u8]) -> HostApplied
+pub fn esk_apply(settings: &mut Settings, text: &[u8]) -> HostApplied
     ensures { (result ≡ applied_numbers (applied settings.old text.now))
         × (settings.new ≡ kept settings.old text.now) }
 {

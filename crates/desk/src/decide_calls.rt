@@ -55,8 +55,7 @@ fn answer_for(
     decided_answer(decide(x, phase, latitude, longitude, hour, airfield))
 }
 
-#[unsafe(no_mangle)]
-pub extern "C" fn esk_decide(
+pub fn esk_decide(
     settings: &Settings,
     phase: u8,
     latitude: i32,
@@ -151,8 +150,7 @@ fn explanation_for(
     explained_answer(explain(x, phase, latitude, longitude, hour, airfield))
 }
 
-#[unsafe(no_mangle)]
-pub extern "C" fn esk_explain(
+pub fn esk_explain(
     settings: &Settings,
     phase: u8,
     latitude: i32,

@@ -37,12 +37,7 @@ fn difference_answer(first: Settings, second: Settings, out: &mut [u8]) -> HostD
     differing_answer(d)
 }
 
-#[unsafe(no_mangle)]
-pub extern "C" fn esk_difference(
-    first: &Settings,
-    second: &Settings,
-    out: &mut [u8],
-) -> HostDiffering
+pub fn esk_difference(first: &Settings, second: &Settings, out: &mut [u8]) -> HostDiffering
     ensures { (result ≡ difference_numbers (difference first.now second.now (length out.old)))
         × (out.new ≡ left_by first.now second.now out.old) }
 {

@@ -28,14 +28,7 @@ fn gust_answer(d: Derived) -> HostGust
     }
 }
 
-#[unsafe(no_mangle)]
-pub extern "C" fn esk_gust(
-    row: u32,
-    height: i32,
-    mass: u32,
-    acceleration: u32,
-    speed: u32,
-) -> HostGust
+pub fn esk_gust(row: u32, height: i32, mass: u32, acceleration: u32, speed: u32) -> HostGust
     ensures { result ≡ gust_numbers (derived row height mass acceleration speed) }
 {
     gust_answer(derived_gust(row, height, mass, acceleration, speed))

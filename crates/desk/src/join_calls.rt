@@ -32,8 +32,7 @@ fn told_answer(told: Told) -> Answer
     }
 }
 
-#[unsafe(no_mangle)]
-pub extern "C" fn esk_join(first: &[u8], second: &[u8], out: &mut [u8]) -> Answer
+pub fn esk_join(first: &[u8], second: &[u8], out: &mut [u8]) -> Answer
     ensures { (result ≡ join_numbers (join first.now second.now (length out.old)))
         × (out.new ≡ joined_over (join first.now second.now (length out.old)) out.old) }
 {

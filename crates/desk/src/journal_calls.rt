@@ -75,28 +75,20 @@ fn entry_answer(l: Last) -> HostEntry
     }
 }
 
-#[unsafe(no_mangle)]
-pub extern "C" fn esk_journal_check(journal: &[u8], end: usize) -> Answer
+pub fn esk_journal_check(journal: &[u8], end: usize) -> Answer
     ensures { result ≡ check_numbers (check_journal journal.now end) }
 {
     numbers(check_journal(journal, end), 0)
 }
 
 // One entry from the end: the next call is asked with `end` at the offset of this one's answer.
-#[unsafe(no_mangle)]
-pub extern "C" fn esk_journal_last(journal: &[u8], end: usize) -> HostEntry
+pub fn esk_journal_last(journal: &[u8], end: usize) -> HostEntry
     ensures { result ≡ entry_numbers (last_entry journal.now end) }
 {
     entry_answer(last(journal, end))
 }
 
-#[unsafe(no_mangle)]
-pub extern "C" fn esk_journal_add(
-    journal: &mut [u8],
-    end: usize,
-    designator: &[u8],
-    text: &[u8],
-) -> Answer
+pub fn esk_journal_add(journal: &mut [u8], end: usize, designator: &[u8], text: &[u8]) -> Answer
     ensures { (result ≡ journal_numbers (added journal.old end designator.now text.now))
         × (journal.new ≡ added_over journal.old end designator.now text.now) }
 {
@@ -104,15 +96,13 @@ pub extern "C" fn esk_journal_add(
     journal_answer(told)
 }
 
-#[unsafe(no_mangle)]
-pub extern "C" fn esk_journal_drop(journal: &[u8], end: usize, count: usize) -> Answer
+pub fn esk_journal_drop(journal: &[u8], end: usize, count: usize) -> Answer
     ensures { result ≡ journal_numbers (dropped journal.now end count) }
 {
     journal_answer(drop_last(journal, end, count))
 }
 
-#[unsafe(no_mangle)]
-pub extern "C" fn esk_journal_print(journal: &[u8], end: usize, out: &mut [u8]) -> Answer
+pub fn esk_journal_print(journal: &[u8], end: usize, out: &mut [u8]) -> Answer
     ensures { (result ≡ journal_numbers (print_told journal.now end (length out.old)))
         × (out.new ≡ printed_over journal.now end out.old) }
 {
@@ -139,8 +129,7 @@ fn outcome_of_replay(journal: &[u8], end: usize, designator: &[u8]) -> ReplayOut
 }
 
 // In place: a refusal stores nothing.
-#[unsafe(no_mangle)]
-pub extern "C" fn esk_journal_replay(
+pub fn esk_journal_replay(
     settings: &mut Settings,
     journal: &[u8],
     end: usize,

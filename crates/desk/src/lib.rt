@@ -1,4 +1,4 @@
-// The exported calls, for the host program in C. Each takes numbers and byte strings, and its answer is made of numbers.
+// The calls of the host program, which `desk_c` exports to C. Each takes numbers and byte strings, and its answer is made of numbers.
 #![tactic(auto)]
 
 mod answers;
@@ -19,10 +19,29 @@ mod sheet_calls;
 mod tails_calls;
 mod track_calls;
 
+pub use board_calls::{esk_board_add, esk_board_check, esk_board_take};
 use caller::HostReport;
 use command::Command;
+pub use command_calls::{esk_command_check, esk_command_read, esk_command_write};
+pub use commute_calls::esk_commute;
+pub use config_calls::{esk_apply, esk_reset, esk_settings_valid};
+pub use decide_calls::{esk_decide, esk_explain};
+pub use difference_calls::esk_difference;
+pub use gust_calls::esk_gust;
+pub use join_calls::esk_join;
+pub use journal_calls::{
+    esk_journal_add, esk_journal_check, esk_journal_drop, esk_journal_last, esk_journal_print,
+    esk_journal_replay,
+};
+pub use office_calls::esk_office_add;
+pub use packed_calls::{esk_packed_read, esk_packed_write};
+pub use report_calls::{esk_report_check, esk_report_read, esk_report_write};
+pub use section_calls::esk_section;
 use sheet::Sheet;
+pub use sheet_calls::{esk_sheet_check, esk_sheet_read, esk_sheet_write};
+pub use tails_calls::{esk_tails_add, esk_tails_find, esk_tails_make, esk_tails_take};
 use track::HostPoint;
+pub use track_calls::esk_report_track;
 
 // The answer of a call that checks or writes.
 #[repr(C)]

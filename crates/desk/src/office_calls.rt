@@ -28,8 +28,7 @@ fn serve_office(
     serve_done(place_for(v, w, area, text, own, other))
 }
 
-#[unsafe(no_mangle)]
-pub extern "C" fn esk_office_add(
+pub fn esk_office_add(
     slots: &mut [Slot],
     area: &mut [u8],
     designator: &[u8],

@@ -59,8 +59,7 @@ fn packed_answer(p: Packed) -> PackedAnswer
     }
 }
 
-#[unsafe(no_mangle)]
-pub extern "C" fn esk_packed_read(field: &[u8]) -> PackedAnswer
+pub fn esk_packed_read(field: &[u8]) -> PackedAnswer
     ensures { result ≡ packed_numbers (read_packed field.now) }
 {
     packed_answer(read_lone(field))
@@ -96,8 +95,7 @@ fn write_answer(code: u8, width: usize) -> Answer
     }
 }
 
-#[unsafe(no_mangle)]
-pub extern "C" fn esk_packed_write(figure: HostFigure, width: usize, out: &mut [u8]) -> Answer
+pub fn esk_packed_write(figure: HostFigure, width: usize, out: &mut [u8]) -> Answer
     ensures { (result ≡ write_answer (write_figure_code figure width (length out.old)) width)
         × (out.new ≡ figure_over figure width out.old) }
 {

@@ -17,8 +17,7 @@ use report::Got;
 use report::check::check;
 use report::read::read;
 
-#[unsafe(no_mangle)]
-pub extern "C" fn esk_report_check(text: &[u8]) -> Answer
+pub fn esk_report_check(text: &[u8]) -> Answer
     ensures { result ≡ check_numbers (check_text text.now) }
 {
     let t = worth_table();
@@ -35,16 +34,14 @@ fn report_answer(g: Got) -> ReportAnswer
     }
 }
 
-#[unsafe(no_mangle)]
-pub extern "C" fn esk_report_read(text: &[u8]) -> ReportAnswer
+pub fn esk_report_read(text: &[u8]) -> ReportAnswer
     ensures { result ≡ report_numbers (read_report text.now) }
 {
     let t = worth_table();
     report_answer(read(&t, text))
 }
 
-#[unsafe(no_mangle)]
-pub extern "C" fn esk_report_write(report: HostReport, out: &mut [u8]) -> Answer
+pub fn esk_report_write(report: HostReport, out: &mut [u8]) -> Answer
     ensures { (result ≡ write_numbers (host_seen report (length out.old)) 220)
         × (out.new ≡ left_by (host_seen report (length out.old)) (report_text (record_of report)) out.old) }
 {

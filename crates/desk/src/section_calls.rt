@@ -33,8 +33,7 @@ fn part_answer(found: Found) -> HostPart
     }
 }
 
-#[unsafe(no_mangle)]
-pub extern "C" fn esk_section(number: u32, text: &[u8]) -> HostPart
+pub fn esk_section(number: u32, text: &[u8]) -> HostPart
     ensures { result ≡ part_numbers (find_section number text.now) }
 {
     let found = find(number as usize, text);

@@ -11,8 +11,7 @@ use sheet::read::read;
 use sheet::write::write;
 use sheet::{Got, Sheet};
 
-#[unsafe(no_mangle)]
-pub extern "C" fn esk_sheet_check(text: &[u8]) -> Answer
+pub fn esk_sheet_check(text: &[u8]) -> Answer
     ensures { result ≡ check_numbers (check_sheet text.now) }
 {
     numbers(check(text), 0)
@@ -29,15 +28,13 @@ fn sheet_answer(g: Got) -> SheetAnswer
     }
 }
 
-#[unsafe(no_mangle)]
-pub extern "C" fn esk_sheet_read(text: &[u8]) -> SheetAnswer
+pub fn esk_sheet_read(text: &[u8]) -> SheetAnswer
     ensures { result ≡ sheet_numbers (read_sheet text.now) }
 {
     sheet_answer(read(text))
 }
 
-#[unsafe(no_mangle)]
-pub extern "C" fn esk_sheet_write(sheet: Sheet, out: &mut [u8]) -> Answer
+pub fn esk_sheet_write(sheet: Sheet, out: &mut [u8]) -> Answer
     ensures { (result ≡ write_numbers (write_seen sheet (length out.old)) 913)
         × (out.new ≡ left_by (write_seen sheet (length out.old)) (sheet_text sheet) out.old) }
 {

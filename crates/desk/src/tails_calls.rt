@@ -86,16 +86,14 @@ fn serve_listed_take(
     s
 }
 
-#[unsafe(no_mangle)]
-pub extern "C" fn esk_tails_find(slots: &[Slot], list: &[u8], designator: &[u8]) -> HostTail
+pub fn esk_tails_find(slots: &[Slot], list: &[u8], designator: &[u8]) -> HostTail
     ensures { result ≡ tail_numbers (search_lent slots.now list.now designator.now) }
 {
     let k = keys_of(slots);
     serve_find(k, list, designator)
 }
 
-#[unsafe(no_mangle)]
-pub extern "C" fn esk_tails_make(slots: &[Slot], list: &mut [u8]) -> Answer
+pub fn esk_tails_make(slots: &[Slot], list: &mut [u8]) -> Answer
     ensures { (result ≡ board_numbers (has_list slots.now list.old))
         × (list.new ≡ made_lent slots.now list.old) }
 {
@@ -103,8 +101,7 @@ pub extern "C" fn esk_tails_make(slots: &[Slot], list: &mut [u8]) -> Answer
     serve_make(k, list)
 }
 
-#[unsafe(no_mangle)]
-pub extern "C" fn esk_tails_add(
+pub fn esk_tails_add(
     slots: &mut [Slot],
     area: &mut [u8],
     list: &mut [u8],
@@ -124,8 +121,7 @@ pub extern "C" fn esk_tails_add(
     s.answer
 }
 
-#[unsafe(no_mangle)]
-pub extern "C" fn esk_tails_take(
+pub fn esk_tails_take(
     slots: &mut [Slot],
     area: &[u8],
     list: &mut [u8],

@@ -22,8 +22,7 @@ fn track_answer(f: Followed) -> HostTrack
     }
 }
 
-#[unsafe(no_mangle)]
-pub extern "C" fn esk_report_track(text: &[u8]) -> HostTrack
+pub fn esk_report_track(text: &[u8]) -> HostTrack
     ensures { result ≡ track_numbers (followed text.now) }
 {
     let t = worth_table();

@@ -4,57 +4,42 @@
 
 use journal::Told;
 use journal::print::print;
-use libc::{STDIN_FILENO, STDOUT_FILENO};
+use std::io::{Read, Write};
+use std::rt::Files;
+use std::{env, fs, io};
 
-// Reading stops at the end of a file as it does where a read fails: only the next read tells the two apart.
-fn is_failed(fd: i32) -> bool {
-    let mut more = [0u8; 1];
-    let got = libc::read(fd, &mut more);
-    got < 0
-}
-
-// One byte more than a journal may have is read, so that a longer file is seen to be one.
-fn print_from(fd: i32, name: &[u8]) {
-    let mut journal = io::large_buffer();
-    let n = io::read_full(fd, &mut journal);
-    if is_failed(fd) {
-        os::fail(name);
-        return;
+// A byte and one more than a journal may have are read, so that a longer file is seen to be one, and a read that fails there too.
+fn print_from<R: Print + Eprint + AllocGlobal, F: Read + Drop>(
+    rt: &R,
+    from: F,
+    name: &str,
+) -> io::Result<()> {
+    let mut journal = Vec::new(rt.alloc());
+    let read = from.take(65537).read_to_end(&mut journal);
+    if let Err(e) = read {
+        return eprintln!(rt; "{name}: {e}");
     }
     let mut out = [0u8; 131072];
-    match print(&journal, n, &mut out) {
-        Told::Refused(_, _) => {}
-        Told::Length(m) => {
-            io::write_all(STDOUT_FILENO, &out[..m]);
-        }
+    match print(&journal, journal.len(), &mut out) {
+        Told::Refused(_, _) => Ok(()),
+        Told::Length(m) => io::writer(rt).write_all(&out[..m]),
     }
 }
 
-fn print_named(i: usize) {
-    let mut path = io::buffer();
-    let length = os::arg(i, &mut path);
-    if os::errno() != 0 {
-        os::fail(b"path");
-        return;
+fn print_named<R: Print + Eprint + AllocGlobal + Files>(rt: &R, path: &str) -> io::Result<()> {
+    match fs::open(rt, path) {
+        Ok(file) => print_from(rt, file, path),
+        Err(e) => eprintln!(rt; "{path}: {e}"),
     }
-    let fd = os::open_read(&path[..length]);
-    if fd < 0 {
-        os::fail(&path[..length]);
-        return;
-    }
-    print_from(fd, &path[..length]);
-    libc::close(fd);
 }
 
-fn main() {
-    let count = os::arg_count();
-    if count < 2 {
-        print_from(STDIN_FILENO, b"standard input");
-        return;
+fn main(rt: HostRuntime) -> io::Result<()> {
+    let args = env::args(&rt)?;
+    if args.len() < 2 {
+        return print_from(&rt, rt.stdin(), "standard input");
     }
-    let mut i = 1;
-    while i < count {
-        print_named(i);
-        i += 1;
+    for path in args.skip(1) {
+        print_named(&rt, path.as_str())?;
     }
+    Ok(())
 }

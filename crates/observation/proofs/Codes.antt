@@ -7,7 +7,6 @@ use lib.Dec.{eqb, ltb}
 use lib.IntN.{ℤ}
 use lib.ListN.{length, get_or, take, drop}
 use Rattle.packed.specs.Packed.{width_ok, all_solidi, trim, all_digits, number, figure_of, holds, fault, spelt, read_packed}
-use Rattle.packed.specs.declared.Figure.{Figure}
 use Rattle.packed.specs.declared.Figure.TheVariants.{Given, Missing}
 use Rattle.packed.specs.declared.Packed.{Packed}
 use Rattle.packed.specs.declared.Packed.TheVariants.{Is, Refused}
@@ -15,13 +14,10 @@ use Rattle.observation.specs.Figures.{in_range, ranged, read_figure, Figures, Al
 use Rattle.observation.specs.Observation.{is_kind, is_quality, alike, position_from, read_position, air_from, read_air, water_from, read_water, observed, read_fields, read_first, present_from, read_later}
 use Rattle.observation.specs.Rows.{air_rows, water_rows, first_rows, later_rows}
 use Rattle.observation.specs.declared.Row.{Row}
-use Rattle.observation.specs.declared.Air.{Air}
 use Rattle.observation.specs.declared.AirRead.{AirRead}
 use Rattle.observation.specs.declared.AirRead.TheVariants.{Is as AirIs, Not as AirNot}
-use Rattle.observation.specs.declared.Water.{Water}
 use Rattle.observation.specs.declared.WaterRead.{WaterRead}
 use Rattle.observation.specs.declared.WaterRead.TheVariants.{Is as WaterIs, Not as WaterNot}
-use Rattle.observation.specs.declared.Position.{Position}
 use Rattle.observation.specs.declared.PositionRead.{PositionRead}
 use Rattle.observation.specs.declared.PositionRead.TheVariants.{Is as PositionIs, Not as PositionNot}
 use Rattle.observation.specs.declared.Later.TheVariants.{Absent}

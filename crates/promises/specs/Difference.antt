@@ -94,7 +94,7 @@ pub record CommandOf (a b : Settings) (r : HostDiffering) (c : List ℕ) : Type 
   -- and one that sets nothing else and asks for no downlink is this one
   pub only : (s : List ℕ) → Makes a b s → ((i : ℕ) → i < 7 → SetsFlag s i → IsListed r (i + 1))
       → ((k : ℕ) → 2 ≤ k → k ≤ 9 → SetsSection s k → IsListed r (k + 10)) → get_or s 12 0 ≡ 48 → s ≡ c
-  -- "Equal configurations give an empty list and the no_change command", and others do not
+  -- "Equal configurations give an empty list and the no-change command", and others do not
   pub equal : (a ≡ b) ↔ (r.count ≡ 0)
   pub no_change : (a ≡ b) ↔ (c ≡ bytes "AWR049999999000000000/")
 

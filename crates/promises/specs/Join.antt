@@ -59,7 +59,7 @@ pub record JoinPromises : Type 0 where
   -- "Grouping of three never alters a byte"
   pub grouping : (a b c : List ℕ) → IsAccepted a → IsAccepted b → IsAccepted c
       → join_text (join_text a b) c ≡ join_text a (join_text b c)
-  -- "the no_change command joined on either side alters nothing"
+  -- "the no-change command joined on either side alters nothing"
   pub no_change : IsAccepted no_change_text
   pub no-change-first : (a : List ℕ) → IsAccepted a → join_text no_change_text a ≡ a
   pub no-change-second : (a : List ℕ) → IsAccepted a → join_text a no_change_text ≡ a

@@ -9,7 +9,6 @@ use lib.ListN.{get_or}
 use borrow.Author.Tests.{le-leb, lt-leb, leb-true, ltb-true, eqb-true}
 use Rattle.text.specs.Parts.{part}
 use Rattle.text.specs.Names.{between, all_allowed}
-use Rattle.text.specs.Table.{values}
 use Rattle.text.specs.declared.Seen.TheVariants.{Fine}
 use Rattle.text.proofs.Cases.{by_test, by_eq, by_lt, both_left, both_right}
 use Rattle.field.proofs.Decimal.{part-long}

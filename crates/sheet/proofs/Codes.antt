@@ -6,7 +6,6 @@ use Prim.Native.Nat.{ℕ, zero, suc, ◌+◌, ◌≤◌, ◌<◌}
 use native.Mathlib.Omega.{arith}
 use lib.Dec.{eqb}
 use lib.ListN.{length}
-use Rattle.text.specs.Parts.{part}
 use Rattle.text.specs.Bytes.{is_one_of}
 use Rattle.text.specs.declared.Seen.{Seen}
 use Rattle.text.specs.declared.Seen.TheVariants.{Fine, Bad}
@@ -17,9 +16,9 @@ use Rattle.sheet.specs.declared.Form.TheVariants.{Name, Switch, Digit, Number}
 use Rattle.sheet.specs.declared.Cell.{Cell}
 use Rattle.sheet.specs.declared.Word.{Word}
 use Rattle.sheet.specs.declared.Sheet.{Sheet}
-use Rattle.sheet.specs.Number.{refused, digits_read, signed_read, number_read}
+use Rattle.sheet.specs.Number.{digits_read, signed_read, number_read}
 use Rattle.sheet.specs.Layout.{cell_at}
-use Rattle.sheet.specs.Sheet.{seen, field_at, field_end, label_of, line_end, fixed_code, one, bytes_read, field_read, each, check_cell, check_sheet, held_at, held_code, allowed_cell, allowed_sheet}
+use Rattle.sheet.specs.Sheet.{seen, field_at, field_end, label_of, line_end, fixed_code, bytes_read, field_read, each, check_cell, check_sheet, held_at, held_code, allowed_cell, allowed_sheet}
 
 -- a refusal has one of these codes
 abbrev pub coded : List ℕ → Seen → Bool
@@ -81,7 +80,7 @@ module _ (codes : List ℕ) (none : is_one_of codes 0 ≡ true) (four : is_one_o
   -- and 8 where they are not all there
   field-given : is_one_of codes 8 ≡ true → (form : Form) (s : List ℕ) (at : ℕ) → is_one_of codes (field_read form s at).code ≡ true
   unfolding field_read
-  field-given eight form s at = simp (code_of, one_of, bytes-given, four, eight, both)
+  field-given eight form s at = simp (code_of, one_of, bytes-given, eight, both)
 
 -- 3 and 8 all that a fixed group does
 fixed_given : (codes : List ℕ) → is_one_of codes 0 ≡ true → is_one_of codes 3 ≡ true → is_one_of codes 8 ≡ true → (t s : List ℕ) (at : ℕ) → is_one_of codes (fixed_code t s at) ≡ true

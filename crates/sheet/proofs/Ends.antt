@@ -17,7 +17,6 @@ use Rattle.text.proofs.Cases.{by_lt}
 use Rattle.sheet.specs.declared.Form.{Form}
 use Rattle.sheet.specs.declared.Cell.{Cell}
 use Rattle.sheet.specs.declared.Word.{Word}
-use Rattle.sheet.specs.Number.{refused}
 use Rattle.sheet.specs.Layout.{width_of, cell_at}
 use Rattle.sheet.specs.Inner.{size_of_cell}
 use Rattle.sheet.specs.Sheet.{seen, field_at, field_end, cell_end, begins_at, Has, label_of, line_end, fixed_code, field_read, each, check_cell, check_sheet, bytes_read}

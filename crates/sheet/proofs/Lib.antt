@@ -1,5 +1,4 @@
 -- The laws of the sheet's numbers, cells and texts.
-pub mod Choice
 pub mod Scan
 pub mod Counted
 pub mod Small

@@ -25,7 +25,7 @@ use Rattle.sheet.specs.Number.{is_below, size_of, within}
 use Rattle.sheet.specs.Layout.{width_of, cell_at, box_cell, airport_cell}
 use Rattle.sheet.specs.Allowed.{Sized}
 use Rattle.sheet.specs.Inner.{size_of_cell}
-use Rattle.sheet.specs.Sheet.{seen, field_at, field_end, label_of, line_end, fixed_code, one, digit_read, switch_read, bytes_read, field_read, each, check_cell, check_sheet, word_at, name_cell, airport_byte, airport_of, sheet_at, held_at, held_code, allowed_sheet, field_text, cell_text, joined, held_text, sheet_text}
+use Rattle.sheet.specs.Sheet.{seen, field_at, field_end, label_of, line_end, fixed_code, one, digit_read, switch_read, bytes_read, field_read, check_cell, check_sheet, word_at, name_cell, airport_byte, airport_of, sheet_at, held_at, held_code, allowed_sheet, field_text, cell_text, joined, held_text, sheet_text}
 use Rattle.sheet.proofs.Small.{every, not-held}
 use Rattle.sheet.proofs.Contents.{sizes, sizes-more, sizes-all, joined-more, label_length, is_word, is_four, word_cell, name_cell_lem, status-cell, status-is, status-held, code-held, number-length, cell-length, allowed-held, number-held, edge-held, name_of, status-of, first_of, airports-few, airport_back, airport_next}
 use Rattle.sheet.proofs.Each.{each_all}

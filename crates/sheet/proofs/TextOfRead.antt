@@ -29,7 +29,7 @@ use Rattle.sheet.specs.declared.Sheet.{Sheet}
 use Rattle.sheet.specs.Number.{number_read, number_text}
 use Rattle.sheet.specs.Layout.{width_of, cell_at, box_cell, airport_cell}
 use Rattle.sheet.specs.Inner.{small_form, size_of_cell}
-use Rattle.sheet.specs.Sheet.{seen, field_at, field_end, label_of, line_end, fixed_code, one, digit_read, switch_read, bytes_read, field_read, check_cell, check_sheet, word_at, name_cell, airport_byte, airport_of, sheet_at, held_at, field_text, cell_text, joined, held_text, sheet_text}
+use Rattle.sheet.specs.Sheet.{seen, field_at, field_end, label_of, line_end, fixed_code, digit_read, switch_read, bytes_read, field_read, check_cell, check_sheet, word_at, name_cell, airport_byte, airport_of, sheet_at, held_at, field_text, cell_text, joined, held_text, sheet_text}
 use Rattle.sheet.proofs.Small.{every, not-held, cell-small, small-parts, small-number}
 use Rattle.sheet.proofs.Contents.{seen-fine, sizes, sizes-more, sizes-all, joined-more, label_length, is_word, is_four, word_cell, name_cell_lem, status-cell, part-four, airports-few}
 use Rattle.sheet.proofs.Checked.{checked-length, checked-cell}

@@ -1,15 +1,14 @@
 -- A search through a board's list answers by the slots alone.
 use mathlib.Core.Path.{◌≡◌, refl, sym, ◌∙◌, ap}
-use mathlib.Core.Bool.{Bool, true, false, cond, ◌&&◌}
+use mathlib.Core.Bool.{true, false, ◌&&◌}
 use mathlib.Core.List.{List, [], ◌∷◌}
-use Prim.Native.Nat.{ℕ, zero, suc, ◌≤◌, ◌<◌}
+use Prim.Native.Nat.{ℕ, ◌≤◌, ◌<◌}
 use native.Mathlib.Omega.{arith}
-use lib.Dec.{leb, ltb, eqb}
+use lib.Dec.{ltb, eqb}
 use lib.ListN.{length, get_or}
-use borrow.Author.Tests.{lt-ltb, le-ltb, le-leb, eq-eqb, ltb-true, eqb-true}
-use Rattle.text.proofs.Cases.{by_test, by_lt, both_left, both_right}
+use borrow.Author.Tests.{lt-ltb, le-ltb, le-leb, eq-eqb, eqb-true}
+use Rattle.text.proofs.Cases.{by_test, both_right}
 use Rattle.tails.specs.Tails.{key, below, sorted, rises, member, listed, list_of, agrees, find_in}
-use Rattle.tails.specs.declared.search.Tail.{Tail}
 use Rattle.tails.specs.declared.search.Tail.TheVariants.{At, Nowhere}
 use Rattle.tails.proofs.Unique.{Agreed, rises-first, rises-rest, rises-above, first-or, no_member, used-listed, agreed, agrees-one}
 use Rattle.tails.proofs.Made.{Different, made-agrees}

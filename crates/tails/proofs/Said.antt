@@ -1,24 +1,23 @@
 -- A list that agrees with its board is the board's list, in the document's words.
 use mathlib.Core.Path.{◌≡◌, refl, sym, ap, ◌∙◌, subst}
-use mathlib.Core.Bool.{Bool, true, false, cond, ◌&&◌, ◌||◌}
+use mathlib.Core.Bool.{true, cond}
 use mathlib.Core.List.{List, [], ◌∷◌}
-use Prim.Native.Nat.{ℕ, zero, suc, ◌+◌, ◌-◌, ◌≤◌, ◌<◌}
+use Prim.Native.Nat.{ℕ, zero, suc, ◌+◌, ◌≤◌, ◌<◌}
 use native.Mathlib.Numerals.{add-one}
 use native.Mathlib.Omega.{arith}
-use lib.Dec.{leb, ltb, eqb}
+use lib.Dec.{leb, eqb}
 use lib.ListN.{length, get_or, take, drop}
 use lib.Seq.{length-take-le}
-use borrow.Author.Tests.{le-leb, leb-true, eq-eqb, ne_eqb, eqb-true, lt-ltb, ltb-true}
-use Rattle.text.proofs.Cases.{by_eq, by_le, by_lt, by_test, both_left, both_right}
-use Rattle.board.specs.Lent.{no_slot}
+use borrow.Author.Tests.{le-leb, leb-true, eq-eqb, ne_eqb, eqb-true, lt-ltb}
+use Rattle.text.proofs.Cases.{by_eq, by_lt, both_left, both_right}
 use Rattle.board.specs.Words.{slot_at, InUse}
 use Rattle.board.specs.declared.Slot.{Slot}
 use Rattle.tails.specs.Tails.{rank_from, key, rises, listed, member, covers, all_blank, agrees}
 use Rattle.tails.specs.Keys.{rank_of, key_of, keys_of, is_list_of}
-use Rattle.tails.specs.Words.{Earlier, all_bytes, SixBytes, designator_at, ListOf}
+use Rattle.tails.specs.Words.{SixBytes, designator_at, ListOf}
 use Rattle.tails.proofs.Keyed.{length_keys, get_d_taken}
 use Rattle.tails.proofs.Steps.{listed-most, listed-front, no_key}
-use Rattle.tails.proofs.Unique.{Agreed, agreed, rises-first, rises-rest, first-or, no_member, is-first, is_later, used-listed, listed-used}
+use Rattle.tails.proofs.Unique.{Agreed, agreed, rises-first, rises-rest, no_member, is-first, is_later, used-listed, listed-used}
 use Rattle.tails.proofs.Order.{earlier_less, less_earlier}
 
 -- ---- Keys and slots

@@ -1,26 +1,25 @@
 -- The list of a valid board: there is one, a call keeps it, and a search through it answers as a walk over the slots does.
 use mathlib.Core.Path.{◌≡◌, refl, sym, ap, ◌∙◌, subst}
-use mathlib.Core.Bool.{Bool, true, false, cond, ◌&&◌, ◌||◌}
+use mathlib.Core.Bool.{true, false}
 use mathlib.Core.List.{List, [], ◌∷◌}
-use Prim.Native.Nat.{ℕ, zero, suc, ◌+◌, ◌≤◌, ◌<◌}
+use Prim.Native.Nat.{ℕ, ◌≤◌, ◌<◌}
 use native.Mathlib.Omega.{arith}
 use lib.Dec.{leb, ltb, eqb}
-use lib.ListN.{length, get_or, take, drop}
+use lib.ListN.{length, get_or}
 use borrow.Author.Tests.{le-leb, lt-leb, lt-ltb, leb-true}
 use Rattle.text.specs.Names.{allowed, all_allowed, is_designator}
-use Rattle.text.specs.declared.Seen.TheVariants.{Fine}
 use Rattle.text.proofs.Cases.{by_lt, by_test, both_left, both_right}
-use Rattle.board.specs.Board.{past_refusals, is_valid, on_board}
-use Rattle.board.specs.History.{Event, move}
-use Rattle.board.specs.Lent.{is_shaped, is_valid_lent, board_of, on_slots, on_area}
+use Rattle.board.specs.Board.{is_valid, on_board}
+use Rattle.board.specs.History.{Event}
+use Rattle.board.specs.Lent.{is_shaped, is_valid_lent, on_slots, on_area}
 use Rattle.board.specs.Calls.{Lent, board_in, call, on_lent}
-use Rattle.board.specs.Words.{slot_at, InUse, WellFormed, ValidBoard, IsOwn}
+use Rattle.board.specs.Words.{slot_at, WellFormed, ValidBoard, IsOwn}
 use Rattle.board.specs.declared.Slot.{Slot}
 use Rattle.board.proofs.WaitingSlots.{never, both}
 use Rattle.board.proofs.Steps.{right}
 use Rattle.board.proofs.Calls.{call-move, call-board, call-shaped}
 use Rattle.board.proofs.LentWords.{formed, form, valid-said, said-valid}
-use Rattle.tails.specs.Tails.{rank_from, key, below, listed, agrees, list_of, find_in}
+use Rattle.tails.specs.Tails.{key, below, listed, agrees, list_of, find_in}
 use Rattle.tails.specs.Keys.{rank_of, keys_of, is_list_of}
 use Rattle.tails.specs.Words.{Earlier, all_bytes, designator_at}
 use Rattle.tails.specs.Calls.{refused_search, told_of, sought_by, search_lent}
@@ -28,12 +27,11 @@ use Rattle.tails.specs.declared.lent.Sought.{Sought}
 use Rattle.tails.specs.declared.search.Tail.{Tail}
 use Rattle.tails.specs.declared.search.Tail.TheVariants.{At, Nowhere}
 use Rattle.tails.proofs.Made.{Different, made-agrees}
-use Rattle.tails.proofs.Unique.{Agreed, agreed, agrees-one}
+use Rattle.tails.proofs.Unique.{agreed, agrees-one}
 use Rattle.tails.proofs.Found.{rises_sorted, finds, found-key, listed-is}
 use Rattle.tails.proofs.Order.{earlier_less, less_earlier, same_rank}
-use Rattle.tails.proofs.Keyed.{length_keys, get_d_taken}
-use Rattle.tails.proofs.Bisect.{below-most, before-is, before-not}
-use Rattle.tails.proofs.Steps.{listed-front}
+use Rattle.tails.proofs.Keyed.{length_keys}
+use Rattle.tails.proofs.Bisect.{before-is, before-not}
 use Rattle.tails.proofs.Said.{key-used, used-key, key-some, at-used}
 
 -- ---- Designators

@@ -1,0 +1,26 @@
+// Two offices on the waiting board, over the caller's own slots and text area.
+ghost use Rattle.std.specs.Prelude.{◌≡◌};
+ghost use Rattle.board.specs.Board.{reply_of};
+ghost use Rattle.board.specs.Lent.{on_slots, on_area};
+ghost use Rattle.offices.specs.Offices.{office_lent};
+ghost use Rattle.desk.specs.Waiting.{reply_numbers};
+
+use board::Slot;
+use desk::Answer;
+use offices::Grant;
+
+#[unsafe(no_mangle)]
+pub extern "C" fn esk_office_add(
+    slots: &mut [Slot],
+    area: &mut [u8],
+    designator: &[u8],
+    text: &[u8],
+    own: Grant,
+    other: Grant,
+) -> Answer
+    ensures { (result ≡ reply_numbers (reply_of (office_lent own other slots.old area.old designator.now text.now)))
+        × (slots.new ≡ on_slots (office_lent own other slots.old area.old designator.now text.now) slots.old)
+        × (area.new ≡ on_area (office_lent own other slots.old area.old designator.now text.now) area.old) }
+{
+    desk::esk_office_add(slots, area, designator, text, own, other)
+}

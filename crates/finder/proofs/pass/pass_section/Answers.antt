@@ -1,0 +1,39 @@
+-- `finder::pass::pass_section` meets its contract.
+use native.Mathlib.Omega.{arith}
+use mathlib.Core.Path.{◌≡◌, sym, ap, ◌∙◌}
+use Prim.Native.Nat.{ℕ}
+use lib.Dec.{lit≤}
+use Rattle.field.specs.Fields.{repeat}
+use Rattle.section.specs.Layout.{BoxList, table_of, layout_of, lists_and_digits}
+use Rattle.finder.specs.Finding.{pass_list}
+use Rattle.finder.proofs.Passing.{lists-reach, lists_stop, lists-on}
+use Rattle.finder.proofs.pass.pass_section.Goals as goal
+use Rattle.finder.proofs.pass.pass_section.Goals.{After-several}
+
+-- what the lists say
+lists : (c : After-several)
+    → let a = c.args in
+    c.several.result ≡ repeat (pass_list 16 14 a.s.now a.at) (table_of a.k).boxes a.at
+lists c =
+    let a = c.args in
+    c.several.ensures ∙ ap (λ (n : ℕ). repeat (pass_list 16 14 a.s.now a.at) n a.at) c.layout_of.ensures.boxes
+
+pub behind_boxes-requires : goal.behind_boxes-requires
+behind_boxes-requires c =
+    let a = c.args in
+    lists-reach 16 14 a.s.now a.at (lit≤ tt) (lit≤ tt) (table_of a.k).boxes a.at _ (omega (arith, c.requires))
+    (sym (lists (goal.at.behind_boxes-requires c).After-several) ∙ c.in-Next.is)
+
+pub returns-in-Stop : goal.returns-in-Stop
+unfolding layout_of
+returns-in-Stop c =
+    let a = c.args in
+    lists_stop BoxList (table_of a.k).boxes (lists_and_digits (table_of a.k)) a.s.now a.at a.at
+    (sym (lists (goal.at.returns-in-Stop c).After-several) ∙ c.in-Stop.is)
+
+pub returns-in-Next : goal.returns-in-Next
+unfolding layout_of
+returns-in-Next c =
+    let a = c.args in
+    lists-on BoxList (table_of a.k).boxes (lists_and_digits (table_of a.k)) a.s.now a.at a.at
+    (sym (lists (goal.at.returns-in-Next c).After-several) ∙ c.in-Next.is) c.behind_boxes.ensures

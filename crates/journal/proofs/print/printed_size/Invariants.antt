@@ -1,0 +1,13 @@
+-- `journal::print::printed_size` meets its contract. The loop's invariant: what was added up so far and the walk over the rest are the whole walk.
+use mathlib.Core.Path.{◌≡◌}
+use Prim.Native.Nat.{◌-◌, ◌*◌, ◌≤◌}
+use Rattle.journal.specs.Journal.{walk}
+use Rattle.journal.specs.Inner.{with_size}
+use Rattle.journal.proofs.print.printed_size.Given as goal
+
+abbrev pub invariant-loop-place : goal.invariant-loop-place
+invariant-loop-place l =
+    (l.size ≤ 2 * (65535 - l.here)) × (walk (with_size l.journal) l.journal l.end 0 ≡ walk (with_size l.journal) l.journal l.here l.size)
+
+abbrev pub decreases-loop-place : goal.decreases-loop-place
+decreases-loop-place l = l.here

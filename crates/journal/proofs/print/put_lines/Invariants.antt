@@ -1,0 +1,17 @@
+-- `journal::print::put_lines` meets its contract. The loop's invariant: some lines stand over the start, and the walk over the rest goes on from them.
+use mathlib.Core.Path.{◌≡◌}
+use mathlib.Core.List.{List, []}
+use Prim.Native.Nat.{ℕ}
+use lib.ListN.{length}
+use Rattle.text.specs.Over.{over}
+use Rattle.journal.specs.Journal.{walk}
+use Rattle.journal.specs.Inner.{with_line}
+use Rattle.journal.proofs.print.put_lines.Given as goal
+
+abbrev pub invariant-loop-at : goal.invariant-loop-at
+invariant-loop-at l =
+    (lines : List ℕ) × (l.written ≡ length lines) × (l.out ≡ over l.initial.out 0 lines) × (walk (with_line l.journal) l.journal l.end [] ≡ walk (with_line l.journal) l.journal l.here lines)
+    × (length l.out ≡ length l.initial.out)
+
+abbrev pub decreases-loop-at : goal.decreases-loop-at
+decreases-loop-at l = l.here

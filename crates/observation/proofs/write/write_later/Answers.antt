@@ -1,0 +1,27 @@
+-- `observation::write::write_later` meets its contract: solidi, or the observation.
+use borrow.Author.Rules.{rules}
+use mathlib.Core.Path.{ap, ◌∙◌}
+use Prim.Native.Nat.{ℕ}
+use lib.ListN.{replicate}
+use Rattle.observation.specs.Rows.{later_rows}
+use Rattle.observation.specs.Record.{later_text}
+use Rattle.observation.proofs.RoundTrip.{later-sound}
+use Rattle.observation.proofs.Checked.{present-allowed, allowed-fitting}
+use mathlib.Core.Bool.{false}
+use Rattle.observation.proofs.write.write_later.Goals as goal
+
+pub put_observation-requires : goal.put_observation-requires
+put_observation-requires c =
+    let o = c.in-Present.o in
+    let ok = present-allowed false 0 o (rw c.in-Present.is at c.requires.d_len.1) in
+    record { t_value = c.requires.t_value; n_bound = search rules; width_bound = (search rules, search rules, search rules, allowed-fitting later_rows o later-sound ok.1) }
+
+pub returns-in-Absent : goal.returns-in-Absent
+unfolding later_text
+returns-in-Absent c =
+    rw c.in-Absent.is (c.fill.ensures ∙ ap (λ (n : ℕ). replicate n 47) c.requires.d_len.0)
+
+pub returns-in-Present : goal.returns-in-Present
+unfolding later_text
+returns-in-Present c =
+    rw c.in-Present.is c.put_observation.ensures

@@ -1,0 +1,12 @@
+use borrow.Author.Rules.{rules}
+use mathlib.Core.Path.{◌≡◌}
+use mir.Val.{to_z, of_z}
+use mir.Syntax.{w32}
+use Rattle.packed.proofs.write.fits.Goals as goal
+use Rattle.packed.proofs.write.fits.Goals.{In-Given}
+
+back : (c : In-Given) → to_z w32 (of_z w32 c.in-Given.x) ≡ c.in-Given.x
+back c = search rules
+
+pub returns-in-Given : goal.returns-in-Given
+returns-in-Given c = rw (c.size.ensures, back (goal.at.returns-in-Given c).In-Given, c.half.ensures, c.in-Given.is)

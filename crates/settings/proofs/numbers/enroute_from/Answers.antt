@@ -1,0 +1,18 @@
+-- `settings::numbers::enroute_from` meets its contract.
+use lib.Dec.{lit≤}
+use Rattle.section.specs.Layout.{table_of}
+use Rattle.settings.specs.Settings.{enroute_from}
+use Rattle.settings.proofs.ByNumber.{amount_at}
+use Rattle.settings.proofs.numbers.enroute_from.Goals as goal
+
+pub byte-requires : goal.byte-requires
+unfolding table_of
+byte-requires c = c.requires 0 (lit≤ tt)
+
+pub byte-requires-2 : goal.byte-requires-2
+unfolding table_of
+byte-requires-2 c = c.requires 1 (lit≤ tt)
+
+pub returns : goal.returns
+unfolding enroute_from
+returns c = let v = c.args.v in rw (c.byte-2.ensures, c.byte.ensures, amount_at v 0, amount_at v 1)

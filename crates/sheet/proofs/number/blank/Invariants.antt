@@ -1,0 +1,12 @@
+use Rattle.sheet.specs.Number.{blanked}
+use Prim.Native.Nat.{◌-◌, ◌≤◌}
+use lib.ListN.{length, take, drop}
+use mathlib.Core.Path.{◌≡◌}
+use mathlib.Core.List.{◌++◌}
+use Rattle.sheet.proofs.number.blank.Given as goal
+
+abbrev pub invariant-loop-i : goal.invariant-loop-i
+invariant-loop-i l = (l.i ≤ length l.d) × (length l.d ≡ length l.initial.d) × (blanked l.initial.d ≡ take l.i l.d ++ blanked (drop l.i l.d))
+
+abbrev pub decreases-loop-i : goal.decreases-loop-i
+decreases-loop-i l = length l.d - l.i
