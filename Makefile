@@ -160,7 +160,6 @@ coverage: $(archive)
 	@compare/coverage $(ARGS)
 
 edits:
-	rt check
 	.ci/more-edits $(ARGS)
 
 clean:

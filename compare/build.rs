@@ -1,5 +1,5 @@
 //! Links the proved archive into the benchmark where there is one for this machine, and says so by `cfg(linked)`: what
-//! `rt staticlib desk` writes on x86-64, what `host/native build` writes elsewhere. Without it all else is still built.
+//! `host/native archive` writes on x86-64, what `host/native build` writes elsewhere. Without it all else is still built.
 
 use std::path::Path;
 
