@@ -8,6 +8,15 @@ use std::io::{Read, Write};
 use std::rt::Files;
 use std::{env, fs, io};
 
+// Tells what went wrong with a file, in the system's words alone: behind these an error has its number.
+fn tell<R: Eprint + AllocGlobal>(rt: &R, name: &str, error: io::Error) -> io::Result<()> {
+    let told = format!(in rt.alloc(); "{error}")?;
+    match told.as_str().split_once(" (os error") {
+        Some((words, _)) => eprintln!(rt; "{name}: {words}"),
+        None => eprintln!(rt; "{name}: {told}"),
+    }
+}
+
 // A byte and one more than a journal may have are read, so that a longer file is seen to be one, and a read that fails there too.
 fn print_from<R: Print + Eprint + AllocGlobal, F: Read + Drop>(
     rt: &R,
@@ -17,7 +26,7 @@ fn print_from<R: Print + Eprint + AllocGlobal, F: Read + Drop>(
     let mut journal = Vec::new(rt.alloc());
     let read = from.take(65537).read_to_end(&mut journal);
     if let Err(e) = read {
-        return eprintln!(rt; "{name}: {e}");
+        return tell(rt, name, e);
     }
     let mut out = [0u8; 131072];
     match print(&journal, journal.len(), &mut out) {
@@ -29,7 +38,7 @@ fn print_from<R: Print + Eprint + AllocGlobal, F: Read + Drop>(
 fn print_named<R: Print + Eprint + AllocGlobal + Files>(rt: &R, path: &str) -> io::Result<()> {
     match fs::open(rt, path) {
         Ok(file) => print_from(rt, file, path),
-        Err(e) => eprintln!(rt; "{path}: {e}"),
+        Err(e) => tell(rt, path, e),
     }
 }
 
