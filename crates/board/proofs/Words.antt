@@ -138,7 +138,7 @@ module _ (b : List WaitingSlot) (es : List Event) (o : is_empty_board b ≡ true
       (sym (reply-due (Add d t)) ∙ h) in
       (waits-none d (none_is (waiting d now) r.0), r.1)
 
-  -- an accepted command for a well-formed designator is refused empty_slot else, and is then heard
+  -- an accepted command for a well-formed designator is refused nowhere else, and is then heard
   pub accepts : (d t : List ℕ) → is_designator d ≡ true → check_command t ≡ Fine
       → (is_none (waiting d (after b es)) && not (any is_free (after b es))) ≡ false
       → since d (logged b (es ++ (Add d t ∷ []))) ≡ since d (logged b es) ++ (t ∷ [])

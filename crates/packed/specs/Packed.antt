@@ -37,7 +37,7 @@ digits = values digit_of 0 40
 
 -- ---- In k digits, most significant first, the figure is the base-40 number less 20·40^(k-1)
 
--- k digits span -halfOf k to half_of k - 1; no digits hold nothing
+-- k digits span -half_of k to half_of k - 1; no digits hold nothing
 unfoldable pub half_of : ℕ → ℕ
 half_of zero = 0
 half_of (suc k) = 20 * 40 ^ k

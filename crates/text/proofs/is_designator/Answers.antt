@@ -1,4 +1,4 @@
--- `text::is_designator` meets its contract: its two tests are those of `isDesignator`.
+-- `text::is_designator` meets its contract: its two tests are those of `is_designator`.
 use lib.ListN.{length}
 use borrow.Author.Tests.{eq-eqb, ne_eqb}
 use Rattle.text.proofs.is_designator.Goals as goal

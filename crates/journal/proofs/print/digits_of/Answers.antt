@@ -1,4 +1,4 @@
--- `journal::print::digits_of` meets its contract: its tests are those of `digitsOf`.
+-- `journal::print::digits_of` meets its contract: its tests are those of `digits_of`.
 use borrow.Author.Tests.{lt-ltb, le-ltb}
 use mathlib.Core.Path.{refl}
 use native.Mathlib.Omega.{arith}

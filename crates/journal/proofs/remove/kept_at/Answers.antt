@@ -1,4 +1,4 @@
--- `journal::remove::kept_at` meets its contract: its test is that of `keptAt`.
+-- `journal::remove::kept_at` meets its contract: its test is that of `kept_at`.
 use borrow.Author.Tests.{eq-eqb, ne_eqb}
 use Rattle.journal.specs.Inner.{kept_at}
 use Rattle.journal.proofs.remove.kept_at.Goals as goal

@@ -1,4 +1,4 @@
--- `journal::remove::kept_told` meets its contract: its test is that of `keptTold`.
+-- `journal::remove::kept_told` meets its contract: its test is that of `kept_told`.
 use borrow.Author.Tests.{eq-eqb, ne_eqb}
 use Rattle.journal.specs.Inner.{kept_told}
 use Rattle.journal.proofs.remove.kept_told.Goals as goal

@@ -1,4 +1,4 @@
--- `journal::step::last` meets its contract: its tests are those of `lastEntry`, in their order.
+-- `journal::step::last` meets its contract: its tests are those of `last_entry`, in their order.
 use borrow.Author.Tests.{eq-eqb, ne_eqb, le-leb, lt-leb}
 use lib.ListN.{length}
 use Rattle.journal.specs.Journal.{most, last_entry}
