@@ -1,18 +1,16 @@
 -- What is done by what a look over the lent slots found is what document 01 says of the board.
 use mathlib.Core.Path.{◌≡◌, refl, sym, ap, ◌∙◌, subst}
-use mathlib.Core.Bool.{Bool, true, false, cond, not, ◌&&◌}
-use mathlib.Core.List.{List, [], ◌∷◌}
+use mathlib.Core.Bool.{Bool, true, false, cond, ◌&&◌}
+use mathlib.Core.List.{List}
 use Prim.Native.Nat.{ℕ, ◌+◌, ◌*◌, ◌≤◌, ◌<◌}
 use native.Mathlib.Omega.{arith}
 use native.Mathlib.Nat.{zero-add}
 use lib.Dec.{leb, ltb, eqb}
-use lib.ListN.{length, get_or, set, take, drop, length-drop}
+use lib.ListN.{length, get_or, set, drop, length-drop}
 use lib.Seq.{set_out, length-take-le}
-use borrow.Author.Tests.{eq-eqb, le-leb, lt-ltb, le-ltb, leb-true, eqb-true}
+use borrow.Author.Tests.{le-leb, lt-ltb, le-ltb, leb-true, eqb-true}
 use Rattle.text.specs.Names.{is_designator}
-use Rattle.text.specs.Parts.{part}
-use Rattle.text.specs.declared.Seen.{Seen}
-use Rattle.text.specs.declared.Seen.TheVariants.{Fine, Bad}
+use Rattle.text.specs.declared.Seen.TheVariants.{Fine}
 use Rattle.text.proofs.Cases.{by_test, by_lt, both_left, both_right}
 use Rattle.command.specs.Text.{longest, check_command}
 use Rattle.command.proofs.Accepted.{accepted}
@@ -20,7 +18,7 @@ use Rattle.join.specs.Join.{Joined, Joins, Refuses, join_text, join}
 use Rattle.join.proofs.Laws.{join-short}
 use Rattle.board.specs.Board.{WaitingSlot, empty_slot, is_free, is_for, any, lowest, waiting, is_valid, Move, Stay, Put, Free, placed, handed_out, add, take_out}
 use Rattle.board.specs.Lent.{board_of, lengths_fit, is_shaped, add_lent, take_lent, is_valid_lent, no_slot, on_slots}
-use Rattle.board.specs.Inner.{wanted_by, start_of, scan_from, scanned, fits_at, waits_at, joins_to, own_move, free_move, placed_move, handed_move, add_move, take_move, done_of}
+use Rattle.board.specs.Inner.{wanted_by, start_of, scanned, fits_at, waits_at, joins_to, own_move, free_move, placed_move, handed_move, add_move, take_move, done_of}
 use Rattle.board.specs.declared.Slot.{Slot}
 use Rattle.board.specs.declared.Findings.{Findings}
 use Rattle.board.specs.declared.Wanted.{Wanted}
@@ -29,7 +27,7 @@ use Rattle.board.proofs.Valid.{waiting-fine}
 use Rattle.board.proofs.Steps.{is-fine}
 use Rattle.board.proofs.Lent.{Shape, shape, length-board, slot-at, text_at, fit_at}
 use Rattle.board.proofs.Refusals.{refusals-all, placing-all, handing-all, refusals-same, placing-same, handing-same, refusals-shaped}
-use Rattle.board.proofs.Scanned.{cond-true, cond-false, stays_bad, valid-all, scan_count, Owns, scan_own, scan_free}
+use Rattle.board.proofs.Scanned.{cond-true, stays_bad, valid-all, scan_count, Owns, scan_own, scan_free}
 
 -- some place passes exactly where the lowest is one of the board
 lowest-any : (test : WaitingSlot → Bool) (b : List WaitingSlot) → ltb (lowest test b) (length b) ≡ any test b

@@ -7,7 +7,6 @@ use native.Mathlib.Omega.{arith}
 use lib.Dec.{leb}
 use lib.ListN.{length}
 use Rattle.text.specs.Names.{is_designator}
-use Rattle.text.specs.declared.Seen.{Seen}
 use Rattle.text.specs.declared.Seen.TheVariants.{Fine, Bad}
 use Rattle.command.specs.Text.{check_command}
 use Rattle.command.proofs.Codes.{check-coded}

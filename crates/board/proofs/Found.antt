@@ -1,16 +1,16 @@
 -- What a look over the slots finds, in the functions that take one slot more.
 use mathlib.Core.Path.{◌≡◌, refl, sym, ap, ◌∙◌}
-use mathlib.Core.Bool.{Bool, true, false, cond, not, ◌&&◌, ◌||◌, and_assoc, and-true}
+use mathlib.Core.Bool.{Bool, true, false, not, ◌&&◌, ◌||◌, and_assoc, and-true}
 use mathlib.Core.List.{List, [], ◌∷◌}
-use Prim.Native.Nat.{ℕ, suc, ◌+◌, ◌-◌, ◌*◌, ◌≤◌, ◌<◌, ◌%◌, ◌^◌}
+use Prim.Native.Nat.{ℕ, suc, ◌+◌, ◌*◌, ◌≤◌, ◌<◌, ◌%◌, ◌^◌}
 use native.Mathlib.Numerals.{add-one}
 use native.Mathlib.Omega.{arith}
-use lib.Dec.{leb, ltb, eqb}
+use lib.Dec.{leb, eqb}
 use lib.ListN.{length, get_or, take, drop, drop_of_length-le}
 use lib.Seq.{take_all, take-length, length-take-le, get_or-take, drop-cons, drop-length}
-use borrow.Author.Tests.{le-leb, lt-leb, lt-ltb, le-ltb, ltb-true, leb-false}
+use borrow.Author.Tests.{lt-leb, lt-ltb, le-ltb, leb-false}
 use Rattle.text.specs.Equal.{same_bytes}
-use Rattle.text.proofs.Cases.{by_le, by_lt, by_test, both_right}
+use Rattle.text.proofs.Cases.{by_le, by_lt, by_test}
 use Rattle.text.proofs.Parts.{part_bytes}
 use Rattle.board.specs.Lent.{no_slot}
 use Rattle.board.specs.Inner.{is_used, used_for, none_for, alone_in, is_looked_at, until_at, first_of, step_of, scan_from, scanned}

@@ -1,7 +1,7 @@
 -- What is done by what a look over the slots found: laws of the functions that do it.
 use mathlib.Core.Path.{◌≡◌, refl, sym, ap, ◌∙◌}
 use mathlib.Core.Bool.{Bool, true, false, cond, ◌&&◌}
-use mathlib.Core.List.{List, [], ◌∷◌}
+use mathlib.Core.List.{List}
 use Prim.Native.Nat.{ℕ, ◌+◌, ◌*◌, ◌≤◌, ◌<◌}
 use native.Mathlib.Omega.{arith}
 use lib.Dec.{leb, ltb}
@@ -10,14 +10,12 @@ use borrow.Author.Tests.{leb-true, ltb-true, lt-ltb, le-ltb}
 use Rattle.text.specs.Over.{over}
 use Rattle.text.specs.declared.Seen.{Seen}
 use Rattle.text.specs.declared.Seen.TheVariants.{Fine, Bad}
-use Rattle.text.proofs.Cases.{by_test, both_left, both_right}
+use Rattle.text.proofs.Cases.{both_left, both_right}
 use Rattle.text.proofs.Over.{found-over, length_then}
 use Rattle.command.specs.Text.{longest, check_command}
-use Rattle.command.proofs.Accepted.{longest-is}
 use Rattle.join.specs.Join.{Joined, Joins, Refuses, join_text, by_seen, join, told, joined_over}
-use Rattle.join.specs.declared.Told.{Told}
 use Rattle.join.specs.declared.Told.TheVariants.{Text, Refused}
-use Rattle.board.specs.Board.{Move, Stay, Put}
+use Rattle.board.specs.Board.{Stay}
 use Rattle.board.specs.Inner.{fits_at, joins_to, own_move, free_move, add_move}
 use Rattle.board.specs.declared.Findings.{Findings}
 use Rattle.board.specs.declared.Wanted.{Wanted}

@@ -1,6 +1,6 @@
 -- A board in step with the log of what it was asked and replied, and that every run of events keeps it so.
 use mathlib.Core.Path.{◌≡◌, refl, sym, ap, ◌∙◌}
-use mathlib.Core.Bool.{Bool, true, false, cond, not, ◌&&◌}
+use mathlib.Core.Bool.{Bool, true, false, not}
 use mathlib.Core.List.{List, [], ◌∷◌, ◌++◌, foldl-append, append_assoc, append-nil}
 use Prim.Native.Nat.{ℕ}
 use lib.ListN.{length, length-set}

@@ -4,19 +4,18 @@ use mathlib.Core.Bool.{Bool, true, false, cond, not, ◌&&◌, ◌||◌, and_ass
 use mathlib.Core.List.{List, [], ◌∷◌, ◌++◌}
 use Prim.Native.Nat.{ℕ, zero, suc, ◌+◌, ◌*◌, ◌≤◌, ◌<◌}
 use native.Mathlib.Omega.{arith}
-use native.Mathlib.Nat.{mul-zero}
 use lib.Dec.{leb, ltb, eqb}
 use lib.ListN.{length, get_or, take, drop, length-drop, drop_of_length-le}
 use lib.Seq.{take-take, take-suc, drop-cons, drop-drop, length-take-le}
-use borrow.Author.Tests.{eq-eqb, ne_eqb, le-leb, lt-leb, lt-ltb, le-ltb, eqb-true, leb-true, not-true, not-false}
+use borrow.Author.Tests.{ne_eqb, le-leb, lt-leb, lt-ltb, le-ltb, eqb-true, not-true, not-false}
 use Rattle.text.specs.Names.{is_designator}
 use Rattle.text.specs.Checks.{is_fine}
 use Rattle.text.specs.Parts.{part}
 use Rattle.text.specs.Equal.{same_bytes}
 use Rattle.text.proofs.Equal.{same-equal, equal-same}
-use Rattle.text.proofs.Cases.{by_test, by_lt, by_le, by_eq, both_left, both_right}
+use Rattle.text.proofs.Cases.{by_test, by_lt, by_le}
 use Rattle.command.specs.Text.{longest, check_command}
-use Rattle.board.specs.Board.{WaitingSlot, empty_slot, is_none, is_free, is_for, any, lowest, waiting, is_sound, is_valid}
+use Rattle.board.specs.Board.{WaitingSlot, is_none, is_free, is_for, any, lowest, is_sound, is_valid}
 use Rattle.board.specs.Lent.{board_of, lengths_fit, no_slot}
 use Rattle.board.specs.Inner.{is_used, used_for, none_for, alone_in, sound_at, first_of, with_free, with_used, step_of, scan_from}
 use Rattle.board.specs.declared.Slot.{Slot}

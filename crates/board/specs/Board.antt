@@ -1,5 +1,5 @@
 -- Document 01, "The waiting board", as a value: for each slot who waits for what.
-use Rattle.std.specs.Prelude.{Bool, true, false, cond, not, ◌&&◌, ◌||◌, List, [], ◌∷◌, ℕ, zero, suc, leb, eqb, length, get_or, set}
+use Rattle.std.specs.Prelude.{Bool, true, false, cond, not, ◌&&◌, ◌||◌, List, [], ◌∷◌, ℕ, zero, suc, leb, length, get_or, set}
 use Rattle.text.specs.Checks.{is_fine}
 use Rattle.text.specs.Names.{is_designator}
 use Rattle.text.specs.Equal.{same_bytes}

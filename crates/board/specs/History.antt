@@ -1,5 +1,5 @@
 -- What a board was asked and what it replied, and what follows from that alone: demand 3.
-use Rattle.std.specs.Prelude.{◌≡◌, Bool, true, false, cond, not, ◌&&◌, ◌||◌, ℕ, zero, suc, ◌≤◌, leb, ltb, length}
+use Rattle.std.specs.Prelude.{◌≡◌, Bool, true, false, cond, not, ◌&&◌, ◌||◌, ℕ, ◌≤◌, leb, ltb, length}
 use mathlib.Core.List.{List, [], ◌∷◌, ◌++◌, foldl}
 use Rattle.text.specs.Names.{is_designator}
 use Rattle.text.specs.Checks.{is_fine}
@@ -9,7 +9,7 @@ use Rattle.settings.specs.declared.Settings.{Settings}
 use Rattle.command.specs.Text.{check_command, longest}
 use Rattle.config.specs.Config.{apply_to}
 use Rattle.join.specs.Join.{join_text}
-use Rattle.board.specs.Board.{WaitingSlot, is_none, is_free, any, waiting, past_refusals, placing, handing, Move, Reply, Given, Refused, reply_of, on_board, add, take_out}
+use Rattle.board.specs.Board.{WaitingSlot, is_none, is_free, waiting, past_refusals, placing, handing, Move, Reply, Given, Refused, reply_of, on_board, add, take_out}
 
 -- ---- Events, and the log of events with their replies
 

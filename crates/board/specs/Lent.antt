@@ -2,7 +2,7 @@
 use Rattle.std.specs.Prelude.{Bool, true, cond, ◌&&◌, List, [], ◌∷◌, ℕ, ◌*◌, leb, eqb, length, get_or, set, take, drop, replicate}
 use Rattle.text.specs.Over.{over}
 use Rattle.command.specs.Text.{longest}
-use Rattle.board.specs.Board.{most_slots, WaitingSlot, Move, Stay, Put, Free, Reply, Given, Refused, add, take_out, is_valid}
+use Rattle.board.specs.Board.{most_slots, WaitingSlot, Move, Stay, Put, Free, add, take_out, is_valid}
 use Rattle.board.specs.declared.Slot.{Slot}
 
 -- what waits, by slots and area: in each slot the first of its own bytes, as many as its length says

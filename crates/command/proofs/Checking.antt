@@ -12,7 +12,6 @@ use lib.Seq.{drop-cons}
 use borrow.Author.Tests.{eq-eqb, ne_eqb, le-leb, lt-leb, leb-true}
 use Rattle.text.specs.Equal.{same_bytes}
 use Rattle.text.specs.Parts.{part}
-use Rattle.text.specs.Table.{values}
 use Rattle.text.proofs.Table.{at}
 use Rattle.text.proofs.Parts.{part_bytes}
 use Rattle.field.specs.Fields.{after, check_delimiter}
@@ -21,7 +20,7 @@ use Rattle.field.specs.declared.Step.TheVariants.{Next, Stop}
 use Rattle.field.proofs.Local.{ends-inside}
 use Rattle.section.proofs.Local.{items_local}
 use Rattle.section.proofs.Own.{cut_end}
-use Rattle.section.specs.Layout.{layout_of, table_of, is_empty, check_items, check_section, items_size, numbers}
+use Rattle.section.specs.Layout.{layout_of, table_of, check_items, check_section, items_size, numbers}
 use Rattle.command.specs.Text.{awr04, is_flag, is_named, head_bytes, check_awr04, check_each, check_head, check_from}
 use Rattle.command.specs.Inner.{head_test, section_seen}
 use Rattle.command.specs.Sections.{place_from}

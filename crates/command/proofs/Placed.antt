@@ -1,7 +1,7 @@
 -- The sections of an accepted text at their places, and the digits of its first 22 bytes.
-use mathlib.Core.Path.{◌≡◌, refl, sym, ap, ◌∙◌}
+use mathlib.Core.Path.{◌≡◌, refl}
 use mathlib.Core.Bool.{Bool, true, false, cond, not, ◌||◌}
-use mathlib.Core.List.{List, [], ◌∷◌}
+use mathlib.Core.List.{List, []}
 use Prim.Native.Nat.{ℕ, ◌+◌, ◌≤◌, ◌<◌}
 use native.Mathlib.Omega.{arith}
 use lib.Dec.{eqb, leb}
@@ -9,14 +9,12 @@ use lib.ListN.{length, get_or}
 use borrow.Author.Tests.{eqb-true, leb-true, ne_eqb}
 use Rattle.text.specs.declared.Seen.TheVariants.{Fine}
 use Rattle.text.proofs.Cases.{by_test, by_eq, both_left, both_right}
-use Rattle.field.specs.declared.Step.TheVariants.{Next}
-use Rattle.field.proofs.Local.{after-cases}
-use Rattle.section.specs.Layout.{layout_of, table_of, is_empty, check_section, items_size, Accepted, numbers}
+use Rattle.section.specs.Layout.{layout_of, is_empty, Accepted, numbers}
 use Rattle.section.specs.Contents.{Content, contents_at}
 use Rattle.settings.specs.Settings.{amount_in, regions_from, airports_from, enroute_from, ascent_from, descent_from, hours_from, settings_from, contents_of, fixed_hold}
 use Rattle.settings.specs.Valid.{no_settings}
-use Rattle.command.specs.Text.{is_flag, is_indicator, is_named, check_from, check_command}
-use Rattle.command.specs.Sections.{is_one_of, place_of, held_in, place_from}
+use Rattle.command.specs.Text.{is_flag, is_indicator, is_named, check_command}
+use Rattle.command.specs.Sections.{is_one_of, place_of, held_in}
 use Rattle.command.specs.Inner.{Stands, Noted, held_over}
 use Rattle.command.proofs.Each.{Each, each_map, each_with}
 use Rattle.command.proofs.Standing.{accepted-place, one-least, one-most}

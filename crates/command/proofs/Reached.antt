@@ -1,16 +1,16 @@
 -- One section after the other: what is known when a section's turn comes.
 use mathlib.Core.Path.{◌≡◌, refl, sym, ◌∙◌}
 use mathlib.Core.List.{List}
-use Prim.Native.Nat.{ℕ, ◌+◌, ◌-◌, ◌≤◌, ◌<◌}
+use Prim.Native.Nat.{ℕ, ◌+◌, ◌≤◌, ◌<◌}
 use native.Mathlib.Omega.{arith}
-use lib.ListN.{length, drop, get_or, set, length-set}
+use lib.ListN.{length, set, length-set}
 use lib.Seq.{get_or-set_same, get_or-set_other}
 use Rattle.text.proofs.Cases.{by_eq, by_lt}
 use Rattle.field.specs.declared.Step.TheVariants.{Next, Stop}
 use Rattle.command.specs.Text.{check_from}
 use Rattle.section.specs.Layout.{numbers}
 use Rattle.command.specs.Inner.{section_seen, Reached, Noted}
-use Rattle.command.specs.Sections.{place_from, place_of}
+use Rattle.command.specs.Sections.{place_from}
 use Rattle.command.proofs.Checking.{section_stop, section-on, section-inside, sections_end, place_here, place-on}
 
 -- before the first

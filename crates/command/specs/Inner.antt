@@ -1,5 +1,5 @@
 -- What the inner functions of the check and of the reader answer. No promise to a caller rests on these names.
-use Rattle.std.specs.Prelude.{◌≡◌, Bool, true, false, cond, ◌||◌, List, [], ◌∷◌, ℕ, ◌+◌, ◌-◌, ◌≤◌, ◌<◌, ltb, eqb, length, drop, get_or}
+use Rattle.std.specs.Prelude.{◌≡◌, Bool, true, cond, ◌||◌, List, ℕ, ◌-◌, ◌≤◌, ◌<◌, ltb, eqb, length, drop, get_or}
 use Rattle.text.specs.declared.Seen.TheVariants.{Fine}
 use Rattle.section.specs.Layout.{check_section, numbers}
 use Rattle.section.specs.Contents.{Content}

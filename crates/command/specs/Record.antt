@@ -1,5 +1,5 @@
 -- The command as a record: out of its text, checked by itself, into its text.
-use Rattle.std.specs.Prelude.{Bool, true, false, cond, ◌&&◌, ◌||◌, not, List, [], ◌∷◌, ◌++◌, map, ℕ, zero, suc, ◌+◌, ◌-◌, leb, eqb, length, get_or, replicate}
+use Rattle.std.specs.Prelude.{Bool, cond, ◌&&◌, ◌||◌, not, List, [], ◌∷◌, ◌++◌, map, ℕ, ◌+◌, ◌-◌, leb, eqb, length, get_or, replicate}
 use Rattle.text.specs.Parts.{part}
 use Rattle.text.specs.Over.{over}
 use Rattle.text.specs.Checks.{must, ◌and_then◌}
@@ -8,8 +8,7 @@ use Rattle.text.specs.declared.Seen.TheVariants.{Fine, Bad}
 use Rattle.section.specs.Layout.{numbers, layout_of, is_empty}
 use Rattle.section.specs.Contents.{contents_text, contents_allowed}
 use Rattle.settings.specs.Settings.{contents_of, settings_from}
-use Rattle.settings.specs.declared.Settings.{Settings}
-use Rattle.command.specs.Text.{awr04, is_named, check_command}
+use Rattle.command.specs.Text.{awr04, check_command}
 use Rattle.settings.specs.Valid.{are_zero, no_settings}
 use Rattle.command.specs.Sections.{held_in}
 use Rattle.command.specs.declared.Command.{Command}

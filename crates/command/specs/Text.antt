@@ -1,11 +1,11 @@
 -- Document 01, "The command": its text, field by field from left to right.
-use Rattle.std.specs.Prelude.{Bool, true, false, cond, ◌&&◌, ◌||◌, not, List, [], ◌∷◌, ◌++◌, ℕ, zero, suc, ◌+◌, leb, eqb, length, get_or}
+use Rattle.std.specs.Prelude.{Bool, cond, ◌&&◌, ◌||◌, not, List, [], ◌∷◌, ℕ, ◌+◌, leb, eqb, length, get_or}
 use Rattle.text.specs.Names.{between}
 use Rattle.text.specs.Parts.{part}
 use Rattle.text.specs.Equal.{same_bytes}
 use Rattle.text.specs.Checks.{must}
 use Rattle.text.specs.declared.Seen.{Seen}
-use Rattle.text.specs.declared.Seen.TheVariants.{Fine, Bad}
+use Rattle.text.specs.declared.Seen.TheVariants.{Bad}
 use Rattle.field.specs.Fields.{after, room, check_delimiter}
 use Rattle.field.specs.declared.Step.{Step}
 use Rattle.field.specs.declared.Step.TheVariants.{Next, Stop}

@@ -1,5 +1,5 @@
 -- A command's record as C holds it: its arrays are as long as they are declared.
-use Rattle.std.specs.Prelude.{◌≡◌, ℕ, ◌*◌, length}
+use Rattle.std.specs.Prelude.{◌≡◌, ◌*◌, length}
 use Rattle.command.specs.declared.Command.{Command}
 use Rattle.lists.specs.Lists.{most_boxes, most_airfields}
 

@@ -3,26 +3,25 @@ use mathlib.Core.Path.{◌≡◌, refl, sym, ap, ◌∙◌}
 use mathlib.Core.Logic.{◌↔◌}
 use mathlib.Core.Bool.{Bool, true, false, cond, ◌&&◌, not}
 use mathlib.Core.List.{List}
-use Prim.Native.Nat.{ℕ, ◌+◌, ◌-◌, ◌≤◌, ◌<◌}
+use Prim.Native.Nat.{ℕ, ◌-◌, ◌≤◌, ◌<◌}
 use native.Mathlib.Omega.{arith}
 use lib.Dec.{eqb, leb}
 use lib.ListN.{length}
-use borrow.Author.Tests.{eqb-true, eqb-false, eq-eqb, ne_eqb, le-leb}
+use borrow.Author.Tests.{eqb-true, eq-eqb, le-leb}
 use Rattle.text.specs.Equal.{same_bytes}
 use Rattle.text.specs.declared.Seen.{Seen}
 use Rattle.text.specs.declared.Seen.TheVariants.{Fine, Bad}
 use Rattle.section.specs.Layout.{numbers}
 use Rattle.command.specs.Text.{is_named, longest, check_command}
-use Rattle.command.specs.Sections.{is_one_of, bytes_of, held_in}
+use Rattle.command.specs.Sections.{bytes_of, held_in}
 use Rattle.command.proofs.Each.{Each}
-use Rattle.command.proofs.Accepted.{Accepted, accepted}
+use Rattle.command.proofs.Accepted.{accepted}
 use Rattle.command.proofs.Standing.{one-most}
 use Rattle.join.specs.Join.{Joined, Joins, Refuses, join_text, join}
 use Rattle.join.specs.Join as J
 use Rattle.join.proofs.Laws.{join-short}
 use Rattle.commute.specs.Commute.{sets, flag_of, flag_apart, section_apart, flag_numbers, bits_of, bit, by_seen, compared}
 use Rattle.commute.specs.Order.{EitherWay, Agree}
-use Rattle.commute.specs.declared.Compared.{Compared}
 use Rattle.commute.specs.declared.Compared.TheVariants.{Apart, Refused}
 use Rattle.commute.proofs.Numbered.{each_of, each_in, one-behind, of_number, each_number}
 use Rattle.commute.proofs.Same.{same_contents_lem}

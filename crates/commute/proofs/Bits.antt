@@ -2,12 +2,11 @@
 use mathlib.Core.Path.{◌≡◌, refl, sym, ap, ◌∙◌}
 use mathlib.Core.Bool.{Bool, true, false, cond}
 use mathlib.Core.List.{List, [], ◌∷◌}
-use Prim.Native.Nat.{ℕ, zero, suc, ◌+◌, ◌-◌, ◌*◌, ◌/◌, ◌%◌, ◌^◌, ◌≤◌, ◌<◌}
+use Prim.Native.Nat.{ℕ, zero, suc, ◌+◌, ◌*◌, ◌/◌, ◌%◌, ◌^◌, ◌≤◌, ◌<◌}
 use native.Mathlib.Omega.{arith}
 use native.Mathlib.Nat.{pow-zero, pow-succ', two-pow-succ, pow-le-pow_right, div-one, div-div-eq-div-mul}
 use lib.Dec.{lit<}
 use lib.ListN.{length, get_or}
-use Rattle.text.proofs.Cases.{by_test}
 use Rattle.command.proofs.Each.{Each}
 use Rattle.commute.specs.Commute.{bits_of, bit}
 

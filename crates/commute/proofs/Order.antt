@@ -2,9 +2,9 @@
 -- section that both set has the same contents in both. In that case the joined texts are the same bytes.
 use mathlib.Core.Path.{◌≡◌, refl, sym, ap, ap₂, ◌∙◌}
 use mathlib.Core.Logic.{◌↔◌}
-use mathlib.Core.Bool.{Bool, true, false, cond, not}
+use mathlib.Core.Bool.{true, false, cond, not}
 use mathlib.Core.List.{List, [], ◌∷◌}
-use Prim.Native.Nat.{ℕ, zero, suc, ◌+◌, ◌-◌, ◌≤◌, ◌<◌, max}
+use Prim.Native.Nat.{ℕ, suc, ◌-◌, ◌≤◌, ◌<◌}
 use native.Mathlib.Omega.{arith}
 use lib.Dec.{eqb}
 use lib.ListN.{length, get_or}
@@ -15,11 +15,11 @@ use Rattle.text.proofs.Cases.{by_test}
 use Rattle.field.proofs.Local.{part-byte}
 use Rattle.section.specs.Layout.{numbers}
 use Rattle.settings.specs.Settings.{contents_of, settings_from}
-use Rattle.settings.specs.Valid.{valid, reset}
+use Rattle.settings.specs.Valid.{reset}
 use Rattle.settings.specs.declared.Settings.{Settings}
 use Rattle.command.specs.Text.{is_flag, is_named, check_command}
 use Rattle.command.specs.Sections.{held_in}
-use Rattle.command.proofs.Each.{Each, each_map}
+use Rattle.command.proofs.Each.{each_map}
 use Rattle.command.proofs.Head.{passes-length}
 use Rattle.command.proofs.Parts.{present, body_of, parts_of, flag_tests}
 use Rattle.command.proofs.Accepted.{Accepted, accepted, sound, flag-byte}

@@ -1,13 +1,13 @@
 -- What a section holds has one spelling: two accepted texts hold the same in a section just where its bytes are the same.
-use mathlib.Core.Path.{◌≡◌, refl, sym, ap, ◌∙◌}
+use mathlib.Core.Path.{◌≡◌, sym, ap, ◌∙◌}
 use mathlib.Core.Logic.{◌↔◌}
-use mathlib.Core.Bool.{true, false}
+use mathlib.Core.Bool.{true}
 use mathlib.Core.List.{List, [], ◌∷◌}
 use Prim.Native.Nat.{ℕ, ◌≤◌}
 use native.Mathlib.Omega.{arith}
 use Rattle.text.specs.Equal.{same_bytes}
 use Rattle.text.proofs.Equal.{same-equal, equal-same}
-use Rattle.section.specs.Layout.{layout_of, numbers}
+use Rattle.section.specs.Layout.{layout_of}
 use Rattle.section.specs.Contents.{contents_text}
 use Rattle.section.proofs.RoundTrip.{own-written}
 use Rattle.command.specs.Text.{is_named}

@@ -1,5 +1,5 @@
 -- Document 01, "The command": what applying a command does to the configuration.
-use Rattle.std.specs.Prelude.{Bool, cond, List, [], ◌∷◌, ℕ, eqb}
+use Rattle.std.specs.Prelude.{cond, List, [], ◌∷◌, ℕ, eqb}
 use Rattle.text.specs.declared.Seen.{Seen}
 use Rattle.text.specs.declared.Seen.TheVariants.{Fine, Bad}
 use Rattle.settings.specs.Settings.{contents_of, settings_from}

@@ -9,12 +9,11 @@ use lib.Dec.{ltb, eqb}
 use lib.Signed.{mag}
 use borrow.Author.Tests.{ne_eqb, eqb-true, eqb-false}
 use Rattle.text.proofs.Cases.{by_test}
-use Rattle.lists.specs.declared.Boxes.{Boxes}
 use Rattle.settings.specs.declared.Settings.{Settings}
 use Rattle.decide.specs.Question.{Question}
 use Rattle.decide.specs.Tests.{is_in_window, minutes, first_holding, has}
 use Rattle.decide.specs.Reason.{decision_of, inhibiting_box, no_reporting_box, is_silent, scheme_reason, or_routine, routine_by, phase_reason, reason_for, explained, decided}
-use Rattle.decide.specs.Words.{Amdar, InhibitHours, Regions, Airports, flag_of, InRange, SomeHolds, Has, Own, of_ascent, of_descent}
+use Rattle.decide.specs.Words.{Amdar, InhibitHours, Regions, Airports, flag_of, InRange, Has, Own, of_ascent, of_descent}
 use Rattle.decide.specs.Dateline.{Longitude}
 use Rattle.decide.specs.Rules.{Window, Inhibiting, Reporting, Heard, Admitted, TurnedAway, switched_off, inhibited, not_selected, Profile, Rules, Answers}
 use Rattle.decide.specs.declared.Decision.{Decision}
@@ -24,8 +23,8 @@ use Rattle.decide.specs.declared.Reason.TheVariants.{FlagOn}
 use Rattle.decide.proofs.First.{some-said, none_said}
 use Rattle.decide.proofs.Order.{silent-first}
 use Rattle.decide.proofs.Position.{in_span}
-use Rattle.decide.proofs.Sound.{SoundBoxes, Sound, sound}
-use Rattle.decide.proofs.Tests.{Says, says_no, reworded, not-said, never-said, both-said, either_said, lt-said, eq-said}
+use Rattle.decide.proofs.Sound.{Sound, sound}
+use Rattle.decide.proofs.Tests.{Says, says_no, reworded, never-said, both-said, either_said, lt-said, eq-said}
 use Rattle.decide.proofs.Words.{window-said, has-said, range-said, airfield-said}
 
 -- ---- Silence, and the digit that makes it routine

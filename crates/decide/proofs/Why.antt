@@ -5,43 +5,17 @@ use mathlib.Core.Bool.{true, false, cond, ◌&&◌}
 use mathlib.Core.List.{List}
 use Prim.Native.Nat.{ℕ, ◌+◌, ◌-◌, ◌≤◌, ◌<◌}
 use native.Mathlib.Omega.{arith}
-use lib.Dec.{ltb, eqb}
-use lib.ListN.{get_or}
+use lib.Dec.{eqb}
 use borrow.Author.Tests.{ne_eqb, lt-ltb}
 use Rattle.text.proofs.Cases.{by_test, by_eq, by_lt}
-use Rattle.field.specs.Boxes.{no_region}
 use Rattle.settings.specs.declared.Settings.{Settings}
 use Rattle.settings.specs.Valid.{valid}
 use Rattle.decide.specs.Question.{Question}
-use Rattle.decide.specs.Tests.{is_in_window, minutes, first_holding, has}
+use Rattle.decide.specs.Tests.{is_in_window, minutes, first_holding}
 use Rattle.decide.specs.Reason.{decision_of, inhibiting_box, is_silent, scheme_reason, or_routine, routine_by, phase_reason, reason_for, explained}
-use Rattle.decide.specs.Words.{Amdar, InhibitHours, Regions, Airports, Enroute, flag_of, InRange, FourAllowed, Holds, FirstHolding, Has, Own, of_ascent, of_descent, own_of}
+use Rattle.decide.specs.Words.{Amdar, InhibitHours, Regions, Airports, Enroute, flag_of, InRange, FourAllowed, FirstHolding, Has, Own, own_of}
 use Rattle.decide.specs.Rules.{Window, Inhibiting, Heard, Admitted, TurnedAway}
-use Rattle.decide.specs.Why.{
-  Awake,
-  ByHours,
-  ByBox,
-  ByNoBox,
-  Levels,
-  Climbs,
-  Flies,
-  without_lists,
-  with_lists,
-  DigitSays,
-  own_section,
-  section3,
-  ByFlagOn,
-  level_on,
-  scheme_on,
-  ByDigit,
-  Quiet,
-  ByFlagOff,
-  level_off,
-  silent_off,
-  ByInhibited,
-  ByNotSelected,
-  When,
-}
+use Rattle.decide.specs.Why.{Awake, Levels, Climbs, Flies, without_lists, with_lists, DigitSays, own_section, section3, level_on, scheme_on, Quiet, level_off, silent_off, When}
 use Rattle.decide.specs.declared.Reason.{Reason}
 use Rattle.decide.specs.declared.Reason.TheVariants.{AmdarOff, Hours, InhibitingBox, NoReportingBox, FlagOn, Digit, FlagOff, AirfieldInhibited, AirfieldNotSelected}
 use Rattle.decide.specs.declared.Explained.TheVariants.{Because}
@@ -49,7 +23,7 @@ use Rattle.decide.proofs.Answers.{small, window-holds, reporting-holds, inside, 
 use Rattle.decide.proofs.Determined.{bit, admitted-or-not}
 use Rattle.decide.proofs.First.{Found, NotFound, first_said}
 use Rattle.decide.proofs.Sound.{Sound, sound}
-use Rattle.decide.proofs.Tests.{Says, says_no, by_said, both-said, eq-said}
+use Rattle.decide.proofs.Tests.{says_no, by_said, both-said, eq-said}
 use Rattle.decide.proofs.Words.{has-said, range-said, airfield-said}
 
 -- ---- The digit that makes silence routine

@@ -1,8 +1,8 @@
 -- What the calls with a list beside the board answer and leave, from what their parts did.
-use mathlib.Core.Path.{◌≡◌, refl, sym, ap, ◌∙◌}
-use mathlib.Core.Bool.{Bool, true, false, cond, ◌&&◌, and-true}
+use mathlib.Core.Path.{◌≡◌, sym, ap, ◌∙◌}
+use mathlib.Core.Bool.{Bool, true, false, cond, and-true}
 use mathlib.Core.List.{List}
-use Prim.Native.Nat.{ℕ, ◌≤◌}
+use Prim.Native.Nat.{ℕ}
 use native.Mathlib.Omega.{arith}
 use lib.ListN.{length, set}
 use lib.Seq.{set_out}
@@ -13,7 +13,6 @@ use Rattle.board.specs.Inner.{wanted_by, scanned, add_move, take_move, done_of}
 use Rattle.board.specs.declared.Slot.{Slot}
 use Rattle.board.specs.declared.Findings.{Findings}
 use Rattle.board.specs.declared.Wanted.{Wanted}
-use Rattle.board.specs.declared.Done.{Done}
 use Rattle.board.proofs.Called.{count-is, add_is, take-is, add-slots, take-slots}
 use Rattle.tails.specs.Tails.{list_of}
 use Rattle.tails.specs.Keys.{keys_of, is_list_of}

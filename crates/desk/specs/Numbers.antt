@@ -1,8 +1,7 @@
 -- Document 01's numbers for each case of an answer, as the C host gets them.
-use Rattle.std.specs.Prelude.{cond, ℕ, ◌+◌, eqb, ℤ, pos}
+use Rattle.std.specs.Prelude.{cond, ℕ, eqb, pos}
 use Rattle.text.specs.declared.Seen.{Seen}
 use Rattle.text.specs.declared.Seen.TheVariants.{Fine, Bad}
-use Rattle.packed.specs.declared.Figure.{Figure}
 use Rattle.packed.specs.declared.Figure.TheVariants.{Given, Missing}
 use Rattle.packed.specs.declared.Packed.{Packed}
 use Rattle.packed.specs.declared.Packed.TheVariants.{Is, Refused}

@@ -1,5 +1,5 @@
 -- The waiting board's answers, as the C host gets them.
-use Rattle.std.specs.Prelude.{Bool, cond, ℕ, length}
+use Rattle.std.specs.Prelude.{Bool, cond, length}
 use Rattle.board.specs.Board.{Reply, Given, Refused}
 use Rattle.board.specs.declared.Done.{Done}
 use Rattle.desk.specs.Numbers.{accepted, answer_of}

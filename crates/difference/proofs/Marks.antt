@@ -27,7 +27,7 @@ use Rattle.config.proofs.Allowed.{valid_same}
 use Rattle.config.proofs.Apply.{settings-same}
 use Rattle.commute.specs.Commute.{flag_numbers}
 use Rattle.commute.proofs.Numbered.{of_number, each_number}
-use Rattle.difference.specs.Difference.{flag_differs, section_differs, items, by_item, those, differing, between}
+use Rattle.difference.specs.Difference.{flag_differs, section_differs, by_item, those, differing, between}
 use Rattle.difference.specs.Inner.{item_at, set_at, set_items, held_if, marked}
 
 -- ---- By flag and by section

@@ -1,21 +1,20 @@
 -- A box by the keys of its edges: a key grows as its digits' number does, so its tests are those of the edges.
-use mathlib.Core.Path.{◌≡◌, refl, ap, sym, ◌∙◌}
-use mathlib.Core.Bool.{Bool, true, false, cond, ◌&&◌, ◌||◌}
+use mathlib.Core.Path.{◌≡◌, refl, sym, ◌∙◌}
+use mathlib.Core.Bool.{Bool, true, false, ◌&&◌, ◌||◌}
 use mathlib.Core.List.{List, [], ◌∷◌}
 use Prim.Native.Nat.{ℕ, ◌+◌, ◌-◌, ◌*◌, ◌≤◌, ◌<◌}
 use native.Mathlib.Omega.{arith}
-use lib.Dec.{leb, eqb, lit≤, lit<}
+use lib.Dec.{leb, eqb, lit≤}
 use lib.ListN.{length, get_or}
-use borrow.Author.Tests.{lt-ltb, le-leb, leb-true, eqb-true, eqb-false, ne_eqb}
+use borrow.Author.Tests.{lt-ltb, le-leb, leb-true, ne_eqb}
 use Rattle.text.proofs.Cases.{by_test, by_lt, both_left, both_right}
 use Rattle.field.specs.declared.Circle.{Circle}
 use Rattle.field.specs.declared.Edge.{Edge}
-use Rattle.field.specs.declared.Step.{Step}
 use Rattle.field.specs.declared.Step.TheVariants.{Next}
 use Rattle.field.specs.declared.boxes.Line.TheVariants.{Lies}
 use Rattle.field.specs.Decimal.{is_digit}
 use Rattle.field.specs.Boxes.{latitude, longitude, line_of, north_first, check_pair}
-use Rattle.field.specs.Steps.{number_or, line_or, two_lines, in_order, key_of, least_key, key_line, edge_fine, latitudes_fine, longitude_fine, longitudes_fine}
+use Rattle.field.specs.Steps.{number_or, line_or, in_order, key_of, least_key, key_line, edge_fine, latitudes_fine, longitude_fine, longitudes_fine}
 use Rattle.field.proofs.Decimal.{digit-is, digit_low, digit-high}
 use Rattle.field.proofs.Number.{two_digits, three_digits}
 use Rattle.field.proofs.Edges.{latitude-bytes, longitude-bytes, latitude-lines, longitude-lines}

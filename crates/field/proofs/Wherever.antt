@@ -1,10 +1,9 @@
 -- A box is refused nowhere just where it passes the gathered tests.
-use mathlib.Core.Path.{◌≡◌, refl, sym, ap, ◌∙◌}
+use mathlib.Core.Path.{◌≡◌, sym, ap, ◌∙◌}
 use mathlib.Core.Bool.{Bool, true, false, not, ◌&&◌, and_assoc, and-true}
 use Prim.Native.Nat.{ℕ, ◌+◌}
 use lib.Dec.{leb}
 use Rattle.text.specs.declared.Seen.{Seen}
-use Rattle.text.specs.declared.Seen.TheVariants.{Fine, Bad}
 use Rattle.text.specs.Checks.{must, ◌and_then◌, is_fine}
 use Rattle.text.proofs.Checks.{fine-must, fine_then}
 use Rattle.field.specs.declared.Circle.{Circle}

@@ -1,6 +1,6 @@
 -- A command's smallest fields, in a text s from a place on. Within a field: 8, then 3 or 4, 6, 5.
 use Rattle.std.specs.Prelude.{cond, ◌&&◌, List, ℕ, zero, suc, ◌+◌, leb, eqb, length, get_or}
-use Rattle.text.specs.Names.{between, all_allowed}
+use Rattle.text.specs.Names.{all_allowed}
 use Rattle.text.specs.Parts.{part}
 use Rattle.field.specs.Decimal.{all_digits, value}
 use Rattle.field.specs.declared.Step.{Step}

@@ -1,11 +1,10 @@
 -- Every starred figure holds of the definitions: one statement, computed.
 use mathlib.Core.Path.{refl}
-use lib.IntN.{pos}
 use Rattle.text.specs.Equal.{same_bytes}
 use Rattle.packed.specs.Packed.{worth_of, half_of, number, all_solidi, trim, all_digits, ahead, fault, spelt, read_packed}
 use Rattle.section.specs.Layout.{layout_of, table_of, check_items, items_size, items_most}
 use Rattle.field.specs.Fields.{check_digits, check_delimiter}
-use Rattle.command.specs.Text.{check_each, check_awr04, check_head, check_from, sections_most, longest, check_command}
+use Rattle.command.specs.Text.{check_each, check_awr04, check_head, check_from, sections_most, check_command}
 use Rattle.command.specs.Sections.{place_from}
 use Rattle.join.specs.Join.{no_change_text, choose, join_sections, join_text, join}
 use Rattle.field.specs.Decimal.{all_digits as allDecimal, value_from}

@@ -1,5 +1,5 @@
 -- A refusal has a code other than 0.
-use mathlib.Core.Path.{◌≡◌, refl, ap, ◌∙◌}
+use mathlib.Core.Path.{◌≡◌, refl}
 use mathlib.Core.Bool.{Bool, true, false, cond, ◌&&◌}
 use mathlib.Core.List.{List, [], ◌∷◌}
 use Prim.Native.Nat.{ℕ, ◌+◌, ◌-◌, ◌*◌, ◌≤◌}
@@ -9,7 +9,6 @@ use lib.ListN.{length}
 use borrow.Author.Tests.{leb-true, le-leb}
 use Rattle.text.specs.Names.{between}
 use Rattle.text.specs.Parts.{part}
-use Rattle.text.specs.declared.Seen.TheVariants.{Bad}
 use Rattle.text.proofs.Cases.{by_test}
 use Rattle.field.specs.Decimal.{all_digits, value}
 use Rattle.field.specs.Fields.{after, check_digits, check_number}

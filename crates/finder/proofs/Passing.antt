@@ -1,13 +1,13 @@
 -- Sections passed over by their counts: how far that comes, and that an accepted section is passed over whole.
 use mathlib.Core.Path.{◌≡◌, refl, sym, ap, ◌∙◌}
-use mathlib.Core.Bool.{Bool, true, false, cond}
+use mathlib.Core.Bool.{true, false}
 use mathlib.Core.List.{List, [], ◌∷◌}
 use Prim.Native.Nat.{ℕ, zero, suc, ◌+◌, ◌*◌, ◌≤◌, ◌<◌}
 use native.Mathlib.Omega.{arith}
 use native.Mathlib.Nat.{mul-le-mul}
 use lib.Dec.{leb}
 use lib.ListN.{length}
-use borrow.Author.Tests.{le-leb, lt-leb, leb-true}
+use borrow.Author.Tests.{le-leb, lt-leb}
 use Rattle.text.proofs.Cases.{by_test, by_le}
 use Rattle.field.specs.declared.Step.{Step}
 use Rattle.field.specs.declared.Step.TheVariants.{Next, Stop}
@@ -18,9 +18,9 @@ use Rattle.field.proofs.Number.{digits-fine}
 use Rattle.field.proofs.Local.{after-cases}
 use Rattle.lists.specs.Lists.{count_at, check_list}
 use Rattle.lists.proofs.Accepted.{counted}
-use Rattle.section.specs.Layout.{Item, Digits, AirfieldList, BoxList, several, check_item, check_items, item_size, layout_of, check_section}
+use Rattle.section.specs.Layout.{Item, Digits, AirfieldList, BoxList, several, check_item, check_items}
 use Rattle.section.proofs.Local.{item_sized}
-use Rattle.finder.specs.Finding.{pass_list, pass_item, pass_items, pass_section}
+use Rattle.finder.specs.Finding.{pass_list, pass_item, pass_items}
 
 -- ---- One list
 

@@ -13,10 +13,10 @@ use Rattle.field.specs.declared.Step.TheVariants.{Next, Stop}
 use Rattle.field.specs.Fields.{after}
 use Rattle.field.proofs.Accepted.{stop_next, next-same}
 use Rattle.field.proofs.Local.{after-cases}
-use Rattle.section.specs.Layout.{numbers, layout_of, check_section, items_size}
+use Rattle.section.specs.Layout.{numbers, layout_of, check_section}
 use Rattle.section.proofs.Own.{cut_end}
 use Rattle.command.specs.Text.{is_named, check_from}
-use Rattle.command.specs.Sections.{place_from, past}
+use Rattle.command.specs.Sections.{place_from}
 use Rattle.command.proofs.Checking.{numbers-next}
 use Rattle.finder.specs.Finding.{pass_section, reach}
 use Rattle.finder.specs.Inner.{section_passed}

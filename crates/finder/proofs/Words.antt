@@ -1,14 +1,13 @@
 -- What is answered of texts that need not be accepted, by document 02's words.
 use mathlib.Core.Path.{◌≡◌, refl, sym, ap, ◌∙◌}
-use mathlib.Core.Bool.{Bool, true, false, cond, ◌||◌}
+use mathlib.Core.Bool.{Bool, true, false, ◌||◌}
 use mathlib.Core.List.{List, [], ◌∷◌, ◌++◌, append-nil}
 use Prim.Native.Nat.{ℕ, suc, ◌+◌, ◌-◌, ◌*◌, ◌≤◌, ◌<◌}
 use native.Mathlib.Omega.{arith}
-use lib.Dec.{leb, eqb}
+use lib.Dec.{eqb}
 use lib.ListN.{length}
 use borrow.Author.Tests.{le-leb, lt-leb, eq-eqb, ne_eqb, eqb-true}
 use Rattle.text.proofs.Cases.{by_test, by_eq, by_lt}
-use Rattle.field.specs.declared.Step.{Step}
 use Rattle.field.specs.declared.Step.TheVariants.{Next, Stop}
 use Rattle.field.specs.Fields.{check_number}
 use Rattle.field.proofs.Accepted.{number, stop_next}

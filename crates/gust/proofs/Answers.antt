@@ -1,20 +1,18 @@
 -- What is refused, and what each input's test says.
 use mathlib.Core.Path.{◌≡◌, refl, sym, subst}
-use mathlib.Core.Bool.{Bool, true, false, ◌&&◌, cond}
-use Prim.Native.Nat.{ℕ, zero-le, ◌≤◌, ◌<◌}
+use mathlib.Core.Bool.{Bool, true, false, ◌&&◌}
+use Prim.Native.Nat.{ℕ, zero-le, ◌≤◌}
 use native.Mathlib.Omega.{arith}
 use native.Mathlib.Nat.{not-suc-le-zero}
-use lib.Dec.{T, leb, ltb}
-use lib.ListN.{length}
-use lib.IntN.{ℤ, pos, negsuc, nat_abs}
+use lib.Dec.{T, leb}
+use lib.IntN.{ℤ, pos, negsuc}
 use lib.Signed.{mag, le_z, lt_z}
 use borrow.Author.Tests.{ltb-true, ltb-false, lt-leb, le-leb, leb-true}
 use Rattle.text.specs.Names.{between}
 use Rattle.text.proofs.Cases.{by_test, both_left, both_right}
 use Rattle.gust.specs.declared.Derived.TheVariants.{Gust, Refused}
-use Rattle.gust.specs.Rows.{rows}
 use Rattle.gust.specs.Words.{InRange}
-use Rattle.gust.specs.Gust.{height_in, in_range, of_gust, derived}
+use Rattle.gust.specs.Gust.{height_in, in_range, of_gust}
 
 pub below : (g : ℤ) → lt_z g (pos 0) ≡ true → of_gust g ≡ Refused 5
 unfolding of_gust

@@ -1,13 +1,12 @@
 -- The worked examples, and that there is no gust where there is no acceleration.
 use mathlib.Core.Path.{◌≡◌, refl}
 use mathlib.Core.Bool.{true}
-use mathlib.Core.List.{List, map}
+use mathlib.Core.List.{map}
 use Prim.Native.Nat.{ℕ, ◌<◌, ◌*◌}
 use native.Mathlib.Nat.{zero-div}
 use lib.ListN.{length}
 use lib.IntN.{ℤ, pos, *ℤ-zero, ◌*ℤ◌}
 use borrow.Author.Tests.{lt-ltb}
-use Rattle.gust.specs.declared.Derived.{Derived}
 use Rattle.gust.specs.declared.Derived.TheVariants.{Gust}
 use Rattle.gust.specs.Floor.{◌over◌}
 use Rattle.gust.specs.Rows.{rows}

@@ -8,7 +8,7 @@ use lib.IntN.{ℤ, pos, negsuc}
 use borrow.Author.Tests.{lt-ltb, le-ltb}
 use Rattle.gust.specs.declared.Derived.TheVariants.{Gust, Refused}
 use Rattle.gust.specs.Rows.{rows}
-use Rattle.gust.specs.Gust.{gust_of, in_range, of_gust, row_at, derived}
+use Rattle.gust.specs.Gust.{gust_of, of_gust, row_at, derived}
 use Rattle.gust.specs.Words.{Formula, InRange}
 use Rattle.gust.proofs.Answers.{below, beyond, between_them, within-range, outside-range}
 use Rattle.gust.proofs.Examples.{still}

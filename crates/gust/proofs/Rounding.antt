@@ -1,11 +1,11 @@
 -- Division rounded down lies between the two products that it should, and nothing else does.
-use mathlib.Core.Path.{◌≡◌, refl, sym, ap, subst, ◌∙◌}
+use mathlib.Core.Path.{◌≡◌, refl, sym, ap, subst}
 use mathlib.Core.Bool.{Bool, true, false, not}
-use Prim.Native.Nat.{ℕ, zero, suc, ◌+◌, ◌*◌, ◌/◌, ◌<◌, ◌≤◌, zero-le, suc-le-suc}
+use Prim.Native.Nat.{ℕ, zero, suc, ◌*◌, ◌/◌, ◌<◌, ◌≤◌, zero-le, suc-le-suc}
 use native.Mathlib.Omega.{arith}
 use native.Mathlib.Nat.{le_antisymm, le_of_suc-le-suc, suc-mul, mul-le-mul_right, div-mul-le_self, lt-div-mul-add, not-suc-le-zero}
-use lib.Dec.{T, leb, ltb, le→leb, lt→ltb, leb→le, ltb→lt}
-use lib.IntN.{ℤ, pos, negsuc, neg_ℤ, suc_ℤ, +ℤ_one, ◌+ℤ◌, ◌*ℤ◌}
+use lib.Dec.{T, le→leb, lt→ltb, leb→le, ltb→lt}
+use lib.IntN.{ℤ, pos, negsuc, neg_ℤ, suc_ℤ, +ℤ_one, ◌*ℤ◌}
 use lib.Signed.{mag, lt_z, le_z, lt_z_no, ◌≤ℤ◌, ◌<ℤ◌, <ℤ-≤ℤ_trans, <ℤ_irrefl}
 use Rattle.gust.specs.Floor.{◌over◌}
 use Rattle.gust.specs.Words.{Down}

@@ -1,10 +1,10 @@
 -- How far from zero sums, products and quotients may be, and when they are above it.
-use mathlib.Core.Path.{◌≡◌, refl, sym, ap, ◌∙◌, subst}
+use mathlib.Core.Path.{◌≡◌, refl}
 use mathlib.Core.Bool.{true, false}
-use Prim.Native.Nat.{ℕ, zero, suc, ◌+◌, ◌-◌, ◌*◌, ◌/◌, ◌^◌, ◌<◌, ◌≤◌}
+use Prim.Native.Nat.{ℕ, zero, suc, ◌+◌, ◌-◌, ◌*◌, ◌^◌, ◌<◌, ◌≤◌}
 use native.Mathlib.Omega.{arith}
-use native.Mathlib.Nat.{le_refl, le_trans, lt_of_le_of_lt, mul-le-mul, mul-le-mul_left, mul_comm, div-le_of_le-mul, div-lt_iff_lt-mul}
-use lib.Dec.{ltb, leb}
+use native.Mathlib.Nat.{le_refl, le_trans, mul-le-mul, mul-le-mul_left, mul_comm, div-le_of_le-mul, div-lt_iff_lt-mul}
+use lib.Dec.{ltb}
 use lib.IntN.{ℤ, pos, negsuc, neg_ℤ, nat_abs, sub_ℕ, ◌+ℤ◌, ◌-ℤ◌, ◌*ℤ◌}
 use lib.Signed.{mag, lt_z, le_z}
 use mir.Syntax.{w64}

@@ -1,5 +1,5 @@
 -- The table of source document 001, section 2.2.4.1, as it is printed: of each line the columns m̄ (tonnes), c1 to c5.
-use Rattle.std.specs.Prelude.{ℕ, zero, suc, ◌+◌, ◌-◌, ◌*◌, ◌^◌, cond, List, [], ◌∷◌, map, eqb, ℤ, pos, neg_ℤ, get_or}
+use Rattle.std.specs.Prelude.{ℕ, zero, suc, ◌+◌, ◌-◌, ◌*◌, cond, List, [], ◌∷◌, map, eqb, ℤ, pos, neg_ℤ, get_or}
 use Prim.Native.String.{String}
 use Rattle.text.specs.Bytes.{bytes}
 use Rattle.gust.specs.declared.Row.{Row}

@@ -7,7 +7,7 @@ use Rattle.text.specs.declared.Seen.TheVariants.{Fine}
 use Rattle.field.specs.Decimal.{all_digits, value_from}
 use Rattle.field.specs.Fields.{check_digits, check_delimiter}
 use Rattle.section.specs.Layout.{layout_of, table_of, check_items, items_size, items_most}
-use Rattle.command.specs.Text.{check_each, check_awr04, check_head, check_from, sections_most, longest, check_command}
+use Rattle.command.specs.Text.{check_each, check_awr04, check_head, check_from, sections_most, check_command}
 use Rattle.command.specs.Sections.{place_from}
 use Rattle.join.specs.Join.{choose, join_sections, join_text}
 

@@ -1,6 +1,6 @@
 -- Document 01, "Joining takes each flag and section from the second text where it sets one, else from the first; the
 -- larger downlink digit is kept."
-use Rattle.std.specs.Prelude.{Bool, cond, List, [], ◌∷◌, ◌++◌, ℕ, max, leb, eqb, length, get_or, replicate}
+use Rattle.std.specs.Prelude.{cond, List, [], ◌∷◌, ◌++◌, ℕ, max, leb, eqb, length, get_or, replicate}
 use Rattle.text.specs.Parts.{part}
 use Rattle.text.specs.Over.{over}
 use Rattle.text.specs.declared.Seen.{Seen}

@@ -11,7 +11,7 @@ use lib.Dec.{ltb, eqb}
 use borrow.Author.Tests.{lt-ltb, le-ltb}
 use Rattle.text.specs.declared.Seen.TheVariants.{Fine, Bad}
 use Rattle.text.specs.Names.{allowed, all_allowed}
-use Rattle.text.specs.Checks.{must, ◌and_then◌, is_fine}
+use Rattle.text.specs.Checks.{must, is_fine}
 use Rattle.text.proofs.Cases.{by_lt, both_left, both_right}
 use Rattle.text.proofs.Checks.{fine-must, fine_then}
 use Rattle.text.proofs.Names.{allowed-append}

@@ -8,11 +8,10 @@ use native.Mathlib.Omega.{arith}
 use lib.Dec.{leb, ltb, eqb}
 use lib.ListN.{length, take, drop, replicate, length-append, length-replicate, length-drop}
 use lib.Seq.{take_at}
-use borrow.Author.Tests.{leb-true, lt-ltb, le-ltb, ltb-true, ltb-false, eq-eqb, ne_eqb, eqb-true, eqb-false}
+use borrow.Author.Tests.{leb-true, lt-ltb, le-ltb, ltb-true, eq-eqb, ne_eqb, eqb-true, eqb-false}
 use Rattle.text.proofs.Cases.{by_test, by_lt, both_left, both_right}
 use Rattle.packed.specs.Packed.{worth_of, width_ok, all_solidi, trim, all_digits, number, spelt, holds, figure_of, is_solidus, is_digit, ahead, fault_behind, fault, read_packed}
 use Rattle.packed.specs.declared.Figure.{Figure}
-use Rattle.packed.specs.declared.Packed.{Packed}
 use Rattle.packed.specs.declared.Packed.TheVariants.{Is, Refused}
 use Rattle.packed.proofs.Bounds.{cond-le}
 use Rattle.packed.proofs.Digits.{solidus_none}

@@ -1,10 +1,10 @@
 -- Steps of the writer's loops, and a buffer whose front and back are written one after the other.
-use mathlib.Core.Path.{◌≡◌, refl, sym, ap, ◌∙◌}
-use mathlib.Core.List.{List, [], ◌∷◌, ◌++◌, append-nil}
-use Prim.Native.Nat.{ℕ, zero, suc, ◌+◌, ◌-◌, ◌/◌, ◌%◌, ◌<◌, ◌≤◌}
+use mathlib.Core.Path.{◌≡◌, refl, ◌∙◌}
+use mathlib.Core.List.{List, ◌∷◌, ◌++◌, append-nil}
+use Prim.Native.Nat.{ℕ, zero, suc, ◌-◌, ◌/◌, ◌%◌, ◌<◌, ◌≤◌}
 use native.Mathlib.Omega.{arith}
-use lib.ListN.{length, set, take, drop, replicate, length-take, length-append, length-drop, drop_of_length-le}
-use lib.Seq.{take_at, drop_at, drop-length, drop-cons, lt-length-set, get_or-set_same, drop-set-lt}
+use lib.ListN.{length, set, take, drop, length-take, length-append, length-drop, drop_of_length-le}
+use lib.Seq.{take_at, drop_at, drop-cons, lt-length-set, get_or-set_same, drop-set-lt}
 use borrow.Rule.Slice.PartMut.{put_mid}
 use borrow.Author.Tests.{lt-ltb, le-ltb}
 use mathlib.Core.Bool.{Bool, true, false, cond}

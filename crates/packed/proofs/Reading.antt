@@ -1,13 +1,12 @@
 -- The reader's answer, from a decoded field, and from a second look at one that is refused.
-use mathlib.Core.Path.{◌≡◌, refl, sym, ◌∙◌}
-use mathlib.Core.Bool.{Bool, true, false, cond, ◌&&◌}
+use mathlib.Core.Path.{◌≡◌, sym, ◌∙◌}
+use mathlib.Core.Bool.{true, false}
 use mathlib.Core.List.{List}
 use Prim.Native.Nat.{ℕ, ◌-◌, ◌≤◌, ◌<◌}
 use native.Mathlib.Omega.{arith}
-use lib.Dec.{ltb}
 use lib.ListN.{length}
 use Rattle.text.proofs.Cases.{by_test}
-use Rattle.packed.specs.Packed.{read_packed, spelt, width_ok, all_solidi, all_digits, trim, number, holds, figure_of, is_solidus, ahead, fault_behind, fault}
+use Rattle.packed.specs.Packed.{read_packed, spelt, width_ok, all_solidi, trim, number, holds, figure_of, is_solidus, ahead, fault_behind}
 use Rattle.packed.specs.Decoding.{uncoded, meant, decoded}
 use Rattle.packed.specs.Inner.{refused_field}
 use Rattle.packed.specs.declared.Figure.{Figure}

@@ -1,6 +1,6 @@
 -- What is written reads back, and what is read is written back as the same bytes.
 use mathlib.Core.Path.{◌≡◌, refl, sym, ap, ◌∙◌}
-use mathlib.Core.Bool.{Bool, true, false, cond, ◌&&◌}
+use mathlib.Core.Bool.{true, false, ◌&&◌}
 use mathlib.Core.List.{List, [], ◌∷◌, ◌++◌}
 use Prim.Native.Nat.{ℕ, zero, suc, ◌+◌, ◌-◌, ◌*◌, ◌^◌, ◌≤◌, ◌<◌}
 use native.Mathlib.Omega.{arith}
@@ -9,15 +9,14 @@ use lib.Dec.{leb, ltb, eqb, lit<}
 use lib.IntN.{ℤ, sub_ℕ}
 use lib.Signed.{mag}
 use lib.ListN.{length, replicate, length-append, length-replicate}
-use borrow.Author.Tests.{lt-ltb, le-ltb, le-leb, eq-eqb, ne_eqb, ltb-true, ltb-false, leb-true, eqb-true}
+use borrow.Author.Tests.{lt-ltb, le-ltb, le-leb, ne_eqb, ltb-true, leb-true, eqb-true}
 use Rattle.text.proofs.Cases.{by_test, by_lt, both_left, both_right}
-use Rattle.packed.specs.Packed.{worth_of, half_of, holds, number, figure_of, width_ok, all_solidi, trim, all_digits, fault, spelt, read_packed, fewest, above, spell, behind_spaces, spelling, field_of, fitting}
+use Rattle.packed.specs.Packed.{worth_of, half_of, number, width_ok, all_solidi, trim, all_digits, spelt, read_packed, fewest, above, spell, spelling, field_of, fitting}
 use Rattle.packed.specs.declared.Figure.{Figure}
 use Rattle.packed.specs.declared.Figure.TheVariants.{Given, Missing}
-use Rattle.packed.specs.declared.Packed.{Packed}
 use Rattle.packed.specs.declared.Packed.TheVariants.{Is, Refused}
 use Rattle.packed.proofs.Digits.{space_none, spell-length, spell-digits, number-spell, number_same}
-use Rattle.packed.proofs.Put.{fewest-holds, fewest-le, fewest_stop}
+use Rattle.packed.proofs.Put.{fewest-holds, fewest-le}
 use Rattle.packed.proofs.Scan.{solidi-none, number_lt}
 use Rattle.packed.proofs.Signs.{above-lt, sub-above-back, above-sub-back, sub-below, sub-above}
 

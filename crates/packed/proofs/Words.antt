@@ -1,8 +1,8 @@
 -- What is read is what document 01's words say.
 use mathlib.Core.Path.{◌≡◌, refl, sym, ap, ◌∙◌}
-use mathlib.Core.Bool.{Bool, true, false, cond, ◌&&◌}
+use mathlib.Core.Bool.{Bool, true, false}
 use mathlib.Core.List.{List, [], ◌∷◌, ◌++◌, foldl}
-use Prim.Native.Nat.{ℕ, zero, suc, ◌+◌, ◌-◌, ◌*◌, ◌^◌, ◌≤◌, ◌<◌}
+use Prim.Native.Nat.{ℕ, zero, suc, ◌+◌, ◌-◌, ◌*◌, ◌≤◌, ◌<◌}
 use native.Mathlib.Omega.{arith}
 use lib.Dec.{ltb, eqb}
 use lib.ListN.{length, replicate, length-append, length-replicate}
@@ -12,9 +12,9 @@ use Rattle.text.specs.Bytes.{is_one_of, all_one_of}
 use Rattle.text.proofs.Bytes.{all_below}
 use Rattle.text.proofs.Cases.{by_lt, by_test, both_left, both_right}
 use Rattle.text.proofs.Table.{agree}
-use Rattle.packed.specs.Packed.{worth_of, half_of, number, all_digits, spelt, read_packed, all_solidi}
-use Rattle.packed.specs.Words.{digit_bytes, index_in, base40, span, figure_spelt, Digits}
-use Rattle.packed.specs.declared.Figure.TheVariants.{Given, Missing}
+use Rattle.packed.specs.Packed.{worth_of, half_of, number, all_digits, spelt, read_packed}
+use Rattle.packed.specs.Words.{digit_bytes, index_in, span, figure_spelt, Digits}
+use Rattle.packed.specs.declared.Figure.TheVariants.{Given}
 use Rattle.packed.specs.declared.Packed.TheVariants.{Is, Refused}
 use Rattle.packed.proofs.Digits.{worth_high}
 use Rattle.packed.proofs.RoundTrip.{trim_spaces, trim_digits, read_as}

@@ -1,21 +1,19 @@
 -- The promises of commands, kept.
 use mathlib.Core.Path.{◌≡◌, refl, sym, ap, ◌∙◌}
-use mathlib.Core.Bool.{Bool, true, false}
+use mathlib.Core.Bool.{true}
 use mathlib.Core.List.{List, [], ◌++◌}
 use Prim.Native.Nat.{ℕ, ◌≤◌}
 use native.Mathlib.Omega.{arith}
 use native.Mathlib.Nat.{zero-add}
-use lib.Dec.{leb}
 use lib.ListN.{length, take, drop}
 use lib.Seq.{take_at, drop_at}
-use Rattle.text.specs.Bytes.{bytes}
 use Rattle.text.specs.Over.{over}
 use Rattle.text.specs.declared.Seen.{Seen}
 use Rattle.text.specs.declared.Seen.TheVariants.{Fine, Bad}
 use Rattle.section.specs.Layout.{layout_of, table_of, items_most}
 use Rattle.settings.specs.Valid.{no_settings as emptySettings}
 use Rattle.settings.specs.Settings.{settings_from, regions_from, airports_from, enroute_from, ascent_from, hours_from}
-use Rattle.command.specs.Text.{check_awr04, check_head, sections_most, longest, check_command}
+use Rattle.command.specs.Text.{check_awr04, check_head, sections_most, check_command}
 use Rattle.command.specs.Record.{command_of, got, read_command, command_text, write_seen, left_by, no_command as emptyCommand}
 use Rattle.command.specs.Allowed.{allowed_command}
 use Rattle.command.specs.Examples.{longest_text, examples, AllReadBack}

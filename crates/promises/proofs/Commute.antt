@@ -3,7 +3,7 @@ use mathlib.Core.Path.{◌≡◌, refl, sym, ap, ◌∙◌}
 use mathlib.Core.Logic.{◌↔◌}
 use mathlib.Core.Bool.{Bool, true, false, cond, ◌&&◌, not}
 use mathlib.Core.List.{List}
-use Prim.Native.Nat.{ℕ, ◌+◌, ◌-◌, ◌<◌, ◌≤◌}
+use Prim.Native.Nat.{ℕ, ◌-◌, ◌<◌, ◌≤◌}
 use native.Mathlib.Omega.{arith}
 use lib.Dec.{leb, eqb}
 use lib.ListN.{length}
@@ -28,18 +28,16 @@ use Rattle.join.specs.Join as J
 use Rattle.join.proofs.Laws.{join-short, join-same}
 use Rattle.commute.specs.Commute.{sets, flag_of, flag_apart, section_apart, flag_numbers, bits_of, bit, by_seen, compared}
 use Rattle.commute.specs.Order.{EitherWay, Agree}
-use Rattle.commute.specs.declared.Compared.{Compared}
 use Rattle.commute.specs.declared.Compared.TheVariants.{Apart}
 use Rattle.commute.proofs.Order.{either_way, either_joins, reset-agree, join_earlier}
 use Rattle.commute.proofs.Answer.{compared_is, flag-bit, flags-small, section-bit, sections-small, none_either}
 use Rattle.desk.specs.Numbers.{check_numbers}
 use Rattle.desk.specs.Joins.{join_numbers}
 use Rattle.desk.specs.Orders.{yes_number, commute_numbers}
-use Rattle.desk.specs.declared.HostCommute.{HostCommute}
 use Rattle.promises.specs.BoardRuns.{IsAccepted}
 use Rattle.promises.specs.Configuration.{check}
 use Rattle.promises.specs.Join.{join_answer, buffer_joined}
-use Rattle.promises.specs.Commute.{commute_answer, refusing, answering, BothOrders, flag_in, contents_in, SameContents, FlagApart, SectionApart, Answered, AsJoin, CommutePromises}
+use Rattle.promises.specs.Commute.{commute_answer, refusing, answering, BothOrders, contents_in, SameContents, FlagApart, SectionApart, Answered, AsJoin, CommutePromises}
 use Rattle.promises.proofs.Codes.{accepted-fine, fine-accepted}
 use Rattle.promises.proofs.Configuration.{valid-zero, zero-valid}
 use Rattle.promises.proofs.Join.{kept-is}

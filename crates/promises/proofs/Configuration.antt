@@ -1,5 +1,5 @@
 -- The promises of the configuration, kept.
-use mathlib.Core.Path.{◌≡◌, refl, sym, ap, ◌∙◌}
+use mathlib.Core.Path.{◌≡◌, refl, sym, ◌∙◌}
 use mathlib.Core.Bool.{Bool, true, false, cond}
 use mathlib.Core.List.{List}
 use Prim.Native.Nat.{ℕ}
@@ -13,7 +13,6 @@ use Rattle.settings.specs.Settings.{contents_of, settings_from, regions_from, ai
 use Rattle.settings.specs.declared.Settings.{Settings}
 use Rattle.command.specs.Text.{is_named, check_command}
 use Rattle.command.specs.Sections.{held_in, place_of}
-use Rattle.command.specs.Allowed.{allowed_settings}
 use Rattle.config.specs.Config.{on_seen, refused, applied, kept_by, kept}
 use Rattle.settings.specs.Valid.{reset, valid}
 use Rattle.config.proofs.Allowed.{valid_same}

@@ -13,7 +13,7 @@ use lib.Signed.{mag}
 use borrow.Author.Tests.{le-leb, leb-true, lt-ltb, ltb-true, eq-eqb, ne_eqb, eqb-true}
 use Rattle.text.specs.Bytes.{is_one_of, all_one_of}
 use Rattle.text.proofs.Cases.{by_test, by_eq, both_left, both_right}
-use Rattle.packed.specs.Packed.{worth_of, width_ok, all_solidi, trim, all_digits, number, figure_of as figureFrom, holds, fault, spelt, half_of, fitting, field_of, write_code, written as writtenOver, read_packed}
+use Rattle.packed.specs.Packed.{worth_of, width_ok, all_solidi, trim, all_digits, number, figure_of as figureFrom, holds, fault, spelt, half_of, fitting, field_of, write_code, read_packed}
 use Rattle.packed.specs.Words.{span, digit_bytes, index_in, Digits}
 use Rattle.packed.specs.declared.Figure.{Figure}
 use Rattle.packed.specs.declared.Figure.TheVariants.{Given, Missing}
@@ -22,7 +22,7 @@ use Rattle.packed.specs.declared.Packed.TheVariants.{Is, Refused}
 use Rattle.packed.proofs.Fault.{none-agrees, agreeing, agreeing-length, agreeing-take, agreeing-free, four-inside}
 use Rattle.packed.proofs.RoundTrip.{field-length, solidi-all, solidi-back, read-solidi, read_back, write-back}
 use Rattle.packed.proofs.Words.{worth_is, half_is, figure-read, six-read}
-use Rattle.observation.proofs.Codes.{some, OfPacked, packed_coded}
+use Rattle.observation.proofs.Codes.{OfPacked, packed_coded}
 use Rattle.caller.specs.Figures.{host_figure, figure_of, is_figure, write_figure_code, figure_over}
 use Rattle.caller.specs.declared.HostFigure.{HostFigure}
 use Rattle.caller.proofs.Figures.{formed-code}

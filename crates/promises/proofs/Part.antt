@@ -1,12 +1,11 @@
 -- The promises of one section, kept.
 use mathlib.Core.Path.{◌≡◌, refl, sym, ap, ◌∙◌}
-use mathlib.Core.Logic.{◌↔◌}
-use mathlib.Core.Bool.{Bool, true, false}
+use mathlib.Core.Bool.{true, false}
 use mathlib.Core.List.{List, [], ◌∷◌, ◌++◌}
-use Prim.Native.Nat.{ℕ, ◌+◌, ◌-◌, ◌≤◌, ◌<◌}
+use Prim.Native.Nat.{ℕ, ◌+◌, ◌≤◌, ◌<◌}
 use native.Mathlib.Omega.{arith}
 use lib.Dec.{leb}
-use lib.ListN.{length, get_or, take, drop}
+use lib.ListN.{length}
 use borrow.Author.Tests.{le-leb, lt-leb, leb-true}
 use Rattle.text.specs.Names.{between}
 use Rattle.text.specs.Parts.{part}
@@ -28,7 +27,6 @@ use Rattle.finder.proofs.Finds.{found-accepted, place-accepted, last-accepted, n
 use Rattle.finder.proofs.Words.{whole-found, way_refused, count-passed, past-passed, bare-passed}
 use Rattle.desk.specs.Numbers.{answer_of}
 use Rattle.desk.specs.Parts.{part_numbers}
-use Rattle.desk.specs.declared.HostPart.{HostPart}
 use Rattle.promises.specs.BoardRuns.{IsAccepted}
 use Rattle.promises.specs.Command.{check}
 use Rattle.promises.specs.Part.{told, given, refusal, nothing, IsSection, SameSection, PartPromises}

@@ -1,6 +1,5 @@
 -- The promises of reports, kept.
 use mathlib.Core.Path.{◌≡◌, refl, sym, ap, ◌∙◌}
-use mathlib.Core.Bool.{Bool, true, false, cond}
 use mathlib.Core.List.{List, [], ◌++◌}
 use Prim.Native.Nat.{ℕ, ◌≤◌}
 use native.Mathlib.Omega.{arith}
@@ -10,7 +9,7 @@ use lib.ListN.{length, take, drop, length-map}
 use lib.Seq.{take_at, drop_at}
 use borrow.Author.Tests.{le-leb, leb-true, ltb-true}
 use Rattle.text.specs.Over.{over}
-use Rattle.text.specs.Checks.{must, ◌and_then◌}
+use Rattle.text.specs.Checks.{must}
 use Rattle.text.specs.declared.Seen.{Seen}
 use Rattle.text.specs.declared.Seen.TheVariants.{Fine, Bad}
 use Rattle.text.proofs.Checks.{must-held, both-fine}
@@ -22,7 +21,7 @@ use Rattle.caller.specs.Forms.{check_host, host_seen}
 use Rattle.caller.specs.Allowed.{Allowed, Held}
 use Rattle.caller.specs.Printed.{printed}
 use Rattle.caller.specs.declared.HostReport.{HostReport}
-use Rattle.caller.proofs.Codes.{code_of, Coded, text-coded, host_coded}
+use Rattle.caller.proofs.Codes.{Coded, text-coded, host_coded}
 use Rattle.caller.proofs.Whole.{allowed-fine, fine-allowed}
 use Rattle.caller.proofs.Carried as carried
 use Rattle.caller.proofs.Meaning as meaning

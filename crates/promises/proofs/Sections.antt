@@ -1,8 +1,8 @@
 -- Where the members of what is read stand in a command's text.
-use mathlib.Core.Path.{◌≡◌, refl, sym, ap, ◌∙◌}
+use mathlib.Core.Path.{◌≡◌, refl, ap, ◌∙◌}
 use mathlib.Core.Bool.{true, cond}
 use mathlib.Core.List.{List, [], ◌∷◌, ◌++◌}
-use Prim.Native.Nat.{ℕ, zero, suc, ◌+◌, ◌-◌, ◌*◌, ◌≤◌, ◌<◌}
+use Prim.Native.Nat.{ℕ, zero, suc, ◌+◌, ◌-◌, ◌*◌, ◌<◌}
 use native.Mathlib.Omega.{arith}
 use lib.ListN.{get_or, replicate, get_or-map}
 use Rattle.text.specs.Parts.{part}
@@ -11,10 +11,10 @@ use Rattle.field.specs.Boxes.{no_region, region_at, edge_at}
 use Rattle.field.specs.declared.Region.{Region}
 use Rattle.lists.specs.Lists.{count_at, regions_at, boxes_at, airfields_at}
 use Rattle.section.specs.Layout.{layout_of, table_of, items_size}
-use Rattle.section.specs.Contents.{Content, contents_at}
-use Rattle.settings.specs.Settings.{settings_from, regions_from, airports_from, enroute_from, ascent_from, hours_from, amount_in}
+use Rattle.section.specs.Contents.{contents_at}
+use Rattle.settings.specs.Settings.{settings_from, regions_from, airports_from, enroute_from, ascent_from, hours_from}
 use Rattle.command.specs.Text.{is_named}
-use Rattle.command.specs.Record.{digits_of, command_of}
+use Rattle.command.specs.Record.{command_of}
 use Rattle.command.specs.Sections.{held_in, place_from, place_of}
 use Rattle.promises.specs.Sections.{number_at, past_boxes, past_airfields, BoxStands, BoxesStand, AirfieldsStand, Regions, Airports, Ascent, Descent, Means}
 

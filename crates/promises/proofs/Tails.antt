@@ -1,43 +1,39 @@
 -- Document 02, §9, as specs/Tails says it.
-use mathlib.Core.Path.{◌≡◌, refl, sym, ap, ap₂, ◌∙◌, subst}
-use mathlib.Core.Bool.{Bool, true, false, cond, ◌&&◌}
+use mathlib.Core.Path.{◌≡◌, refl, ap, ap₂, ◌∙◌, subst}
+use mathlib.Core.Bool.{Bool, true, false, cond}
 use mathlib.Core.List.{List, [], ◌∷◌}
 use Prim.Native.Nat.{ℕ, zero, suc, ◌≤◌, ◌<◌}
 use native.Mathlib.Omega.{arith}
 use lib.Dec.{leb, eqb}
 use lib.ListN.{length, get_or, set, replicate, length-replicate, length-set}
 use lib.Seq.{get_or-set_same, get_or-set_other}
-use borrow.Author.Tests.{eq-eqb, eqb-true}
-use Rattle.text.specs.Names.{all_allowed, is_designator}
-use Rattle.text.proofs.Cases.{by_eq, by_lt, by_test, both_left, both_right}
+use borrow.Author.Tests.{eq-eqb}
+use Rattle.text.specs.Names.{is_designator}
+use Rattle.text.proofs.Cases.{by_eq, by_lt, by_test, both_right}
 use Rattle.text.specs.declared.Seen.TheVariants.{Fine}
 use Rattle.command.specs.Text.{check_command}
 use Rattle.join.specs.Join.{join_text}
 use Rattle.board.specs.Board.{Move, Stay, Put, Free, reply_of, is_valid, is_for, is_free, any, lowest, waiting, placed, handed_out, add, take_out}
 use Rattle.board.specs.History.{Event, Add as AddFor, Take as TakeFor}
 use Rattle.board.specs.Lent.{is_shaped, is_valid_lent, board_of, add_lent, take_lent, no_slot, on_slots, on_area, on_out}
-use Rattle.board.specs.Calls.{Lent, call, on_lent}
-use Rattle.board.specs.Words.{slot_at, InUse, WellFormed, ValidBoard, IsOwn}
+use Rattle.board.specs.Calls.{Lent, call}
+use Rattle.board.specs.Words.{slot_at, InUse, ValidBoard}
 use Rattle.board.specs.declared.Slot.{Slot}
-use Rattle.board.proofs.WaitingSlots.{never, both}
 use Rattle.board.proofs.Calls.{call-ten}
 use Rattle.board.proofs.Refusals.{refusals-all, placing-all, handing-all}
 use Rattle.board.proofs.LentWords.{formed, valid-said}
-use Rattle.tails.specs.Tails.{list_of, listed}
+use Rattle.tails.specs.Tails.{list_of}
 use Rattle.tails.specs.Keys.{keys_of, is_list_of}
 use Rattle.tails.specs.Words.{all_bytes, SixBytes, ListOf}
-use Rattle.tails.specs.Calls.{search_lent, has_list, made_lent, add_listed, take_listed, on_list}
-use Rattle.tails.specs.declared.lent.Sought.{Sought}
-use Rattle.tails.proofs.Keyed.{length_keys}
-use Rattle.tails.proofs.Rising.{list_length}
+use Rattle.tails.specs.Calls.{has_list, made_lent, add_listed, take_listed, on_list}
 use Rattle.tails.proofs.Said.{list-said, said-list, one-count}
 use Rattle.tails.proofs.Valid.{well_bytes, valid-list, one-list-of, list-is, valid-kept, search_own, search_none, search_four, search_ten, search_before}
 use Rattle.desk.specs.Numbers.{answer_of}
 use Rattle.desk.specs.Waiting.{reply_numbers, board_numbers}
 use Rattle.desk.specs.Tails.{tail_numbers}
-use Rattle.promises.specs.BoardRuns.{Call, Add, Take, move_of, answer_to, lent_after, buffer_after, BeganEmpty, after_all, Told, log_from}
-use Rattle.promises.specs.Tails.{listed_move, listed_answer, listed_lent, listed_buffer, list_after, listed_all, list_all, listed_log, make_answer, AsWithout, Disagrees, AsWalk, TailPromises}
-use Rattle.promises.proofs.Asked.{asked, move-asked, lent-asked}
+use Rattle.promises.specs.BoardRuns.{Call, Add, Take, move_of, BeganEmpty, after_all, Told, log_from}
+use Rattle.promises.specs.Tails.{listed_move, listed_lent, list_after, listed_all, list_all, listed_log, make_answer, AsWithout, Disagrees, TailPromises}
+use Rattle.promises.proofs.Asked.{asked, move-asked}
 
 -- ---- A list that is the board's, and one that is not
 

@@ -1,6 +1,6 @@
 -- Document 02, §10, "Gusts worked out here": what is promised of esk_gust. The formula is said in gust/specs/Words, each
 -- quotient by the two products that it lies between.
-use Rattle.std.specs.Prelude.{◌≡◌, List, map, ℕ, ◌≤◌, ◌<◌, length, get_or, ℤ, pos, negsuc}
+use Rattle.std.specs.Prelude.{◌≡◌, map, ℕ, ◌≤◌, ◌<◌, length, get_or, ℤ, pos, negsuc}
 use Rattle.gust.specs.declared.Derived.{Derived}
 use Rattle.gust.specs.declared.Derived.TheVariants.{Gust, Refused}
 use Rattle.gust.specs.Rows.{row, rows}

@@ -1,5 +1,5 @@
 -- The command that a refusal carries, and its settings: zero in every member.
-use Rattle.std.specs.Prelude.{List, replicate}
+use Rattle.std.specs.Prelude.{replicate}
 use Rattle.field.specs.Boxes.{no_region}
 use Rattle.lists.specs.declared.Airfields.{Airfields}
 use Rattle.lists.specs.declared.Boxes.{Boxes}

@@ -1,23 +1,18 @@
 -- A section's numbers, row by row: what is read, checked and written of them.
-use mathlib.Core.Path.{◌≡◌, refl, sym, ap, ap₂, ◌∙◌}
-use mathlib.Core.Bool.{Bool, true, false, cond, ◌&&◌}
+use mathlib.Core.Path.{◌≡◌, refl, sym, ap, ◌∙◌}
 use mathlib.Core.List.{List, [], ◌∷◌, ◌++◌, map, append_assoc, append-nil}
-use Prim.Native.Nat.{ℕ, zero, suc, ◌+◌, ◌-◌, ◌*◌, ◌≤◌, ◌<◌}
+use Prim.Native.Nat.{ℕ, zero, suc, ◌+◌, ◌-◌, ◌≤◌, ◌<◌}
 use native.Mathlib.Omega.{arith}
 use native.Mathlib.Nat.{add_assoc}
 use native.Mathlib.Numerals.{add-one}
-use lib.Dec.{leb}
 use lib.ListN.{length, get_or, set, take, drop, replicate, length-append}
 use lib.Seq.{drop-cons}
-use borrow.Author.Tests.{le-leb}
-use Rattle.text.specs.Checks.{must, ◌and_then◌}
+use Rattle.text.specs.Checks.{◌and_then◌}
 use Rattle.text.specs.declared.Seen.{Seen}
 use Rattle.text.specs.declared.Seen.TheVariants.{Fine, Bad}
 use Rattle.field.specs.Decimal.{decimal, value}
 use Rattle.field.specs.Fields.{after}
-use Rattle.field.specs.declared.Step.{Step}
 use Rattle.field.specs.declared.Step.TheVariants.{Next, Stop}
-use Rattle.field.proofs.Decimal.{decimal-length}
 use Rattle.section.specs.declared.Row.{Row}
 use Rattle.section.specs.Layout.{Item, Digits, no_row, check_item, check_items, items_size}
 use Rattle.section.specs.Contents.{Content, Amount, amount_of, content_at, content_text, contents_at, contents_text, content_allowed, contents_allowed}
@@ -25,7 +20,7 @@ use Rattle.section.specs.Inner.{numbers_of, going_on, pass_contents}
 use Rattle.text.specs.Parts.{part}
 use Rattle.field.proofs.Accepted.{number as accepted-number}
 use Rattle.lists.proofs.Fill.{fill_turn}
-use Rattle.section.proofs.Rows.{rows_from, rows_turn, rows_end}
+use Rattle.section.proofs.Rows.{rows_from, rows_turn}
 use Rattle.section.proofs.Walk.{Left, left-all, left_item, left-on}
 
 -- ---- Passing: one content after the other

@@ -1,6 +1,6 @@
 -- The check of a section, item by item: how far it has come, and what is left to check.
 use mathlib.Core.Path.{◌≡◌, refl, sym, ◌∙◌}
-use mathlib.Core.List.{List, [], ◌∷◌}
+use mathlib.Core.List.{List, ◌∷◌}
 use Prim.Native.Nat.{ℕ, zero, suc, ◌≤◌}
 use lib.ListN.{length}
 use Rattle.field.specs.declared.Step.{Step}

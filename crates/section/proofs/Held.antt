@@ -1,5 +1,5 @@
 -- Checks of a record, one after the other.
-use mathlib.Core.Path.{◌≡◌, refl, sym, ◌∙◌}
+use mathlib.Core.Path.{◌≡◌, refl, sym}
 use Prim.Native.Nat.{ℕ}
 use Rattle.text.specs.Checks.{◌and_then◌}
 use Rattle.text.specs.declared.Seen.{Seen}

@@ -1,7 +1,7 @@
 -- Sections: their checks look only at the bytes that they pass over, and so does what is read there; how long each can be.
 use mathlib.Core.Path.{◌≡◌}
 use mathlib.Core.List.{List, [], ◌∷◌}
-use Prim.Native.Nat.{ℕ, ◌+◌, ◌-◌, ◌≤◌}
+use Prim.Native.Nat.{ℕ, ◌+◌, ◌≤◌}
 use native.Mathlib.Omega.{arith}
 use Rattle.field.specs.Decimal.{value}
 use Rattle.field.specs.Fields.{check_delimiter, check_airfield}

@@ -1,9 +1,9 @@
 -- What a section holds: read out of its text, checked as a record, written as its text.
-use Rattle.std.specs.Prelude.{Bool, true, false, cond, ◌&&◌, List, [], ◌∷◌, ◌++◌, ℕ, ◌+◌, leb, eqb, length}
+use Rattle.std.specs.Prelude.{◌&&◌, List, [], ◌∷◌, ◌++◌, ℕ, ◌+◌, leb, length}
 use Rattle.text.specs.Parts.{part}
 use Rattle.text.specs.Checks.{must, ◌and_then◌}
 use Rattle.text.specs.declared.Seen.{Seen}
-use Rattle.text.specs.declared.Seen.TheVariants.{Fine, Bad}
+use Rattle.text.specs.declared.Seen.TheVariants.{Fine}
 use Rattle.field.specs.Decimal.{value, decimal}
 use Rattle.lists.specs.Lists.{airfields_at, airfields_allowed, airfields_text, no_airfields, boxes_at, boxes_allowed, boxes_text, no_boxes}
 use Rattle.lists.specs.declared.Airfields.{Airfields}

@@ -1,15 +1,15 @@
 -- The sections of numbers: eight numbers of a section hold what its members hold, and the section is checked and written by them.
-use mathlib.Core.Path.{◌≡◌, refl, sym, ap, ◌∙◌}
-use mathlib.Core.Bool.{Bool, true, false, cond, ◌&&◌}
+use mathlib.Core.Path.{◌≡◌, refl, ◌∙◌}
+use mathlib.Core.Bool.{◌&&◌}
 use mathlib.Core.List.{List, [], ◌∷◌, ◌++◌, map}
-use Prim.Native.Nat.{ℕ, zero, suc, ◌+◌, ◌-◌, ◌≤◌, ◌<◌}
+use Prim.Native.Nat.{ℕ, zero, suc, ◌-◌, ◌≤◌}
 use native.Mathlib.Omega.{arith}
 use lib.Dec.{eqb}
 use lib.ListN.{length, get_or, replicate}
 use borrow.Author.Tests.{ne_eqb}
 use Rattle.text.proofs.Cases.{by_test}
 use Rattle.lists.specs.Lists.{all_zero}
-use Rattle.section.specs.Layout.{Item, table_of, layout_of, digits_of}
+use Rattle.section.specs.Layout.{table_of, layout_of, digits_of}
 use Rattle.section.specs.Contents.{Content, Amount, amount_of, contents_text, contents_allowed}
 use Rattle.section.specs.Inner.{numbers_of, Fit, pass_contents}
 use Rattle.section.proofs.Rows.{look-past, table-past}

@@ -4,7 +4,7 @@ use mathlib.Core.Bool.{Bool, true, false, cond, ◌&&◌}
 use mathlib.Core.List.{List, [], ◌∷◌}
 use Prim.Native.Nat.{ℕ, ◌≤◌, ◌<◌}
 use native.Mathlib.Omega.{arith}
-use lib.Dec.{ltb, eqb}
+use lib.Dec.{ltb}
 use borrow.Author.Tests.{ltb-true, le-leb, lt-leb, ne_eqb}
 use Rattle.text.specs.Names.{allowed, all_allowed}
 use Rattle.text.specs.Bytes.{is_one_of, all_one_of, name_bytes}

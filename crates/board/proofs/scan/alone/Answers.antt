@@ -1,4 +1,4 @@
-use Rattle.std.proofs.Common.{sym, ◌≤◌, ◌≡◌, length, arith}
+use Rattle.std.proofs.Common.{◌≡◌, arith}
 use Rattle.std.proofs.lemmas.List.{get_or_default}
 use Rattle.board.specs.Lent.{no_slot}
 use Rattle.board.proofs.Found.{until_le, until_from, apart_next, apart_end}

@@ -1,7 +1,6 @@
-use Rattle.std.proofs.Common.{sym, ◌≡◌, ◌∙◌, ap, length, arith}
+use Rattle.std.proofs.Common.{sym, ◌∙◌, arith}
 use Rattle.std.proofs.lemmas.List.{get_or_default}
 use Rattle.board.specs.Lent.{no_slot}
-use Rattle.board.specs.Inner.{is_looked_at, step_of}
 use Rattle.board.specs.declared.Slot.{Slot}
 use Rattle.board.proofs.Found.{look-next, look-past, look_end}
 use Rattle.board.proofs.scan.look_over.Goals as goal

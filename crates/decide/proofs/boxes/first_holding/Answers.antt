@@ -2,7 +2,7 @@ use borrow.Author.Rules.{rules}
 use native.Mathlib.Omega.{arith}
 use mathlib.Core.Path.{◌≡◌, sym, ap, ◌∙◌}
 use Prim.Native.Nat.{ℕ, ◌-◌, ◌<◌}
-use lib.ListN.{length, get_or, length-map}
+use lib.ListN.{length, get_or}
 use Rattle.field.specs.Boxes.{no_region}
 use Rattle.decide.specs.Tests.{holds}
 use Rattle.decide.proofs.Inside.{first_turn, first_stop, first_end}

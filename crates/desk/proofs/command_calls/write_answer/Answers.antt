@@ -1,7 +1,7 @@
 -- `desk::command_calls::write_answer` meets its contract.
-use mathlib.Core.Path.{sym, ◌∙◌}
+use mathlib.Core.Path.{◌∙◌}
 use borrow.Author.Rules.{rules}
-use lib.ListN.{length, length-map}
+use lib.ListN.{length}
 use Rattle.command.specs.Record.{command_text, write_seen}
 use Rattle.command_write.specs.Filled.{Filled}
 use Rattle.desk.proofs.Given.{wrote-numbers, wrote-short}

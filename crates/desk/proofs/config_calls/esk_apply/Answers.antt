@@ -1,7 +1,6 @@
 -- Which settings are kept, by how the test came out.
-use Rattle.std.proofs.Common.{◌≡◌, ◌∙◌, ap, sym}
+use Rattle.std.proofs.Common.{ap}
 use borrow.Author.Tests.{eq-eqb, ne_eqb}
-use lib.Dec.{eqb}
 use Rattle.desk.specs.declared.config_calls.Outcome.{Outcome}
 use Rattle.config.proofs.Kept.{kept_new, kept_old}
 use Rattle.desk.proofs.config_calls.esk_apply.Goals as goal

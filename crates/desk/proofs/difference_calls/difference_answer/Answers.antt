@@ -1,7 +1,7 @@
 -- `desk::difference_calls::difference_answer` meets its contract.
-use mathlib.Core.Path.{sym, ap, ◌∙◌, refl}
+use mathlib.Core.Path.{ap, ◌∙◌, refl}
 use borrow.Author.Rules.{rules}
-use lib.ListN.{length, length-map}
+use lib.ListN.{length}
 use Rattle.command_write.specs.Filled.{Filled}
 use Rattle.difference.proofs.Makes.{holding, answer-short}
 use Rattle.desk.specs.Differences.{difference_numbers}

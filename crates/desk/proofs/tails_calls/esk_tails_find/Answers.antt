@@ -1,6 +1,6 @@
 use Rattle.std.proofs.Common.{◌∙◌, ap}
 use Rattle.board.specs.Inner.{wanted_by}
-use Rattle.tails.specs.Inner.{keys_in, sought_in}
+use Rattle.tails.specs.Inner.{sought_in}
 use Rattle.tails.specs.declared.keys.Keys.{Keys}
 use Rattle.tails.proofs.Keyed.{sought_in_lem}
 use Rattle.desk.specs.Tails.{tail_numbers}

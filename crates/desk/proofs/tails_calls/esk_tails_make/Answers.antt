@@ -1,5 +1,5 @@
 use Rattle.std.proofs.Common.{◌∙◌, ap}
-use Rattle.tails.specs.Inner.{keys_in, has_list_in, made_in}
+use Rattle.tails.specs.Inner.{has_list_in, made_in}
 use Rattle.tails.specs.declared.keys.Keys.{Keys}
 use Rattle.tails.proofs.Keyed.{has_in, made_in_lem}
 use Rattle.desk.specs.Waiting.{board_numbers}

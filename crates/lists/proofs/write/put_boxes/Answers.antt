@@ -1,7 +1,7 @@
 -- `lists::write::put_boxes` meets its contract: the count, then the boxes in use.
 use native.Mathlib.Omega.{arith}
 use Prim.Native.Nat.{◌+◌, ◌*◌}
-use lib.ListN.{length, take, length-map}
+use lib.ListN.{length, take}
 use lib.Seq.{length-take-le}
 use mathlib.Core.Path.{◌≡◌, sym, ◌∙◌}
 use borrow.Rule.Slice.PartMut.{put_mid}

@@ -1,7 +1,7 @@
 -- `settings::section2::boxes_end` meets its contract.
 use native.Mathlib.Omega.{arith}
-use mathlib.Core.Path.{◌≡◌, sym, ◌∙◌}
-use lib.ListN.{length, length-map}
+use mathlib.Core.Path.{◌≡◌}
+use lib.ListN.{length}
 use Rattle.lists.proofs.Spelling.{boxes-length}
 use borrow.Author.Rules.{rules}
 use Rattle.settings.proofs.section2.boxes_end.Goals as goal
