@@ -20,7 +20,7 @@
 # make replay     the inputs that the fuzzer found, replayed without it
 # make coverage   the lines of the second program that the comparison reaches; needs llvm-cov, 19 or later
 # make edits      further edits that the prover must refuse, which the gate has no time for; ARGS: the crates
-# make clean      removes all that was built
+# make clean      removes target/; what the prover keeps stays, in crates/NAME/out
 
 PREFIX ?= /usr/local
 
@@ -70,8 +70,9 @@ demo: $(program)
 	@host/tool run eskelvor report examples/one.report
 
 # ---- installation ------------------------------------------------------------------------------------------------
-# All of it is for this machine, x86-64 or 64-bit Arm: on another kind nothing is put in place. The Python module finds the
-# library by the link beside it, under any PREFIX.
+# All of it is for this machine, x86-64 or 64-bit Arm: on another kind nothing is put in place. On Arm target/staticlib/libdesk.a,
+# target/native/module.bc and module.of are carried over from x86-64 first. The Python module finds the library by the link
+# beside it, under any PREFIX.
 
 at := $(DESTDIR)$(PREFIX)
 python_at := share/eskelvor/python/eskelvor
