@@ -48,8 +48,8 @@ programs := answer answer_command answer_section answer_config answer_decide ans
 
 all: $(archive) $(program) $(native_program)
 
-$(archive): crates.txt $(shell find crates -type f)
-	@echo 'The archive is proved and built; the first time this takes some eight minutes.'
+$(archive): crates.txt $(shell find crates -type f -not -path '*/out/*')
+	@echo 'The archive is proved and built; the first time this takes a while.'
 	host/native archive
 
 target/native/libdesk.a: $(archive) host/native
@@ -164,4 +164,4 @@ edits:
 	.ci/more-edits $(ARGS)
 
 clean:
-	rm -rf target
+	rm -rf target crates/*/out
