@@ -20,7 +20,7 @@
 # make replay     the inputs that the fuzzer found, replayed without it
 # make coverage   the lines of the second program that the comparison reaches; needs llvm-cov, 19 or later
 # make edits      further edits that the prover must refuse, which the gate has no time for; ARGS: the crates
-# make clean      removes target/; what the prover keeps stays, in crates/NAME/out
+# make clean      removes target/, and what the prover keeps, in crates/NAME/out
 
 PREFIX ?= /usr/local
 
