@@ -6,10 +6,11 @@ use Prim.Native.Nat.{ℕ}
 use lib.Dec.{leb, eqb}
 use lib.ListN.{length, drop}
 use borrow.Author.Tests.{eqb-true}
+use Rattle.std.specs.Prelude.{Ok}
 use Rattle.text.specs.Names.{is_designator}
 use Rattle.text.specs.Checks.{is_fine}
-use Rattle.text.specs.declared.Seen.TheVariants.{Fine}
 use Rattle.text.proofs.Cases.{by_test, both_left, both_right}
+use Rattle.text.specs.declared.Code.TheVariants.{BoardInvalid}
 use Rattle.command.specs.Text.{longest, check_command}
 use Rattle.join.specs.Join.{join_text}
 use Rattle.board.specs.Board.{WaitingSlot, is_free, is_for, any, lowest, waiting, is_valid, Move, Stay, Put, Free, placed, handed_out, add, take_out, on_board, reply_of}
@@ -39,7 +40,7 @@ sits b (Add d t) =
     (λ h. (lowest-inside (is_for d) b h, accepted-short (join_text (waiting d b) t) (joins (waiting d b) t (waiting-fine d b v h) f)))
     (λ h g. (lowest-inside is_free b g, accepted-short t f)))
 sits b (Take d room) =
-    refusals-all (Sits (length b)) Stay (is_valid b) (is_designator d) Fine (handed_out b d room) tt tt (λ code place k. tt)
+    refusals-all (Sits (length b)) Stay (is_valid b) (is_designator d) (Ok tt) (handed_out b d room) tt tt (λ code place k. tt)
     (λ v n s.
     handing-all (Sits (length b)) Stay (any (is_for d) b) (leb (length (waiting d b)) room) (Free (lowest (is_for d) b) (waiting d b)) tt
     tt (λ h l. lowest-inside (is_for d) b h))
@@ -51,7 +52,7 @@ call-move x (Add d t) h = rw h
 call-move x (Take d room) h = rw h
 
 -- on what isn't a valid board it is 10, and nothing changes
-pub call-ten : (x : Lent) (e : Event) → is_valid_lent x.slots x.area ≡ false → call x e ≡ Stay 10 0
+pub call-ten : (x : Lent) (e : Event) → is_valid_lent x.slots x.area ≡ false → call x e ≡ Stay BoardInvalid 0
 unfolding add_lent take_lent is_valid_lent add take_out
 call-ten x (Add d t) h = by_test (is_shaped x.slots x.area) (λ s. rw (s, rw s at h)) (λ s. rw s)
 call-ten x (Take d room) h = by_test (is_shaped x.slots x.area) (λ s. rw (s, rw s at h)) (λ s. rw s)

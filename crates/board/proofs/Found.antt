@@ -2,23 +2,24 @@
 use mathlib.Core.Path.{◌≡◌, refl, sym, ap, ◌∙◌}
 use mathlib.Core.Bool.{Bool, true, false, not, ◌&&◌, ◌||◌, and_assoc, and-true}
 use mathlib.Core.List.{List, [], ◌∷◌}
-use Prim.Native.Nat.{ℕ, suc, ◌+◌, ◌*◌, ◌≤◌, ◌<◌, ◌%◌, ◌^◌}
+use Prim.Native.Nat.{ℕ, suc, ◌+◌, ◌*◌, ◌≤◌, ◌<◌, ◌%◌}
 use native.Mathlib.Numerals.{add-one}
 use native.Mathlib.Omega.{arith}
 use lib.Dec.{leb, eqb}
 use lib.ListN.{length, get_or, take, drop, drop_of_length-le}
-use lib.Seq.{take_all, take-length, length-take-le, get_or-take, drop-cons, drop-length}
-use borrow.Author.Tests.{lt-leb, lt-ltb, le-ltb, leb-false}
+use lib.Seq.{take_all, take-length, length-take-le, drop-cons, drop-length}
+use borrow.Author.Tests.{lt-leb, lt-ltb, le-ltb, not-false}
+use Rattle.std.proofs.lemmas.List.{get_or_default}
+use Rattle.std.specs.Prelude.{Option, is_some}
 use Rattle.text.specs.Equal.{same_bytes}
 use Rattle.text.proofs.Cases.{by_le, by_lt, by_test}
 use Rattle.text.proofs.Parts.{part_bytes}
+use Rattle.command.specs.Text.{longest}
 use Rattle.board.specs.Lent.{no_slot}
-use Rattle.board.specs.Inner.{is_used, used_for, none_for, alone_in, is_looked_at, until_at, first_of, step_of, scan_from, scanned}
+use Rattle.board.specs.Inner.{Wanted, is_used, used_for, none_for, alone_in, is_looked_at, until_at, first_of, step_of, scan_from, scanned}
 use Rattle.board.proofs.Scanned.{step_bad, step-free}
-use Rattle.board.specs.declared.Wanted.{Wanted}
 use Rattle.board.specs.declared.Slot.{Slot}
 use Rattle.board.specs.declared.Findings.{Findings}
-use Rattle.command.specs.Text.{longest}
 
 -- a list of six is its six elements
 pub six : (l : List ℕ) → length l ≡ 6
@@ -35,9 +36,9 @@ alike a b =
     && eqb (get_or a 5 0) (get_or b 5 0)
 
 -- six bytes compared one by one
-pub same-six : (a b : List ℕ) → length a ≡ 6 → length b ≡ 6 → alike a b ≡ same_bytes a b
+pub same_six : (a b : List ℕ) → length a ≡ 6 → length b ≡ 6 → alike a b ≡ same_bytes a b
 unfolding same_bytes
-same-six a b e f =
+same_six a b e f =
     sym (ap (λ (l : List ℕ). same_bytes l b) (six a e)
     ∙ ap (same_bytes (get_or a 0 0 ∷ get_or a 1 0 ∷ get_or a 2 0 ∷ get_or a 3 0 ∷ get_or a 4 0 ∷ get_or a 5 0 ∷ [])) (six b f)
     ∙ simp (and_assoc, and-true))
@@ -50,14 +51,6 @@ start-bytes n bytes =
     (λ (h : 64 < n). rw (lt-leb n 64 h))
 
 -- ---- The slots behind one
-
--- by whether i is below n
-pub by_order : (i n : ℕ) {X : Type 1} → (i < n → X) → (n ≤ i → X) → X
-by_order i n less over = by_lt i n less over
-
--- an element's offset fits a usize
-pub offset_fits : (i n : ℕ) → i < n → n * 8 < 2 ^ 63 → i * 8 < 2 ^ 64
-offset_fits i n l r = omega arith
 
 module _ (a : Findings) (x : Slot) (i : ℕ) where
   -- the look ends at a slot, or behind the last
@@ -84,23 +77,18 @@ module _ (a : Findings) (x : Slot) (i : ℕ) where
       rw (t, f, take_all i ys l, take-length ys)))
       (λ (t : (a.valid && is_used x) ≡ false). let f : r ≡ 0 = e ∙ rw t in rw (t, f))
 
--- one slot more, of those before slot m
-pub apart_next : (d : List ℕ) (ys : List Slot) (m j : ℕ) (c r w : Bool) → m ≤ length ys → j < m → w ≡ (c && none_for d (drop j (take m ys)))
-    → r ≡ (c && not (used_for d (get_or ys j no_slot))) → w ≡ (r && none_for d (drop (j + 1) (take m ys)))
+-- one slot more, of those that are looked at
+pub apart_next : (d : List ℕ) (ys : List Slot) (j : ℕ) (c r w : Bool) → j < length ys → w ≡ (c && none_for d (drop j ys))
+    → r ≡ (c && not (used_for d (get_or ys j no_slot))) → w ≡ (r && none_for d (drop (j + 1) ys))
 unfolding none_for
-apart_next d ys m j c r w k l h e =
-    let long : length (take m ys) ≡ m = length-take-le m ys k in
-    let here : get_or (take m ys) j no_slot ≡ get_or ys j no_slot = get_or-take m ys j no_slot l in
-    let in-it : j < length (take m ys) = rw long l in
-    h ∙ rw (e, add-one, drop-cons (take m ys) j no_slot in-it, here)
-    (sym (and_assoc c (not (used_for d (get_or ys j no_slot))) (none_for d (drop (suc j) (take m ys)))))
+apart_next d ys j c r w l h e =
+    h ∙ rw (e, add-one, drop-cons ys j no_slot l)
+    (sym (and_assoc c (not (used_for d (get_or ys j no_slot))) (none_for d (drop (suc j) ys))))
 
 -- and none left
-pub apart_end : (d : List ℕ) (ys : List Slot) (m j : ℕ) (c w : Bool) → m ≤ length ys → j ≡ m → w ≡ (c && none_for d (drop j (take m ys))) → c ≡ w
+pub apart_end : (d : List ℕ) (ys : List Slot) (j : ℕ) (c w : Bool) → length ys ≤ j → w ≡ (c && none_for d (drop j ys)) → c ≡ w
 unfolding none_for
-apart_end d ys m j c w k e h =
-    let past : length (take m ys) ≤ j = rw (length-take-le m ys k, e) (omega arith) in
-    sym (h ∙ rw (drop_of_length-le (take m ys) {i = j} past) (and-true c))
+apart_end d ys j c w l h = sym (h ∙ rw (drop_of_length-le ys {i = j} l) (and-true c))
 
 neither_left : (s t : Bool) → (s || t) ≡ false → s ≡ false
 neither_left true t e = e
@@ -111,14 +99,14 @@ neither_right true t e = let z : ◌≡◌ {A = ℕ} 0 1 = cc in absurd (omega a
 neither_right false t e = e
 
 -- a free slot behind a free one changes nothing
-tells_nothing : (area : List ℕ) (w : Wanted) (a : Findings) (x : Slot) (c : Bool) (i : ℕ) → is_used x ≡ false → a.free < i → step_of area w a x c i ≡ a
+tells_nothing : (area : List ℕ) (w : Wanted) (a : Findings) (x : Slot) (c : Bool) (i : ℕ) → is_used x ≡ false → is_some a.free ≡ true → step_of area w a x c i ≡ a
 tells_nothing area w a x c i u l =
     by_test a.valid
     (λ (t : a.valid ≡ true).
-    let same : first_of a.free i ≡ a.free = rw (lt-ltb a.free i l) in
+    let same : first_of a.free i ≡ a.free = rw l in
     step-free area w a x c i t u
-    ∙ ap (λ (k : ℕ). record { valid = true; length = a.length; own = a.own; free = k; count = a.count }) same
-    ∙ ap (λ (v : Bool). record { valid = v; length = a.length; own = a.own; free = a.free; count = a.count }) (sym t))
+    ∙ ap (λ (k : Option ℕ). record { valid = true; length = a.length; own = a.own; free = k }) same
+    ∙ ap (λ (v : Bool). record { valid = v; length = a.length; own = a.own; free = a.free }) (sym t))
     (λ (t : a.valid ≡ false). step_bad area w a x c i t)
 
 -- ---- The look over the slots, from a slot on, with what was found before it
@@ -132,7 +120,7 @@ module _ (area : List ℕ) (w : Wanted) (ys : List Slot) (i : ℕ) (a : Findings
   look-next r c l h e f = h ∙ rw (f, e, add-one, drop-cons ys i no_slot l)
 
   -- one that tells nothing
-  pub look-past : i < length ys → scanned area w ys ≡ scan_from area w ys a i (drop i ys) → is_looked_at a (get_or ys i no_slot) i ≡ false
+  pub look-past : i < length ys → scanned area w ys ≡ scan_from area w ys a i (drop i ys) → is_looked_at a (get_or ys i no_slot) ≡ false
       → scanned area w ys ≡ scan_from area w ys a (i + 1) (drop (i + 1) ys)
   unfolding scan_from
   look-past l h t =
@@ -140,9 +128,14 @@ module _ (area : List ℕ) (w : Wanted) (ys : List Slot) (i : ℕ) (a : Findings
       h
       ∙ rw (add-one, drop-cons ys i no_slot l)
       (ap (λ (z : Findings). scan_from area w ys z (suc i) (drop (suc i) ys))
-      (tells_nothing area w a x (alone_in a x (take i ys)) i (neither_left (is_used x) (leb i a.free) t) (leb-false i a.free (neither_right (is_used x) (leb i a.free) t))))
+      (tells_nothing area w a x (alone_in a x (take i ys)) i (neither_left (is_used x) (not (is_some a.free)) t) (not-false (is_some a.free) (neither_right (is_used x) (not (is_some a.free)) t))))
 
   -- and none left
   pub look_end : i ≡ length ys → scanned area w ys ≡ scan_from area w ys a i (drop i ys) → a ≡ scanned area w ys
   unfolding scan_from
   look_end e h = sym (h ∙ ap (λ (l : List Slot). scan_from area w ys a i l) (ap (λ (j : ℕ). drop j ys) e ∙ drop-length ys))
+
+-- for the loop over the slots before one, and for the loop over all
+pub ruleset until_steps = (until_le, until_from, length-take-le)
+
+pub ruleset look_steps = (look-next, look-past, look_end, get_or_default)

@@ -8,13 +8,14 @@ use native.Mathlib.Omega.{arith}
 use lib.Dec.{leb, eqb}
 use lib.ListN.{length, get_or}
 use borrow.Author.Tests.{eqb-true, eqb-false, eq-eqb, ne_eqb, le-leb}
+use Rattle.std.specs.Prelude.{Result, Ok, Err}
 use Rattle.text.specs.Names.{all_allowed, is_designator}
 use Rattle.text.specs.Equal.{same_bytes}
-use Rattle.text.specs.declared.Seen.{Seen}
-use Rattle.text.specs.declared.Seen.TheVariants.{Fine, Bad}
 use Rattle.text.proofs.Bytes.{all-allowed-is}
 use Rattle.text.proofs.Cases.{by_test, by_eq, both_left, both_right}
 use Rattle.text.proofs.Equal.{same-equal, equal-same}
+use Rattle.text.specs.declared.Refusal.{Refusal}
+use Rattle.text.specs.declared.Code.TheVariants.{BoardInvalid}
 use Rattle.command.specs.Text.{longest, check_command}
 use Rattle.join.specs.Join.{join_text}
 use Rattle.board.specs.Board.{WaitingSlot, empty_slot, is_none, is_free, is_for, any, lowest, waiting, is_valid, Stay, Put, past_refusals, placing, add}
@@ -173,7 +174,7 @@ module _ (xs : List Slot) (area d t : List ℕ) (i : ℕ) (e w : List ℕ) (k : 
   put_valid : is_valid_lent xs area ≡ true
   put_valid =
       by_test (is_valid_lent xs area) (λ v. v)
-      (λ n. let z : Stay 10 0 ≡ Put i e w = sym (call-ten (record { slots = xs; area = area }) (Add d t) n) ∙ k in cc)
+      (λ n. let z : Stay BoardInvalid 0 ≡ Put i e w = sym (call-ten (record { slots = xs; area = area }) (Add d t) n) ∙ k in cc)
 
   put_shaped : is_shaped xs area ≡ true
   unfolding is_valid_lent
@@ -191,13 +192,13 @@ module _ (xs : List Slot) (area d t : List ℕ) (i : ℕ) (e w : List ℕ) (k : 
       rw (← (who-is xs area j o.0 ∙ o.1)) (used_for_lem (get_or board j empty_slot) (place-used xs area h j o.0))
 
   -- a text is put for the aircraft that was asked for
-  put_for : (v n : Bool) (s : Seen) (own free : Bool) (p q : ℕ) (x : List ℕ)
+  put_for : (v n : Bool) (s : Result (Unit {0}) Refusal) (own free : Bool) (p q : ℕ) (x : List ℕ)
       → past_refusals Stay v n s (placing Stay own free (Put p d x) (Put q d t)) ≡ Put i e w
       → e ≡ d
-  put_for true true Fine true free p q x r = cc
-  put_for true true Fine false true p q x r = cc
-  put_for true true Fine false false p q x r = cc
-  put_for true true (Bad code place) own free p q x r = cc
+  put_for true true (Ok u) true free p q x r = cc
+  put_for true true (Ok u) false true p q x r = cc
+  put_for true true (Ok u) false false p q x r = cc
+  put_for true true (Err y) own free p q x r = cc
   put_for true false s own free p q x r = cc
   put_for false n s own free p q x r = cc
 

@@ -6,6 +6,7 @@ use lib.ListN.{replicate}
 use Rattle.text.specs.Equal.{same_bytes}
 use Rattle.text.specs.Names.{allowed, all_allowed}
 use Rattle.text.specs.Over.{over}
+use Rattle.text.specs.declared.Code.TheVariants.{BoardFull, NoRoom, NotAllowed, NothingWaits, WrongEnd}
 use Rattle.field.specs.Decimal.{all_digits, value_from}
 use Rattle.field.specs.Fields.{check_digits, check_delimiter}
 use Rattle.section.specs.Layout.{layout_of, table_of, check_items, items_size, items_most}
@@ -40,13 +41,13 @@ abbrev night : List Entry
 night =
     said (Add xy first) (Given first)
     ∷ said (Add xy second) (Given both)
-    ∷ said (Add zz first) (Refused 9 0)
-    ∷ said (Take xy 30) (Refused 2 0)
+    ∷ said (Add zz first) (Refused BoardFull 0)
+    ∷ said (Take xy 30) (Refused NoRoom 0)
     ∷ said (Take xy 31) (Given both)
-    ∷ said (Take xy 31) (Refused 11 0)
+    ∷ said (Take xy 31) (Refused NothingWaits 0)
     ∷ said (Add zz first) (Given first)
-    ∷ said (Add zz []) (Refused 8 0)
-    ∷ said (Add [] first) (Refused 4 0)
+    ∷ said (Add zz []) (Refused WrongEnd 0)
+    ∷ said (Add [] first) (Refused NotAllowed 0)
     ∷ []
 
 -- no board is named here

@@ -2,23 +2,26 @@
 use mathlib.Core.Path.{◌≡◌, refl}
 use mathlib.Core.Bool.{Bool, true, false, cond, ◌&&◌}
 use Prim.Native.Nat.{ℕ}
-use Rattle.text.specs.declared.Seen.{Seen}
-use Rattle.text.specs.declared.Seen.TheVariants.{Fine, Bad}
+use Rattle.std.specs.Prelude.{Result, Ok, Err}
+use Rattle.text.specs.Checks.{refuse as refusal}
+use Rattle.text.specs.declared.Refusal.{Refusal}
+use Rattle.text.specs.declared.Code.{Code}
+use Rattle.text.specs.declared.Code.TheVariants.{NoRoom, NotAllowed, BoardFull, BoardInvalid, NothingWaits}
 use Rattle.board.specs.Board.{past_refusals, placing, handing}
 
-module _ {A : Type 0} (P : A → Type 0) (refuse : ℕ → ℕ → A) where
+module _ {A : Type 0} (P : A → Type 0) (refuse : Code → ℕ → A) where
   -- what is so of each refusal that can come, and of what is done where none does, is so of a call
-  pub refusals-all : (v n : Bool) (s : Seen) (m : A) → P (refuse 10 0) → P (refuse 4 0)
-      → ((code place : ℕ) → s ≡ Bad code place → P (refuse code place))
-      → (v ≡ true → n ≡ true → s ≡ Fine → P m)
+  pub refusals-all : (v n : Bool) (s : Result (Unit {0}) Refusal) (m : A) → P (refuse BoardInvalid 0) → P (refuse NotAllowed 0)
+      → ((code : Code) (place : ℕ) → s ≡ refusal code place → P (refuse code place))
+      → (v ≡ true → n ≡ true → s ≡ Ok tt → P m)
       → P (past_refusals refuse v n s m)
-  refusals-all true true Fine m ten four own f = f refl refl refl
-  refusals-all true true (Bad code place) m ten four own f = own code place refl
+  refusals-all true true (Ok u) m ten four own f = f refl refl refl
+  refusals-all true true (Err r) m ten four own f = own r.code r.place refl
   refusals-all true false s m ten four own f = four
   refusals-all false n s m ten four own f = ten
 
   -- so of adding
-  pub placing-all : (waits free : Bool) (onto into : A) → P (refuse 9 0) → (waits ≡ true → P onto)
+  pub placing-all : (waits free : Bool) (onto into : A) → P (refuse BoardFull 0) → (waits ≡ true → P onto)
       → (waits ≡ false → free ≡ true → P into)
       → P (placing refuse waits free onto into)
   placing-all true free onto into nine f g = f refl
@@ -26,18 +29,18 @@ module _ {A : Type 0} (P : A → Type 0) (refuse : ℕ → ℕ → A) where
   placing-all false false onto into nine f g = nine
 
   -- and of taking
-  pub handing-all : (waits fits : Bool) (out : A) → P (refuse 11 0) → P (refuse 2 0) → (waits ≡ true → fits ≡ true → P out)
+  pub handing-all : (waits fits : Bool) (out : A) → P (refuse NothingWaits 0) → P (refuse NoRoom 0) → (waits ≡ true → fits ≡ true → P out)
       → P (handing refuse waits fits out)
   handing-all true true out eleven two f = f refl refl
   handing-all true false out eleven two f = two
   handing-all false fits out eleven two f = eleven
 
-module _ {A : Type 0} (refuse : ℕ → ℕ → A) where
+module _ {A : Type 0} (refuse : Code → ℕ → A) where
   -- two calls that find the same, and then do the same, are the same
-  pub refusals-same : (v u n k : Bool) (s : Seen) (m o : A) → v ≡ u → n ≡ k → (v ≡ true → n ≡ true → s ≡ Fine → m ≡ o)
+  pub refusals-same : (v u n k : Bool) (s : Result (Unit {0}) Refusal) (m o : A) → v ≡ u → n ≡ k → (v ≡ true → n ≡ true → s ≡ Ok tt → m ≡ o)
       → past_refusals refuse v n s m ≡ past_refusals refuse u k s o
-  refusals-same true u true k Fine m o e f g = rw (← e, ← f) (g refl refl refl)
-  refusals-same true u true k (Bad code place) m o e f g = rw (← e, ← f)
+  refusals-same true u true k (Ok y) m o e f g = rw (← e, ← f) (g refl refl refl)
+  refusals-same true u true k (Err r) m o e f g = rw (← e, ← f)
   refusals-same true u false k s m o e f g = rw (← e, ← f)
   refusals-same false u n k s m o e f g = rw (← e)
 
@@ -54,6 +57,6 @@ module _ {A : Type 0} (refuse : ℕ → ℕ → A) where
   handing-same false b c d m n e f g = rw (← e)
 
   -- a board that isn't shaped is refused as one that isn't valid is
-  pub refusals-shaped : (a v n : Bool) (s : Seen) (m : A) → cond a (past_refusals refuse v n s m) (refuse 10 0) ≡ past_refusals refuse (a && v) n s m
+  pub refusals-shaped : (a v n : Bool) (s : Result (Unit {0}) Refusal) (m : A) → cond a (past_refusals refuse v n s m) (refuse BoardInvalid 0) ≡ past_refusals refuse (a && v) n s m
   refusals-shaped true v n s m = refl
   refusals-shaped false v n s m = refl

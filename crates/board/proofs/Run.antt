@@ -4,12 +4,12 @@ use mathlib.Core.Bool.{Bool, true, false, not}
 use mathlib.Core.List.{List, [], ◌∷◌, ◌++◌, foldl-append, append_assoc, append-nil}
 use Prim.Native.Nat.{ℕ}
 use lib.ListN.{length, length-set}
+use Rattle.std.specs.Prelude.{Result, Ok, Err}
 use Rattle.text.specs.Names.{is_designator}
 use Rattle.text.specs.Checks.{is_fine}
 use Rattle.text.specs.Equal.{same_bytes}
-use Rattle.text.specs.declared.Seen.{Seen}
-use Rattle.text.specs.declared.Seen.TheVariants.{Fine, Bad}
 use Rattle.text.proofs.Cases.{by_test, both_left, both_right}
+use Rattle.text.specs.declared.Refusal.{Refusal}
 use Rattle.command.specs.Text.{check_command}
 use Rattle.board.specs.Board.{WaitingSlot, is_none, is_free, any, waiting, is_sound, is_valid, past_refusals, placing, Move, Stay, Put, Free, on_board, Reply, Given, Refused, reply_of}
 use Rattle.board.specs.History.{Event, Add, Take, Entry, aircraft, heard, since_from, since, onto, joined, move, after, logged, is_empty_board, due}
@@ -51,9 +51,9 @@ joined-heard d cs (Add e t) (Refused code place) = refl
 joined-heard d cs (Take e room) (Given w) = by_test (same_bytes d e) (λ y. rw y) (λ n. rw n)
 joined-heard d cs (Take e room) (Refused code place) = refl
 
-given-fine : (n : Bool) (s : Seen) (r : Reply) (w : List ℕ) → Given w ≡ past_refusals Refused true n s r → is_fine s ≡ true
-given-fine true Fine r w e = refl
-given-fine true (Bad code place) r w e = cc
+given-fine : (n : Bool) (s : Result (Unit {0}) Refusal) (r : Reply) (w : List ℕ) → Given w ≡ past_refusals Refused true n s r → is_fine s ≡ true
+given-fine true (Ok u) r w e = refl
+given-fine true (Err d) r w e = cc
 given-fine false s r w e = cc
 
 -- all that is heard is accepted

@@ -7,7 +7,8 @@ use native.Mathlib.Omega.{arith}
 use lib.Dec.{leb, ltb, eqb}
 use lib.ListN.{length, get_or, take, drop, length-drop, drop_of_length-le}
 use lib.Seq.{take-take, take-suc, drop-cons, drop-drop, length-take-le}
-use borrow.Author.Tests.{ne_eqb, le-leb, lt-leb, lt-ltb, le-ltb, eqb-true, not-true, not-false}
+use borrow.Author.Tests.{ne_eqb, le-leb, lt-leb, lt-ltb, eqb-true, not-true, not-false}
+use Rattle.std.specs.Prelude.{Option, Some, None, is_some}
 use Rattle.text.specs.Names.{is_designator}
 use Rattle.text.specs.Checks.{is_fine}
 use Rattle.text.specs.Parts.{part}
@@ -17,10 +18,9 @@ use Rattle.text.proofs.Cases.{by_test, by_lt, by_le}
 use Rattle.command.specs.Text.{longest, check_command}
 use Rattle.board.specs.Board.{WaitingSlot, is_none, is_free, is_for, any, lowest, is_sound, is_valid}
 use Rattle.board.specs.Lent.{board_of, lengths_fit, no_slot}
-use Rattle.board.specs.Inner.{is_used, used_for, none_for, alone_in, sound_at, first_of, with_free, with_used, step_of, scan_from}
+use Rattle.board.specs.Inner.{Wanted, names, is_used, used_for, none_for, alone_in, sound_at, first_of, with_free, with_used, step_of, scan_from}
 use Rattle.board.specs.declared.Slot.{Slot}
 use Rattle.board.specs.declared.Findings.{Findings}
-use Rattle.board.specs.declared.Wanted.{Wanted}
 use Rattle.board.proofs.WaitingSlots.{never, waiting-any}
 
 -- ---- A slot and its place
@@ -85,14 +85,11 @@ none_any d area i (x ∷ xs) e =
 
 -- ---- Valid
 
-with_valid : (a : Findings) (x : Slot) (fine : Bool) (i : ℕ) (d : List ℕ) → (with_used a x fine i d).valid ≡ fine
-with_valid a x fine i d =
-    by_test (ltb a.own i)
-    (λ (t : ltb a.own i ≡ true). rw t)
-    (λ (t : ltb a.own i ≡ false). rw t
-    (by_test (same_bytes d x.designator)
-    (λ (u : same_bytes d x.designator ≡ true). rw u)
-    (λ (u : same_bytes d x.designator ≡ false). rw u)))
+with_valid : (a : Findings) (x : Slot) (fine : Bool) (i : ℕ) (w : Wanted) → (with_used a x fine i w).valid ≡ fine
+with_valid a x fine i w =
+    by_test (not (is_some a.own) && names w x.designator)
+    (λ (t : (not (is_some a.own) && names w x.designator) ≡ true). rw t)
+    (λ (t : (not (is_some a.own) && names w x.designator) ≡ false). rw t)
 
 and-false : (t : Bool) → (t && false) ≡ false
 and-false true = refl
@@ -125,7 +122,7 @@ cond-false t p q e = rw e
 
 module _ (area : List ℕ) (w : Wanted) (a : Findings) (x : Slot) (c : Bool) (i : ℕ) where
   abbrev used : Findings
-  used = with_used a x (c && sound_at x area i) i w.designator
+  used = with_used a x (c && sound_at x area i) i w
 
   pub step_bad : a.valid ≡ false → step_of area w a x c i ≡ a
   unfolding step_of
@@ -301,11 +298,11 @@ module _ (area : List ℕ) (w : Wanted) (ys : List Slot) where
       (λ (t : a.valid ≡ true).
       by_test (is_used x)
       (λ (u : is_used x ≡ true).
-      let z : Findings = with_used a x (c && sound_at x area i) i w.designator in
+      let z : Findings = with_used a x (c && sound_at x area i) i w in
       ap (λ (y : Findings). (scan_from area w ys y (suc i) xs).valid) (step-used area w a x c i t u)
       ∙ scan_valid z (suc i) xs later few' e'
       ∙ rw (
-        with_valid a x (c && sound_at x area i) i w.designator,
+        with_valid a x (c && sound_at x area i) i w,
         alone-is a x (take i ys) t u,
         more,
         clear_used x xs u,
@@ -329,45 +326,46 @@ pub valid-all : (area : List ℕ) (w : Wanted) (xs : List Slot) (a : Findings) �
     → (scan_from area w xs a 0 xs).valid ≡ (a.valid && (lengths_fit xs && is_valid (board_from area 0 xs)))
 valid-all area w xs a few e = scan_valid area w xs a 0 xs refl few e ∙ rw (clear_none xs)
 
--- ---- The number of slots, the aircraft's own slot, the lowest free one
+-- ---- The aircraft's own slot, the lowest free one
 
 -- what a used slot leaves where it is the aircraft's own, and where it is not
 abbrev as_mine : Findings → Slot → Bool → ℕ → Findings
-as_mine a x fine i = record { valid = fine; length = x.length; own = i; free = a.free; count = a.count }
+as_mine a x fine i = record { valid = fine; length = x.length; own = Some i; free = a.free }
 
 abbrev as_other : Findings → Bool → Findings
-as_other a fine = record { valid = fine; length = a.length; own = a.own; free = a.free; count = a.count }
+as_other a fine = record { valid = fine; length = a.length; own = a.own; free = a.free }
 
-module _ (a : Findings) (x : Slot) (fine : Bool) (i : ℕ) (d : List ℕ) where
-  used-found : ltb a.own i ≡ true → with_used a x fine i d ≡ as_other a fine
-  used-found t = cond-true (ltb a.own i) (as_other a fine) (cond (same_bytes d x.designator) (as_mine a x fine i) (as_other a fine)) t
+module _ (a : Findings) (x : Slot) (fine : Bool) (i : ℕ) (w : Wanted) where
+  abbrev mine : Bool
+  mine = not (is_some a.own) && names w x.designator
 
-  used-other : same_bytes d x.designator ≡ false → with_used a x fine i d ≡ as_other a fine
-  used-other s =
-      by_test (ltb a.own i) used-found
-      (λ (t : ltb a.own i ≡ false).
-      cond-false (ltb a.own i) (as_other a fine) (cond (same_bytes d x.designator) (as_mine a x fine i) (as_other a fine)) t
-      ∙ cond-false (same_bytes d x.designator) (as_mine a x fine i) (as_other a fine) s)
+  used-found : is_some a.own ≡ true → with_used a x fine i w ≡ as_other a fine
+  used-found t = cond-false mine (as_mine a x fine i) (as_other a fine) (rw t)
 
-  used-mine : ltb a.own i ≡ false → same_bytes d x.designator ≡ true → with_used a x fine i d ≡ as_mine a x fine i
-  used-mine t s =
-      cond-false (ltb a.own i) (as_other a fine) (cond (same_bytes d x.designator) (as_mine a x fine i) (as_other a fine)) t
-      ∙ cond-true (same_bytes d x.designator) (as_mine a x fine i) (as_other a fine) s
+  used-other : names w x.designator ≡ false → with_used a x fine i w ≡ as_other a fine
+  used-other s = cond-false mine (as_mine a x fine i) (as_other a fine) (rw s (and-false (not (is_some a.own))))
+
+  used-mine : is_some a.own ≡ false → names w x.designator ≡ true → with_used a x fine i w ≡ as_mine a x fine i
+  used-mine t s = cond-true mine (as_mine a x fine i) (as_other a fine) (rw (t, s))
 
   -- whatever it leaves alike
-  used_keeps {ℓ} : {A : Type ℓ} (f : Findings → A) → f (as_mine a x fine i) ≡ f (as_other a fine) → f (with_used a x fine i d) ≡ f (as_other a fine)
+  used_keeps {ℓ} : {A : Type ℓ} (f : Findings → A) → f (as_mine a x fine i) ≡ f (as_other a fine) → f (with_used a x fine i w) ≡ f (as_other a fine)
   used_keeps f e =
-      by_test (ltb a.own i)
-      (λ (t : ltb a.own i ≡ true). ap f (used-found t))
-      (λ (t : ltb a.own i ≡ false).
-      by_test (same_bytes d x.designator)
-      (λ (s : same_bytes d x.designator ≡ true). ap f (used-mine t s) ∙ e)
-      (λ (s : same_bytes d x.designator ≡ false). ap f (used-other s)))
+      by_test mine
+      (λ (t : mine ≡ true). ap f (cond-true mine (as_mine a x fine i) (as_other a fine) t) ∙ e)
+      (λ (t : mine ≡ false). ap f (cond-false mine (as_mine a x fine i) (as_other a fine) t))
 
-module _ (area : List ℕ) (w : Wanted) (ys : List Slot) where
+-- from place i on, the first that passes a test, if one does
+abbrev pub first_from : ℕ → (WaitingSlot → Bool) → List WaitingSlot → Option ℕ
+first_from i test b = cond (any test b) (Some (i + lowest test b)) None
+
+module _ (area d : List ℕ) (ys : List Slot) where
+  abbrev w : Wanted
+  w = Some d
+
   -- one slot, in its three ways
   by_step {ℓ} : (a : Findings) (x : Slot) (c : Bool) (i : ℕ) (P : Findings → Type ℓ)
-      → P a → P (with_free a i) → P (with_used a x (c && sound_at x area i) i w.designator) → P (step_of area w a x c i)
+      → P a → P (with_free a i) → P (with_used a x (c && sound_at x area i) i w) → P (step_of area w a x c i)
   by_step a x c i P bad free used =
       by_test a.valid
       (λ (t : a.valid ≡ true).
@@ -376,18 +374,8 @@ module _ (area : List ℕ) (w : Wanted) (ys : List Slot) where
       (λ (u : is_used x ≡ false). subst P (sym (step-free area w a x c i t u)) free))
       (λ (t : a.valid ≡ false). subst P (sym (step_bad area w a x c i t)) bad)
 
-  -- the number of slots is kept
-  pub scan_count : (a : Findings) (i : ℕ) (xs : List Slot) → (scan_from area w ys a i xs).count ≡ a.count
-  unfolding scan_from
-  scan_count a i [] = refl
-  scan_count a i (x ∷ xs) =
-      let c = alone_in a x (take i ys) in
-      scan_count (step_of area w a x c i) (suc i) xs
-      ∙ by_step a x c i (λ z. z.count ≡ a.count) refl refl
-      (used_keeps a x (c && sound_at x area i) i w.designator (λ z. z.count) refl)
-
   -- a slot found stays the one
-  own-found : (a : Findings) (i : ℕ) (xs : List Slot) → a.own < i
+  own-found : (a : Findings) (i : ℕ) (xs : List Slot) → is_some a.own ≡ true
       → ((scan_from area w ys a i xs).own ≡ a.own) × ((scan_from area w ys a i xs).length ≡ a.length)
   unfolding scan_from
   own-found a i [] l = (refl, refl)
@@ -395,23 +383,23 @@ module _ (area : List ℕ) (w : Wanted) (ys : List Slot) where
       let c = alone_in a x (take i ys) in
       let f = c && sound_at x area i in
       by_step a x c i (λ z. ((scan_from area w ys z (suc i) xs).own ≡ a.own) × ((scan_from area w ys z (suc i) xs).length ≡ a.length))
-      (own-found a (suc i) xs (omega arith))
-      (own-found (with_free a i) (suc i) xs (omega arith))
+      (own-found a (suc i) xs l)
+      (own-found (with_free a i) (suc i) xs l)
       (subst (λ z. ((scan_from area w ys z (suc i) xs).own ≡ a.own) × ((scan_from area w ys z (suc i) xs).length ≡ a.length))
-      (sym (used-found a x f i w.designator (lt-ltb a.own i l))) (own-found (as_other a f) (suc i) xs (omega arith)))
+      (sym (used-found a x f i w l)) (own-found (as_other a f) (suc i) xs l))
 
-  free-found : (a : Findings) (i : ℕ) (xs : List Slot) → a.free < i → (scan_from area w ys a i xs).free ≡ a.free
+  free-found : (a : Findings) (i : ℕ) (xs : List Slot) → is_some a.free ≡ true → (scan_from area w ys a i xs).free ≡ a.free
   unfolding scan_from
   free-found a i [] l = refl
   free-found a i (x ∷ xs) l =
       let c = alone_in a x (take i ys) in
       let f = c && sound_at x area i in
-      let z : first_of a.free i ≡ a.free = cond-true (ltb a.free i) a.free i (lt-ltb a.free i l) in
+      let z : first_of a.free i ≡ a.free = cond-true (is_some a.free) a.free (Some i) l in
       by_step a x c i (λ y. (scan_from area w ys y (suc i) xs).free ≡ a.free)
-      (free-found a (suc i) xs (omega arith))
-      (free-found (with_free a i) (suc i) xs (rw z (omega arith)) ∙ z)
-      (free-found (with_used a x f i w.designator) (suc i) xs (rw (used_keeps a x f i w.designator (λ y. y.free) refl) (omega arith))
-      ∙ used_keeps a x f i w.designator (λ y. y.free) refl)
+      (free-found a (suc i) xs l)
+      (free-found (with_free a i) (suc i) xs (rw z l) ∙ z)
+      (free-found (with_used a x f i w) (suc i) xs (ap is_some (used_keeps a x f i w (λ y. y.free) refl) ∙ l)
+      ∙ used_keeps a x f i w (λ y. y.free) refl)
 
   -- what ends valid was so
   valid-back : (a : Findings) (i : ℕ) (xs : List Slot) → (scan_from area w ys a i xs).valid ≡ true → a.valid ≡ true
@@ -424,17 +412,17 @@ module _ (area : List ℕ) (w : Wanted) (ys : List Slot) where
     abbrev place : WaitingSlot
     place = place_of x (drop (longest * i) area)
 
-    mine_for : is_used x ≡ true → same_bytes w.designator x.designator ≡ true → is_for w.designator place ≡ true
+    mine_for : is_used x ≡ true → same_bytes d x.designator ≡ true → is_for d place ≡ true
     unfolding used_for
-    mine_for u s = place_for x (drop (longest * i) area) (here-long area i (length xs) e) w.designator ∙ rw (u, s)
+    mine_for u s = place_for x (drop (longest * i) area) (here-long area i (length xs) e) d ∙ rw (u, s)
 
-    other_for : same_bytes w.designator x.designator ≡ false → is_for w.designator place ≡ false
+    other_for : same_bytes d x.designator ≡ false → is_for d place ≡ false
     unfolding used_for
-    other_for s = place_for x (drop (longest * i) area) (here-long area i (length xs) e) w.designator ∙ rw s (and-false (is_used x))
+    other_for s = place_for x (drop (longest * i) area) (here-long area i (length xs) e) d ∙ rw s (and-false (is_used x))
 
-    free_for_none : is_used x ≡ false → is_for w.designator place ≡ false
+    free_for_none : is_used x ≡ false → is_for d place ≡ false
     unfolding used_for
-    free_for_none u = place_for x (drop (longest * i) area) (here-long area i (length xs) e) w.designator ∙ rw u
+    free_for_none u = place_for x (drop (longest * i) area) (here-long area i (length xs) e) d ∙ rw u
 
     free-place : is_used x ≡ false → is_free place ≡ true
     free-place u = place-free x (drop (longest * i) area) (here-long area i (length xs) e) ∙ not-false (eqb x.length 0) u
@@ -444,15 +432,15 @@ module _ (area : List ℕ) (w : Wanted) (ys : List Slot) where
 
   -- the aircraft's own slot, and how long its text is
   pub record Owns (v : Findings) (i : ℕ) (xs : List Slot) : Type 0 where
-    pub own : v.own ≡ i + lowest (is_for w.designator) (board_from area i xs)
-    pub length : any (is_for w.designator) (board_from area i xs) ≡ true → v.length ≡ (get_or xs (lowest (is_for w.designator) (board_from area i xs)) no_slot).length
+    pub own : v.own ≡ first_from i (is_for d) (board_from area i xs)
+    pub length : any (is_for d) (board_from area i xs) ≡ true → v.length ≡ (get_or xs (lowest (is_for d) (board_from area i xs)) no_slot).length
 
-  own-none : (a : Findings) (i : ℕ) → a.valid ≡ true → a.own ≡ i + 0 → Owns a i []
-  unfolding board_of lowest any
-  own-none a i v o = record { own = o; length = λ z. never z refl }
+  own-none : (a : Findings) (i : ℕ) → a.own ≡ None → Owns a i []
+  unfolding board_of any
+  own-none a i o = record { own = o; length = λ z. never z refl }
 
-  free-none : (a : Findings) (i : ℕ) → a.free ≡ i + 0 → a.free ≡ i + lowest is_free (board_from area i [])
-  unfolding board_of lowest
+  free-none : (a : Findings) (i : ℕ) → a.free ≡ None → a.free ≡ first_from i is_free (board_from area i [])
+  unfolding board_of any
   free-none a i o = o
 
   module _ (i : ℕ) (x : Slot) (xs : List Slot) (e : length area ≡ longest * (i + suc (length xs))) (test : WaitingSlot → Bool) where
@@ -474,77 +462,89 @@ module _ (area : List ℕ) (w : Wanted) (ys : List Slot) where
     unfolding lowest
     lowest-later h = ap (lowest test) board-cons ∙ rw h
 
+    any-here : test (place i x xs e) ≡ true → any test all ≡ true
+    unfolding any
+    any-here h = ap (any test) board-cons ∙ rw h
+
     any-later : test (place i x xs e) ≡ false → any test all ≡ any test behind
     unfolding any
     any-later h = ap (any test) board-cons ∙ rw h
 
+    first-here : test (place i x xs e) ≡ true → first_from i test all ≡ Some i
+    first-here h =
+        let z : i + lowest test all ≡ i = omega (arith, lowest-here h) in
+        cond-true (any test all) (Some (i + lowest test all)) None (any-here h) ∙ ap Some z
+
+    first-later : test (place i x xs e) ≡ false → first_from i test all ≡ first_from (suc i) test behind
+    first-later h =
+        let z : i + lowest test all ≡ suc i + lowest test behind = omega (arith, lowest-later h) in
+        ap (λ (k : ℕ). cond (any test all) (Some k) None) z ∙ ap (λ (t : Bool). cond t (Some (suc i + lowest test behind)) None) (any-later h)
+
   own-here : (v : Findings) (i : ℕ) (x : Slot) (xs : List Slot) (e : length area ≡ longest * (i + suc (length xs)))
-      → is_for w.designator (place i x xs e) ≡ true → v.own ≡ i → v.length ≡ x.length → Owns v i (x ∷ xs)
+      → is_for d (place i x xs e) ≡ true → v.own ≡ Some i → v.length ≡ x.length → Owns v i (x ∷ xs)
   own-here v i x xs e h o n =
-      let l = lowest-here i x xs e (is_for w.designator) h in
-      record { own = omega (arith, o, l); length = λ z. n ∙ sym (ap (λ (k : ℕ). (get_or (x ∷ xs) k no_slot).length) l) }
+      let l = lowest-here i x xs e (is_for d) h in
+      record { own = o ∙ sym (first-here i x xs e (is_for d) h); length = λ z. n ∙ sym (ap (λ (k : ℕ). (get_or (x ∷ xs) k no_slot).length) l) }
 
   own-later : (v : Findings) (i : ℕ) (x : Slot) (xs : List Slot) (e : length area ≡ longest * (i + suc (length xs)))
-      → is_for w.designator (place i x xs e) ≡ false → Owns v (suc i) xs → Owns v i (x ∷ xs)
+      → is_for d (place i x xs e) ≡ false → Owns v (suc i) xs → Owns v i (x ∷ xs)
   own-later v i x xs e h o =
-      let l = lowest-later i x xs e (is_for w.designator) h in
+      let l = lowest-later i x xs e (is_for d) h in
       record {
-        own = omega (arith, o.own, l);
-        length = λ z. o.length (sym (any-later i x xs e (is_for w.designator) h) ∙ z) ∙ sym (ap (λ (k : ℕ). (get_or (x ∷ xs) k no_slot).length) l);
+        own = o.own ∙ sym (first-later i x xs e (is_for d) h);
+        length = λ z. o.length (sym (any-later i x xs e (is_for d) h) ∙ z) ∙ sym (ap (λ (k : ℕ). (get_or (x ∷ xs) k no_slot).length) l);
       }
 
   pub scan_own : (a : Findings) (i : ℕ) (xs : List Slot) → length area ≡ longest * (i + length xs) → (scan_from area w ys a i xs).valid ≡ true
-      → a.own ≡ i + length xs → Owns (scan_from area w ys a i xs) i xs
+      → a.own ≡ None → Owns (scan_from area w ys a i xs) i xs
   unfolding scan_from
-  scan_own a i [] e v o = own-none a i v o
+  scan_own a i [] e v o = own-none a i o
   scan_own a i (x ∷ xs) e v o =
       let c = alone_in a x (take i ys) in
       let f = c && sound_at x area i in
-      let d = w.designator in
       let t = valid-back a i (x ∷ xs) v in
       let e' = next-bytes area i (length xs) e in
-      let past : ltb a.own i ≡ false = le-ltb a.own i (omega arith) in
+      let past : is_some a.own ≡ false = ap is_some o in
       by_test (is_used x)
       (λ (u : is_used x ≡ true).
       let s₀ = step-used area w a x c i t u in
       by_test (same_bytes d x.designator)
       (λ (s : same_bytes d x.designator ≡ true).
-      let z : step_of area w a x c i ≡ as_mine a x f i = s₀ ∙ used-mine a x f i d past s in
-      let k = own-found (as_mine a x f i) (suc i) xs (omega arith) in
+      let z : step_of area w a x c i ≡ as_mine a x f i = s₀ ∙ used-mine a x f i w past s in
+      let k = own-found (as_mine a x f i) (suc i) xs refl in
       subst (λ (y : Findings). Owns (scan_from area w ys y (suc i) xs) i (x ∷ xs)) (sym z)
       (own-here (scan_from area w ys (as_mine a x f i) (suc i) xs) i x xs e (mine_for i x xs e u s) k.0 k.1))
       (λ (s : same_bytes d x.designator ≡ false).
-      let z : step_of area w a x c i ≡ as_other a f = s₀ ∙ used-other a x f i d s in
+      let z : step_of area w a x c i ≡ as_other a f = s₀ ∙ used-other a x f i w s in
       let n : (scan_from area w ys (as_other a f) (suc i) xs).valid ≡ true = subst (λ (y : Findings). (scan_from area w ys y (suc i) xs).valid ≡ true) z v in
       subst (λ (y : Findings). Owns (scan_from area w ys y (suc i) xs) i (x ∷ xs)) (sym z)
-      (own-later (scan_from area w ys (as_other a f) (suc i) xs) i x xs e (other_for i x xs e s) (scan_own (as_other a f) (suc i) xs e' n (omega arith)))))
+      (own-later (scan_from area w ys (as_other a f) (suc i) xs) i x xs e (other_for i x xs e s) (scan_own (as_other a f) (suc i) xs e' n o))))
       (λ (u : is_used x ≡ false).
       let z : step_of area w a x c i ≡ with_free a i = step-free area w a x c i t u in
       let n : (scan_from area w ys (with_free a i) (suc i) xs).valid ≡ true = subst (λ (y : Findings). (scan_from area w ys y (suc i) xs).valid ≡ true) z v in
       subst (λ (y : Findings). Owns (scan_from area w ys y (suc i) xs) i (x ∷ xs)) (sym z)
-      (own-later (scan_from area w ys (with_free a i) (suc i) xs) i x xs e (free_for_none i x xs e u) (scan_own (with_free a i) (suc i) xs e' n (omega arith))))
+      (own-later (scan_from area w ys (with_free a i) (suc i) xs) i x xs e (free_for_none i x xs e u) (scan_own (with_free a i) (suc i) xs e' n o)))
 
   -- and the lowest free one
   pub scan_free : (a : Findings) (i : ℕ) (xs : List Slot) → length area ≡ longest * (i + length xs) → (scan_from area w ys a i xs).valid ≡ true
-      → a.free ≡ i + length xs → (scan_from area w ys a i xs).free ≡ i + lowest is_free (board_from area i xs)
+      → a.free ≡ None → (scan_from area w ys a i xs).free ≡ first_from i is_free (board_from area i xs)
   unfolding scan_from
   scan_free a i [] e v o = free-none a i o
   scan_free a i (x ∷ xs) e v o =
       let c = alone_in a x (take i ys) in
       let f = c && sound_at x area i in
-      let d = w.designator in
       let t = valid-back a i (x ∷ xs) v in
       let e' = next-bytes area i (length xs) e in
       by_test (is_used x)
       (λ (u : is_used x ≡ true).
-      let y : Findings = with_used a x f i d in
+      let y : Findings = with_used a x f i w in
       let z : step_of area w a x c i ≡ y = step-used area w a x c i t u in
       let n : (scan_from area w ys y (suc i) xs).valid ≡ true = subst (λ (q : Findings). (scan_from area w ys q (suc i) xs).valid ≡ true) z v in
-      let k : y.free ≡ a.free = used_keeps a x f i d (λ (q : Findings). q.free) refl in
-      let r = scan_free y (suc i) xs e' n (omega arith) in
-      ap (λ (q : Findings). (scan_from area w ys q (suc i) xs).free) z ∙ r ∙ omega (arith, lowest-later i x xs e is_free (used-place i x xs e u)))
+      let k : y.free ≡ a.free = used_keeps a x f i w (λ (q : Findings). q.free) refl in
+      let r = scan_free y (suc i) xs e' n (k ∙ o) in
+      ap (λ (q : Findings). (scan_from area w ys q (suc i) xs).free) z ∙ r ∙ sym (first-later i x xs e is_free (used-place i x xs e u)))
       (λ (u : is_used x ≡ false).
       let z : step_of area w a x c i ≡ with_free a i = step-free area w a x c i t u in
-      let k : first_of a.free i ≡ i = cond-false (ltb a.free i) a.free i (le-ltb a.free i (omega arith)) in
-      let r = free-found (with_free a i) (suc i) xs (omega arith) in
-      ap (λ (q : Findings). (scan_from area w ys q (suc i) xs).free) z ∙ r ∙ k ∙ omega (arith, lowest-here i x xs e is_free (free-place i x xs e u)))
+      let k : first_of a.free i ≡ Some i = cond-false (is_some a.free) a.free (Some i) (ap is_some o) in
+      let r = free-found (with_free a i) (suc i) xs (ap is_some k) in
+      ap (λ (q : Findings). (scan_from area w ys q (suc i) xs).free) z ∙ r ∙ k ∙ sym (first-here i x xs e is_free (free-place i x xs e u)))

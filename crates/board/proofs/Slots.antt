@@ -6,10 +6,11 @@ use Prim.Native.Nat.{ℕ, ◌≤◌, ◌<◌}
 use lib.Dec.{leb}
 use lib.ListN.{length, get_or}
 use borrow.Author.Tests.{leb-true}
+use Rattle.std.specs.Prelude.{Result, Ok, Err}
 use Rattle.text.specs.Names.{is_designator}
-use Rattle.text.specs.declared.Seen.{Seen}
-use Rattle.text.specs.declared.Seen.TheVariants.{Fine, Bad}
 use Rattle.text.proofs.Cases.{by_test}
+use Rattle.text.specs.declared.Refusal.{Refusal}
+use Rattle.text.specs.declared.Code.TheVariants.{BoardInvalid, NoRoom, NotAllowed, NothingWaits}
 use Rattle.command.specs.Text.{check_command}
 use Rattle.join.specs.Join.{join_text}
 use Rattle.board.specs.Board.{WaitingSlot, empty_slot, is_none, is_free, is_for, any, lowest, waiting, is_valid, Stay, Put, Free, past_refusals, placing, add, take_out}
@@ -18,20 +19,20 @@ use Rattle.board.proofs.WaitingSlots.{never, lowest-passes, lowest-first, waitin
 -- ---- Adding
 
 module _ (p q : ℕ) (d x t : List ℕ) (i : ℕ) (e w : List ℕ) where
-  held : (v n : Bool) (s : Seen) (f : Bool)
+  held : (v n : Bool) (s : Result (Unit {0}) Refusal) (f : Bool)
       → past_refusals Stay v n s (placing Stay true f (Put p d x) (Put q d t)) ≡ Put i e w
       → (i ≡ p) × (w ≡ x)
-  held true true Fine f k = (cc, cc)
-  held true true (Bad code place) f k = (cc, cc)
+  held true true (Ok u) f k = (cc, cc)
+  held true true (Err r) f k = (cc, cc)
   held true false s f k = (cc, cc)
   held false n s f k = (cc, cc)
 
-  fresh : (v n : Bool) (s : Seen) (f : Bool)
+  fresh : (v n : Bool) (s : Result (Unit {0}) Refusal) (f : Bool)
       → past_refusals Stay v n s (placing Stay false f (Put p d x) (Put q d t)) ≡ Put i e w
       → (f ≡ true) × ((i ≡ q) × (w ≡ t))
-  fresh true true Fine true k = (refl, (cc, cc))
-  fresh true true Fine false k = (cc, (cc, cc))
-  fresh true true (Bad code place) f k = (cc, (cc, cc))
+  fresh true true (Ok u) true k = (refl, (cc, cc))
+  fresh true true (Ok u) false k = (cc, (cc, cc))
+  fresh true true (Err r) f k = (cc, (cc, cc))
   fresh true false s f k = (cc, (cc, cc))
   fresh false n s f k = (cc, (cc, cc))
 
@@ -69,7 +70,7 @@ module _ (b : List WaitingSlot) (d t : List ℕ) (i : ℕ) (e w : List ℕ) (k :
 -- ---- Taking
 
 freed : (p : ℕ) (x : List ℕ) (i : ℕ) (w : List ℕ) (v n h l : Bool)
-    → cond v (cond n (cond h (cond l (Free p x) (Stay 2 0)) (Stay 11 0)) (Stay 4 0)) (Stay 10 0) ≡ Free i w
+    → cond v (cond n (cond h (cond l (Free p x) (Stay NoRoom 0)) (Stay NothingWaits 0)) (Stay NotAllowed 0)) (Stay BoardInvalid 0) ≡ Free i w
     → (h ≡ true) × ((l ≡ true) × ((i ≡ p) × (w ≡ x)))
 freed p x i w true true true true k = (refl, (refl, (cc, cc)))
 freed p x i w true true true false k = (cc, (cc, (cc, cc)))

@@ -6,13 +6,15 @@ use Prim.Native.Nat.{ℕ}
 use native.Mathlib.Omega.{arith}
 use lib.Dec.{leb}
 use lib.ListN.{length, get_or}
+use Rattle.std.specs.Prelude.{Result, Ok, Err}
 use Rattle.text.specs.Names.{is_designator}
 use Rattle.text.specs.Checks.{is_fine}
 use Rattle.text.specs.Equal.{same_bytes}
-use Rattle.text.specs.declared.Seen.{Seen}
-use Rattle.text.specs.declared.Seen.TheVariants.{Fine, Bad}
 use Rattle.text.proofs.Cases.{by_test}
 use Rattle.text.proofs.Equal.{same-equal}
+use Rattle.text.specs.declared.Refusal.{Refusal}
+use Rattle.text.specs.declared.Code.{Code}
+use Rattle.text.specs.declared.Code.TheVariants.{BoardFull, NoRoom, NotAllowed, NothingWaits}
 use Rattle.command.specs.Text.{check_command}
 use Rattle.command.proofs.Accepted.{accepted}
 use Rattle.join.specs.Join.{join_text}
@@ -25,9 +27,9 @@ use Rattle.board.proofs.Valid.{waiting-fine, only, valid-set, freed-none}
 -- ---- Accepted texts
 
 -- the test is the check's answer
-pub is-fine : (s : Seen) → is_fine s ≡ true → s ≡ Fine
-is-fine Fine e = refl
-is-fine (Bad code place) e = never e refl
+pub is-fine : (s : Result (Unit {0}) Refusal) → is_fine s ≡ true → s ≡ Ok tt
+is-fine (Ok u) e = refl
+is-fine (Err r) e = never e refl
 
 -- no accepted text is empty
 pub accepted-some : (t : List ℕ) → is_fine (check_command t) ≡ true → is_none t ≡ false
@@ -66,7 +68,7 @@ pub record Right (b : List WaitingSlot) (e : Event) (m : Move) : Type 0 where
   pub waits : (d : List ℕ) → waiting d (on_board m b) ≡ next d (waiting d b) e (reply_of m)
 
 -- a refusal leaves everything
-stays : (b : List WaitingSlot) (e : Event) (code place : ℕ) → is_valid b ≡ true
+stays : (b : List WaitingSlot) (e : Event) (code : Code) (place : ℕ) → is_valid b ≡ true
     → due (any is_free b) (waiting (aircraft e) b) e ≡ Refused code place → Right b e (Stay code place)
 stays b (Add d t) code place v h = record { reply = sym h; valid = v; waits = λ x. refl }
 stays b (Take d room) code place v h = record { reply = sym h; valid = v; waits = λ x. refl }
@@ -74,7 +76,7 @@ stays b (Take d room) code place v h = record { reply = sym h; valid = v; waits 
 module _ (b : List WaitingSlot) (v : is_valid b ≡ true) where
   -- ---- Adding
 
-  module _ (d t : List ℕ) (n : is_designator d ≡ true) (k : check_command t ≡ Fine) where
+  module _ (d t : List ℕ) (n : is_designator d ≡ true) (k : check_command t ≡ Ok tt) where
     -- joined onto what waits
     onto-held : any (is_for d) b ≡ true → Right b (Add d t) (Put (lowest (is_for d) b) d (join_text (waiting d b) t))
     onto-held h =
@@ -117,17 +119,17 @@ module _ (b : List WaitingSlot) (v : is_valid b ≡ true) where
   unfolding add
   right_add d t =
       rw v
-      (by_test (is_designator d) (λ n. rw n (go n (check_command t) refl)) (λ n. rw n (stays b (Add d t) 4 0 v (rw n))))
+      (by_test (is_designator d) (λ n. rw n (go n (check_command t) refl)) (λ n. rw n (stays b (Add d t) NotAllowed 0 v (rw n))))
     where
-      go : is_designator d ≡ true → (s : Seen) → check_command t ≡ s → Right b (Add d t) (unless_refused Stay s (placed b d t))
-      go n (Bad code place) k = stays b (Add d t) code place v (rw (n, k))
-      go n Fine k =
+      go : is_designator d ≡ true → (s : Result (Unit {0}) Refusal) → check_command t ≡ s → Right b (Add d t) (unless_refused Stay s (placed b d t))
+      go n (Err r) k = stays b (Add d t) r.code r.place v (rw (n, k))
+      go n (Ok u) k =
           by_test (any (is_for d) b)
           (λ h. rw h (onto-held d t n k h))
           (λ h. rw h
           (by_test (any is_free b)
           (λ f. rw f (into_free d t n k h f))
-          (λ f. rw f (stays b (Add d t) 9 0 v (rw (n, k, waiting-any d b, h, f))))))
+          (λ f. rw f (stays b (Add d t) BoardFull 0 v (rw (n, k, waiting-any d b, h, f))))))
 
   -- ---- Taking
 
@@ -158,9 +160,9 @@ module _ (b : List WaitingSlot) (v : is_valid b ≡ true) where
       (λ h. rw h
       (by_test (leb (length (waiting d b)) room)
       (λ l. rw l (handed d room n h l))
-      (λ l. rw l (stays b (Take d room) 2 0 v (rw (n, waiting-any d b, h, l))))))
-      (λ h. rw h (stays b (Take d room) 11 0 v (rw (n, waiting-any d b, h))))))
-      (λ n. rw n (stays b (Take d room) 4 0 v (rw n))))
+      (λ l. rw l (stays b (Take d room) NoRoom 0 v (rw (n, waiting-any d b, h, l))))))
+      (λ h. rw h (stays b (Take d room) NothingWaits 0 v (rw (n, waiting-any d b, h))))))
+      (λ n. rw n (stays b (Take d room) NotAllowed 0 v (rw n))))
 
   -- every move of a valid board is right
   pub right : (e : Event) → Right b e (move b e)

@@ -7,11 +7,14 @@ use native.Mathlib.Omega.{arith}
 use lib.Dec.{leb}
 use lib.ListN.{length}
 use borrow.Author.Tests.{le-leb}
+use Rattle.std.specs.Prelude.{Result, Ok, Err}
 use Rattle.text.specs.Names.{is_designator}
 use Rattle.text.specs.Checks.{is_fine}
-use Rattle.text.specs.declared.Seen.{Seen}
-use Rattle.text.specs.declared.Seen.TheVariants.{Fine, Bad}
+use Rattle.text.specs.Codes.{number_of}
 use Rattle.text.proofs.Equal.{same_self}
+use Rattle.text.specs.declared.Refusal.{Refusal}
+use Rattle.text.specs.declared.Code.{Code}
+use Rattle.text.specs.declared.Code.TheVariants.{BoardFull, BoardInvalid}
 use Rattle.settings.specs.declared.Settings.{Settings}
 use Rattle.command.specs.Text.{check_command}
 use Rattle.command.proofs.Codes.{check-coded}
@@ -42,36 +45,36 @@ logged_snoc b (x ∷ es) e = ap (λ (l : List Entry). entry b x ∷ l) (logged_s
 -- ---- What a reply says of what was due
 
 due-taken : (n none fits : Bool) (w x : List ℕ)
-    → past_refusals Refused true n Fine (handing Refused (not none) fits (Given w)) ≡ Given x → (x ≡ w) × (none ≡ false)
+    → past_refusals Refused true n (Ok tt) (handing Refused (not none) fits (Given w)) ≡ Given x → (x ≡ w) × (none ≡ false)
 due-taken true true fits w x e = (cc, cc)
 due-taken true false true w x e = (cc, refl)
 due-taken true false false w x e = (cc, refl)
 due-taken false none fits w x e = (cc, cc)
 
-due-nine : (n : Bool) (t : List ℕ) (s : Seen) (none free : Bool) (w : List ℕ) (place : ℕ) → check_command t ≡ s
-    → past_refusals Refused true n s (placing Refused (not none) free (Given w) (Given w)) ≡ Refused 9 place
+due-nine : (n : Bool) (t : List ℕ) (s : Result (Unit {0}) Refusal) (none free : Bool) (w : List ℕ) (place : ℕ) → check_command t ≡ s
+    → past_refusals Refused true n s (placing Refused (not none) free (Given w) (Given w)) ≡ Refused BoardFull place
     → (none ≡ true) × (free ≡ false)
-due-nine true t (Bad code p) none free w place k e =
-    let l : code ≤ 8 = (check-coded t code p k).1 in let z : code ≡ 9 = cc in absurd (omega arith)
-due-nine true t Fine true true w place k e = (refl, cc)
-due-nine true t Fine true false w place k e = (refl, refl)
-due-nine true t Fine false free w place k e = (cc, cc)
+due-nine true t (Err r) none free w place k e =
+    let l = (check-coded t r k).1 in let z : r.code ≡ BoardFull = cc in absurd (omega (arith, l, ap number_of z))
+due-nine true t (Ok u) true true w place k e = (refl, cc)
+due-nine true t (Ok u) true false w place k e = (refl, refl)
+due-nine true t (Ok u) false free w place k e = (cc, cc)
 due-nine false t s none free w place k e = let z : ◌≡◌ {A = ℕ} 4 9 = cc in absurd (omega arith)
 
-due-ten : (free : Bool) (w : List ℕ) (e : Event) (place : ℕ) → due free w e ≡ Refused 10 place → ⊥
+due-ten : (free : Bool) (w : List ℕ) (e : Event) (place : ℕ) → due free w e ≡ Refused BoardInvalid place → ⊥
 due-ten free w (Add d t) place h = go (is_designator d) (check_command t) refl (not (is_none w)) free h
   where
-    go : (n : Bool) (s : Seen) → check_command t ≡ s → (waits free : Bool)
-        → past_refusals Refused true n s (placing Refused waits free (Given (onto w t)) (Given (onto w t))) ≡ Refused 10 place → ⊥
-    go true (Bad code p) k waits free e =
-        let l : code ≤ 8 = (check-coded t code p k).1 in let z : code ≡ 10 = cc in omega arith
-    go true Fine k true free e = let z : ◌≡◌ {A = ℕ} 0 1 = cc in omega arith
-    go true Fine k false true e = let z : ◌≡◌ {A = ℕ} 0 1 = cc in omega arith
-    go true Fine k false false e = let z : ◌≡◌ {A = ℕ} 9 10 = cc in omega arith
+    go : (n : Bool) (s : Result (Unit {0}) Refusal) → check_command t ≡ s → (waits free : Bool)
+        → past_refusals Refused true n s (placing Refused waits free (Given (onto w t)) (Given (onto w t))) ≡ Refused BoardInvalid place → ⊥
+    go true (Err r) k waits free e =
+        let l = (check-coded t r k).1 in let z : r.code ≡ BoardInvalid = cc in omega (arith, l, ap number_of z)
+    go true (Ok u) k true free e = let z : ◌≡◌ {A = ℕ} 0 1 = cc in omega arith
+    go true (Ok u) k false true e = let z : ◌≡◌ {A = ℕ} 0 1 = cc in omega arith
+    go true (Ok u) k false false e = let z : ◌≡◌ {A = ℕ} 9 10 = cc in omega arith
     go false s k waits free e = let z : ◌≡◌ {A = ℕ} 4 10 = cc in omega arith
 due-ten free w (Take d room) place h = go (is_designator d) (not (is_none w)) (leb (length w) room) h
   where
-    go : (n waits fits : Bool) → past_refusals Refused true n Fine (handing Refused waits fits (Given w)) ≡ Refused 10 place → ⊥
+    go : (n waits fits : Bool) → past_refusals Refused true n (Ok tt) (handing Refused waits fits (Given w)) ≡ Refused BoardInvalid place → ⊥
     go true true true e = let z : ◌≡◌ {A = ℕ} 0 1 = cc in omega arith
     go true true false e = let z : ◌≡◌ {A = ℕ} 2 10 = cc in omega arith
     go true false fits e = let z : ◌≡◌ {A = ℕ} 11 10 = cc in omega arith
@@ -109,7 +112,7 @@ module _ (b : List WaitingSlot) (es : List Event) (o : is_empty_board b ≡ true
   reply-due e = (right now stays_valid e).reply
 
   -- so code 10 never comes
-  pub never-ten : (e : Event) (place : ℕ) → reply_of (move (after b es) e) ≡ Refused 10 place → ⊥
+  pub never-ten : (e : Event) (place : ℕ) → reply_of (move (after b es) e) ≡ Refused BoardInvalid place → ⊥
   never-ten e place h = due-ten (any is_free now) (waiting (aircraft e) now) e place (sym (reply-due e) ∙ h)
 
   -- nothing waits where no command was accepted since the last hand-over
@@ -130,7 +133,7 @@ module _ (b : List WaitingSlot) (es : List Event) (o : is_empty_board b ≡ true
   -- ---- Adding
 
   -- a command is refused with 9 only where nothing waits for its aircraft and no slot is free
-  pub nine : (d t : List ℕ) (place : ℕ) → reply_of (move (after b es) (Add d t)) ≡ Refused 9 place
+  pub nine : (d t : List ℕ) (place : ℕ) → reply_of (move (after b es) (Add d t)) ≡ Refused BoardFull place
       → (since d (logged b es) ≡ []) × (any is_free (after b es) ≡ false)
   nine d t place h =
       let r =
@@ -139,7 +142,7 @@ module _ (b : List WaitingSlot) (es : List Event) (o : is_empty_board b ≡ true
       (waits-none d (none_is (waiting d now) r.0), r.1)
 
   -- an accepted command for a well-formed designator is refused nowhere else, and is then heard
-  pub accepts : (d t : List ℕ) → is_designator d ≡ true → check_command t ≡ Fine
+  pub accepts : (d t : List ℕ) → is_designator d ≡ true → check_command t ≡ Ok tt
       → (is_none (waiting d (after b es)) && not (any is_free (after b es))) ≡ false
       → since d (logged b (es ++ (Add d t ∷ []))) ≡ since d (logged b es) ++ (t ∷ [])
   accepts d t n k h =
@@ -152,7 +155,7 @@ module _ (b : List WaitingSlot) (es : List Event) (o : is_empty_board b ≡ true
   -- ---- A refusal leaves no trace
 
   -- the board stays as it was
-  pub refused_stays : (e : Event) (code place : ℕ) → reply_of (move (after b es) e) ≡ Refused code place
+  pub refused_stays : (e : Event) (code : Code) (place : ℕ) → reply_of (move (after b es) e) ≡ Refused code place
       → after b (es ++ (e ∷ [])) ≡ after b es
   refused_stays e code place h = after_snoc b es e ∙ go (move now e) h
     where
@@ -162,7 +165,7 @@ module _ (b : List WaitingSlot) (es : List Event) (o : is_empty_board b ≡ true
       go (Free i t) k = let z : ◌≡◌ {A = ℕ} 0 1 = cc in absurd (omega arith)
 
   -- and for no aircraft is anything heard
-  pub refused-unheard : (e : Event) (code place : ℕ) → reply_of (move (after b es) e) ≡ Refused code place
+  pub refused-unheard : (e : Event) (code : Code) (place : ℕ) → reply_of (move (after b es) e) ≡ Refused code place
       → (d : List ℕ) → since d (logged b (es ++ (e ∷ []))) ≡ since d (logged b es)
   refused-unheard e code place h d =
       ap (since d) (logged_snoc b es e) ∙ since_snoc d log (entry now e) [] ∙ ap (heard d (since d log) e) h ∙ go e
@@ -192,7 +195,7 @@ module _ (b : List WaitingSlot) (es : List Event) (o : is_empty_board b ≡ true
       handed-joined = taken.0 ∙ (in_step b es o).waits d
 
       -- it is an accepted command
-      pub handed-fine : check_command w ≡ Fine
+      pub handed-fine : check_command w ≡ Ok tt
       handed-fine =
           ap check_command taken.0
           ∙ is-fine (check_command (waiting d now)) (waiting-fine d now stays_valid (some_for d now taken.1))

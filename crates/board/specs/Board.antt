@@ -1,10 +1,11 @@
 -- Document 01, "The waiting board", as a value: for each slot who waits for what.
-use Rattle.std.specs.Prelude.{Bool, true, false, cond, not, ◌&&◌, ◌||◌, List, [], ◌∷◌, ℕ, zero, suc, leb, length, get_or, set}
+use Rattle.std.specs.Prelude.{Bool, true, false, cond, not, ◌&&◌, ◌||◌, List, [], ◌∷◌, ℕ, zero, suc, leb, length, get_or, set, Result, Ok, Err}
 use Rattle.text.specs.Checks.{is_fine}
 use Rattle.text.specs.Names.{is_designator}
 use Rattle.text.specs.Equal.{same_bytes}
-use Rattle.text.specs.declared.Seen.{Seen}
-use Rattle.text.specs.declared.Seen.TheVariants.{Fine, Bad}
+use Rattle.text.specs.declared.Code.{Code}
+use Rattle.text.specs.declared.Code.TheVariants.{NoRoom, NotAllowed, BoardFull, BoardInvalid, NothingWaits}
+use Rattle.text.specs.declared.Refusal.{Refusal}
 use Rattle.command.specs.Text.{check_command}
 use Rattle.join.specs.Join.{join_text}
 
@@ -57,29 +58,29 @@ is_valid (x ∷ b) = is_sound x b && is_valid b
 -- ---- What a call does to the board
 
 pub data Move : Type 0 where
-  Stay : ℕ → ℕ → Move  -- nothing: code and place of the refusal
+  Stay : Code → ℕ → Move  -- nothing: code and place of the refusal
   Put : ℕ → List ℕ → List ℕ → Move  -- slot i then holds the text t for the aircraft d
   Free : ℕ → List ℕ → Move  -- slot i is freed and its text t handed over
 
 -- ---- The order of refusals: 10, designator (4), what the command's admission refuses; then what the call itself does
 
 -- what a check refuses, else what is then done; `refuse` makes a refusal of its code and place
-abbrev pub unless_refused : {A : Type 0} → (ℕ → ℕ → A) → Seen → A → A
-unless_refused refuse Fine act = act
-unless_refused refuse (Bad code place) act = refuse code place
+abbrev pub unless_refused : {A : Type 0} → (Code → ℕ → A) → Result (Unit {0}) Refusal → A → A
+unless_refused refuse (Ok u) act = act
+unless_refused refuse (Err r) act = refuse r.code r.place
 
 -- by whether the board is valid, whether the designator is well formed, and what admission saw
-abbrev pub past_refusals : {A : Type 0} → (ℕ → ℕ → A) → Bool → Bool → Seen → A → A
+abbrev pub past_refusals : {A : Type 0} → (Code → ℕ → A) → Bool → Bool → Result (Unit {0}) Refusal → A → A
 past_refusals refuse valid named admission act =
-    cond valid (cond named (unless_refused refuse admission act) (refuse 4 0)) (refuse 10 0)
+    cond valid (cond named (unless_refused refuse admission act) (refuse NotAllowed 0)) (refuse BoardInvalid 0)
 
 -- adding: onto what waits for the aircraft, or into a free slot, or 9
-abbrev pub placing : {A : Type 0} → (ℕ → ℕ → A) → Bool → Bool → A → A → A
-placing refuse waits free onto into = cond waits onto (cond free into (refuse 9 0))
+abbrev pub placing : {A : Type 0} → (Code → ℕ → A) → Bool → Bool → A → A → A
+placing refuse waits free onto into = cond waits onto (cond free into (refuse BoardFull 0))
 
 -- taking: where nothing waits 11, where the room is less than that 2
-abbrev pub handing : {A : Type 0} → (ℕ → ℕ → A) → Bool → Bool → A → A
-handing refuse waits fits out = cond waits (cond fits out (refuse 2 0)) (refuse 11 0)
+abbrev pub handing : {A : Type 0} → (Code → ℕ → A) → Bool → Bool → A → A
+handing refuse waits fits out = cond waits (cond fits out (refuse NoRoom 0)) (refuse NothingWaits 0)
 
 -- ---- Adding and taking
 
@@ -100,7 +101,7 @@ handed_out b d room =
 
 -- taking: 10, 4, 11, 2
 unfoldable pub take_out : List WaitingSlot → List ℕ → ℕ → Move
-take_out b d room = past_refusals Stay (is_valid b) (is_designator d) Fine (handed_out b d room)
+take_out b d room = past_refusals Stay (is_valid b) (is_designator d) (Ok tt) (handed_out b d room)
 
 abbrev pub on_board : Move → List WaitingSlot → List WaitingSlot
 on_board (Stay code place) b = b
@@ -111,7 +112,7 @@ on_board (Free i t) b = set b i (record { who = (get_or b i empty_slot).who; tex
 
 pub data Reply : Type 0 where
   Given : List ℕ → Reply
-  Refused : ℕ → ℕ → Reply
+  Refused : Code → ℕ → Reply
 
 abbrev pub reply_of : Move → Reply
 reply_of (Stay code place) = Refused code place

@@ -1,10 +1,9 @@
 -- What a board was asked and what it replied, and what follows from that alone: demand 3.
-use Rattle.std.specs.Prelude.{◌≡◌, Bool, true, false, cond, not, ◌&&◌, ◌||◌, ℕ, ◌≤◌, leb, ltb, length}
+use Rattle.std.specs.Prelude.{◌≡◌, Bool, true, false, cond, not, ◌&&◌, ◌||◌, ℕ, ◌≤◌, leb, ltb, length, Ok}
 use mathlib.Core.List.{List, [], ◌∷◌, ◌++◌, foldl}
 use Rattle.text.specs.Names.{is_designator}
 use Rattle.text.specs.Checks.{is_fine}
 use Rattle.text.specs.Equal.{same_bytes}
-use Rattle.text.specs.declared.Seen.TheVariants.{Fine}
 use Rattle.settings.specs.declared.Settings.{Settings}
 use Rattle.command.specs.Text.{check_command, longest}
 use Rattle.config.specs.Config.{apply_to}
@@ -79,7 +78,7 @@ due free w (Add d t) =
     past_refusals Refused true (is_designator d) (check_command t)
     (placing Refused (not (is_none w)) free (Given (onto w t)) (Given (onto w t)))
 due free w (Take d room) =
-    past_refusals Refused true (is_designator d) Fine (handing Refused (not (is_none w)) (leb (length w) room) (Given w))
+    past_refusals Refused true (is_designator d) (Ok tt) (handing Refused (not (is_none w)) (leb (length w) room) (Given w))
 
 -- ---- From the events and the number of slots alone
 

@@ -1,23 +1,33 @@
 -- What one look over the lent slots finds. No promise to a caller rests on these names.
-use Rattle.std.specs.Prelude.{Bool, true, false, cond, not, ◌&&◌, ◌||◌, List, [], ◌∷◌, ℕ, suc, ◌+◌, ◌*◌, leb, ltb, eqb, length, take, replicate}
+use Rattle.std.specs.Prelude.{Bool, true, false, cond, not, ◌&&◌, ◌||◌, List, [], ◌∷◌, ℕ, suc, ◌+◌, ◌*◌, leb, ltb, eqb, length, set, take, Option, Some, None, is_some, unwrap_or, Result, Ok, Err}
 use Rattle.text.specs.Names.{is_designator}
-use Rattle.text.specs.Checks.{is_fine}
+use Rattle.text.specs.Checks.{is_fine, refuse}
 use Rattle.text.specs.Parts.{part}
 use Rattle.text.specs.Equal.{same_bytes}
-use Rattle.text.specs.declared.Seen.TheVariants.{Fine}
+use Rattle.text.specs.declared.Refusal.{Refusal}
+use Rattle.text.specs.declared.Code.TheVariants.{BoardInvalid}
 use Rattle.command.specs.Text.{longest, check_command}
-use Rattle.join.specs.Join.{Joined, Joins, Refuses, join}
+use Rattle.join.specs.Join.{Joined, join}
 use Rattle.board.specs.Board.{most_slots, Move, Stay, Put, Free, past_refusals, placing, handing}
-use Rattle.board.specs.Lent.{no_slot}
 use Rattle.board.specs.declared.Slot.{Slot}
-use Rattle.board.specs.declared.Wanted.{Wanted}
 use Rattle.board.specs.declared.Findings.{Findings}
-use Rattle.board.specs.declared.Done.{Done}
+use Rattle.board.specs.declared.Stored.{Stored}
 
 -- the aircraft that a call is about
+abbrev pub Wanted : Type 0
+Wanted = Option (List ℕ)
+
 unfoldable pub wanted_by : List ℕ → Wanted
-wanted_by d =
-    cond (is_designator d) (record { designator = d; fine = true }) (record { designator = replicate 6 0; fine = false })
+wanted_by d = cond (is_designator d) (Some d) None
+
+-- its designator; where there is none, no byte
+abbrev pub asked : Wanted → List ℕ
+asked w = unwrap_or w []
+
+-- whether a slot's designator is that of the aircraft
+abbrev pub names : Wanted → List ℕ → Bool
+names (Some d) e = same_bytes d e
+names None e = false
 
 abbrev pub is_used : Slot → Bool
 is_used x = not (eqb x.length 0)
@@ -36,8 +46,8 @@ unfoldable pub alone_in : Findings → Slot → List Slot → Bool
 alone_in a x before = cond (a.valid && is_used x) (none_for x.designator before) true
 
 -- whether a slot has to be looked at: a free one behind a free one tells nothing new
-abbrev pub is_looked_at : Findings → Slot → ℕ → Bool
-is_looked_at a x i = is_used x || leb i a.free
+abbrev pub is_looked_at : Findings → Slot → Bool
+is_looked_at a x = is_used x || not (is_some a.free)
 
 -- before which slot that is looked at
 unfoldable pub until_at : Findings → Slot → ℕ → ℕ → ℕ
@@ -53,29 +63,27 @@ sound_at x area i =
     && is_fine (check_command (part (longest * i) x.length area))
 
 -- the lower of a slot found before and slot i
-abbrev pub first_of : ℕ → ℕ → ℕ
-first_of found i = cond (ltb found i) found i
+abbrev pub first_of : Option ℕ → ℕ → Option ℕ
+first_of found i = cond (is_some found) found (Some i)
 
 unfoldable pub start_of : ℕ → ℕ → Findings
 start_of n bytes =
-    record { valid = leb n most_slots && eqb bytes (longest * n); length = 0; own = n; free = n; count = n }
+    record { valid = leb n most_slots && eqb bytes (longest * n); length = 0; own = None; free = None }
 
 -- a free slot, and a used one
 abbrev pub with_free : Findings → ℕ → Findings
-with_free a i = record { valid = true; length = a.length; own = a.own; free = first_of a.free i; count = a.count }
+with_free a i = record { valid = true; length = a.length; own = a.own; free = first_of a.free i }
 
-abbrev pub with_used : Findings → Slot → Bool → ℕ → List ℕ → Findings
-with_used a x fine i d =
-    cond (ltb a.own i)
-    (record { valid = fine; length = a.length; own = a.own; free = a.free; count = a.count })
-    (cond (same_bytes d x.designator)
-    (record { valid = fine; length = x.length; own = i; free = a.free; count = a.count })
-    (record { valid = fine; length = a.length; own = a.own; free = a.free; count = a.count }))
+abbrev pub with_used : Findings → Slot → Bool → ℕ → Wanted → Findings
+with_used a x fine i w =
+    cond (not (is_some a.own) && names w x.designator)
+    (record { valid = fine; length = x.length; own = Some i; free = a.free })
+    (record { valid = fine; length = a.length; own = a.own; free = a.free })
 
 unfoldable pub step_of : List ℕ → Wanted → Findings → Slot → Bool → ℕ → Findings
 step_of area w a x clear i =
     cond a.valid
-    (cond (is_used x) (with_used a x (clear && sound_at x area i) i w.designator) (with_free a i))
+    (cond (is_used x) (with_used a x (clear && sound_at x area i) i w) (with_free a i))
     a
 
 -- all slots ys, those from slot i on being left
@@ -91,42 +99,58 @@ scanned area w xs = scan_from area w xs (start_of (length xs) (length area)) 0 x
 abbrev pub fits_at : ℕ → ℕ → ℕ → Bool
 fits_at i n bytes = ltb i most_slots && leb n longest && leb (longest * i + longest) bytes
 
--- the text that waits
-abbrev pub waits_at : Findings → List ℕ → List ℕ
-waits_at v area = part (longest * v.own) v.length area
+-- the text of n bytes that waits in slot i
+abbrev pub waits_at : ℕ → ℕ → List ℕ → List ℕ
+waits_at i n area = part (longest * i) n area
 
 abbrev pub joins_to : Joined → ℕ → List ℕ → Move
-joins_to (Joins t) i d = Put i d t
-joins_to (Refuses code place which) i d = Stay 10 0
+joins_to (Ok t) i d = Put i d t
+joins_to (Err f) i d = Stay BoardInvalid 0
 
-unfoldable pub own_move : Findings → Wanted → List ℕ → List ℕ → Move
-own_move v w area t =
-    cond (fits_at v.own v.length (length area)) (joins_to (join (waits_at v area) t longest) v.own w.designator) (Stay 10 0)
+-- a command for the aircraft d: joined onto what waits in slot i, or put there
+unfoldable pub own_move : ℕ → ℕ → List ℕ → List ℕ → List ℕ → Move
+own_move i n d area t =
+    cond (fits_at i n (length area)) (joins_to (join (waits_at i n area) t longest) i d) (Stay BoardInvalid 0)
 
-unfoldable pub free_move : Findings → Wanted → List ℕ → List ℕ → Move
-free_move v w area t =
-    cond (fits_at v.free (length t) (length area)) (Put v.free w.designator t) (Stay 10 0)
+unfoldable pub free_move : ℕ → List ℕ → List ℕ → List ℕ → Move
+free_move i d area t = cond (fits_at i (length t) (length area)) (Put i d t) (Stay BoardInvalid 0)
+
+-- a slot that was found
+abbrev pub at : Option ℕ → ℕ
+at found = unwrap_or found 0
 
 abbrev pub placed_move : Findings → Wanted → List ℕ → List ℕ → Move
 placed_move v w area t =
-    placing Stay (ltb v.own v.count) (ltb v.free v.count) (own_move v w area t) (free_move v w area t)
+    placing Stay (is_some v.own) (is_some v.free) (own_move (at v.own) v.length (asked w) area t)
+    (free_move (at v.free) (asked w) area t)
 
 unfoldable pub add_move : Findings → Wanted → List ℕ → List ℕ → Move
 add_move v w area t =
-    past_refusals Stay v.valid w.fine (check_command t) (placed_move v w area t)
+    past_refusals Stay v.valid (is_some w) (check_command t) (placed_move v w area t)
 
 abbrev pub handed_move : Findings → List ℕ → ℕ → Move
 handed_move v area room =
-    handing Stay (ltb v.own v.count) (leb v.length room)
-    (cond (fits_at v.own v.length (length area)) (Free v.own (waits_at v area)) (Stay 10 0))
+    handing Stay (is_some v.own) (leb v.length room)
+    (cond (fits_at (at v.own) v.length (length area)) (Free (at v.own) (waits_at (at v.own) v.length area)) (Stay BoardInvalid 0))
 
 unfoldable pub take_move : Findings → Wanted → List ℕ → ℕ → Move
-take_move v w area room = past_refusals Stay v.valid w.fine Fine (handed_move v area room)
+take_move v w area room = past_refusals Stay v.valid (is_some w) (Ok tt) (handed_move v area room)
 
--- what is answered, and which slot is stored where
-abbrev pub done_of : ℕ → Wanted → Move → Done
-done_of n w (Stay code place) = record { code = code; place = place; length = 0; at = n; slot = no_slot }
-done_of n w (Put i d t) =
-    record { code = 0; place = 0; length = length t; at = i; slot = record { designator = w.designator; length = length t } }
-done_of n w (Free i t) =
-    record { code = 0; place = 0; length = length t; at = i; slot = record { designator = w.designator; length = 0 } }
+-- ---- What is answered, and which slot is stored where
+
+-- a text of n bytes, for the aircraft d, and slot i, of which `left` bytes then wait
+abbrev pub stored_for : List ℕ → ℕ → ℕ → ℕ → Stored
+stored_for d i n left = record { length = n; at = i; slot = record { designator = d; length = left } }
+
+abbrev pub done_to : List ℕ → Move → Result Stored Refusal
+done_to d (Stay code place) = refuse code place
+done_to d (Put i e t) = Ok (stored_for d i (length t) (length t))
+done_to d (Free i t) = Ok (stored_for d i (length t) 0)
+
+abbrev pub done_of : Wanted → Move → Result Stored Refusal
+done_of w m = done_to (asked w) m
+
+-- the slots afterwards
+abbrev pub stored_in : Result Stored Refusal → List Slot → List Slot
+stored_in (Ok x) xs = set xs x.at x.slot
+stored_in (Err r) xs = xs

@@ -1,6 +1,7 @@
 -- The board as it is lent: a run of at most 64 slot records, and a text area with the longest command's bytes a slot.
 use Rattle.std.specs.Prelude.{Bool, true, cond, ◌&&◌, List, [], ◌∷◌, ℕ, ◌*◌, leb, eqb, length, get_or, set, take, drop, replicate}
 use Rattle.text.specs.Over.{over}
+use Rattle.text.specs.declared.Code.TheVariants.{BoardInvalid}
 use Rattle.command.specs.Text.{longest}
 use Rattle.board.specs.Board.{most_slots, WaitingSlot, Move, Stay, Put, Free, add, take_out, is_valid}
 use Rattle.board.specs.declared.Slot.{Slot}
@@ -21,10 +22,10 @@ is_shaped xs area = leb (length xs) most_slots && (eqb (length area) (longest * 
 
 -- a board that is not valid is 10
 unfoldable pub add_lent : List Slot → List ℕ → List ℕ → List ℕ → Move
-add_lent xs area d t = cond (is_shaped xs area) (add (board_of xs area) d t) (Stay 10 0)
+add_lent xs area d t = cond (is_shaped xs area) (add (board_of xs area) d t) (Stay BoardInvalid 0)
 
 unfoldable pub take_lent : List Slot → List ℕ → List ℕ → ℕ → Move
-take_lent xs area d room = cond (is_shaped xs area) (take_out (board_of xs area) d room) (Stay 10 0)
+take_lent xs area d room = cond (is_shaped xs area) (take_out (board_of xs area) d room) (Stay BoardInvalid 0)
 
 unfoldable pub is_valid_lent : List Slot → List ℕ → Bool
 is_valid_lent xs area = is_shaped xs area && is_valid (board_of xs area)

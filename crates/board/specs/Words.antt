@@ -1,7 +1,6 @@
 -- Document 01's words for the board as it is lent, said by themselves: none of what answers a call (Board, Lent) is used here.
-use Rattle.std.specs.Prelude.{◌≡◌, true, List, ℕ, ◌*◌, ◌≤◌, ◌<◌, length, get_or, take, drop}
+use Rattle.std.specs.Prelude.{◌≡◌, true, List, ℕ, ◌*◌, ◌≤◌, ◌<◌, length, get_or, take, drop, Ok}
 use Rattle.text.specs.Bytes.{all_one_of, name_bytes}
-use Rattle.text.specs.declared.Seen.TheVariants.{Fine}
 use Rattle.command.specs.Text.{longest, check_command}
 use Rattle.join.specs.Join.{join_text}
 use Rattle.board.specs.Lent.{no_slot}
@@ -30,7 +29,7 @@ pub record ValidBoard (slots : List Slot) (area : List ℕ) : Type 0 where
   pub bytes : length area ≡ longest * length slots
   pub named : (i : ℕ) → InUse slots i → WellFormed (slot_at slots i).designator
   pub different : (i j : ℕ) → InUse slots i → InUse slots j → (slot_at slots i).designator ≡ (slot_at slots j).designator → i ≡ j
-  pub texts : (i : ℕ) → InUse slots i → ((slot_at slots i).length ≤ longest) × (check_command (text_in slots area i) ≡ Fine)
+  pub texts : (i : ℕ) → InUse slots i → ((slot_at slots i).length ≤ longest) × (check_command (text_in slots area i) ≡ Ok tt)
 
 -- slot i is the aircraft's own
 abbrev pub IsOwn : List Slot → List ℕ → ℕ → Type 0

@@ -1,48 +1,35 @@
 // One slot more in a look over the slots.
-ghost use Rattle.std.specs.Prelude.{◌≡◌, not, ◌&&◌, ◌<◌, [], length};
-ghost use Rattle.text.specs.Checks.{is_fine};
+ghost use Rattle.std.specs.Prelude.{◌≡◌, not, ◌&&◌, None, length};
 ghost use Rattle.text.specs.Equal.{same_bytes};
-ghost use Rattle.board.specs.Inner.{wanted_by, used_for, sound_at, is_looked_at, until_at, start_of, first_of, with_used, step_of};
+ghost use Rattle.board.specs.Inner.{wanted_by, names, used_for, sound_at, is_looked_at, until_at, start_of, with_used, step_of};
 
-use crate::{Findings, MOST_SLOTS, Slot, TOO_MANY, Wanted};
+use crate::{Findings, MOST_SLOTS, Slot, Wanted};
 use command::LONGEST;
 use command::check::check;
-use field::record::middle;
-use text::{Seen, all_allowed, is_designator};
+use text::{all_allowed, is_designator};
 
 // The aircraft that a call is about.
+#[tactic(auto, unfolding(crate::specs::Inner::wanted_by))]
 pub fn wanted(designator: &[u8]) -> Wanted
     ensures { result ≡ wanted_by designator.now }
 {
-    let mut bytes = [0u8; 6];
     if !is_designator(designator) {
-        return Wanted {
-            designator: bytes,
-            fine: false,
-        };
+        return None;
     }
-    bytes[0] = designator[0];
-    bytes[1] = designator[1];
-    bytes[2] = designator[2];
-    bytes[3] = designator[3];
-    bytes[4] = designator[4];
-    bytes[5] = designator[5];
-    Wanted {
-        designator: bytes,
-        fine: true,
-    }
+    let mut bytes = [0u8; 6];
+    bytes.copy_from_slice(designator);
+    Some(bytes)
 }
 
 // No aircraft, for a look that asks for none.
 pub fn nobody() -> Wanted
-    ensures { result ≡ wanted_by [] }
+    ensures { result ≡ None }
 {
-    Wanted {
-        designator: [0u8; 6],
-        fine: false,
-    }
+    None
 }
 
+// Byte by byte, with no way out between them.
+#[tactic(auto, using(crate::proofs::Found::same_six))]
 fn same_aircraft(a: [u8; 6], b: [u8; 6]) -> bool
     ensures { result ≡ same_bytes a b }
 {
@@ -54,128 +41,94 @@ fn same_aircraft(a: [u8; 6], b: [u8; 6]) -> bool
         & (a[5] == b[5])
 }
 
+// Whether a slot's designator is that of the aircraft that a call is about.
+fn names(w: Wanted, designator: [u8; 6]) -> bool
+    ensures { result ≡ names w designator }
+{
+    match w {
+        Some(asked) => same_aircraft(asked, designator),
+        None => false,
+    }
+}
+
 // Whether all are apart that were looked at, and one slot more.
+#[tactic(auto, unfolding(crate::specs::Inner::used_for))]
 pub fn apart(clear: bool, x: Slot, s: Slot) -> bool
     ensures { result ≡ (clear && not (used_for s.designator x)) }
 {
-    let mine = s.designator;
-    let its = x.designator;
     let used = x.length != 0;
-    clear & !(used & same_aircraft(mine, its))
+    clear & !(used & same_aircraft(s.designator, x.designator))
 }
 
 // Whether a slot has to be looked at: a free one behind a free one tells nothing new.
-pub fn is_looked_at(a: Findings, s: Slot, i: usize) -> bool
-    ensures { result ≡ is_looked_at a s i }
+pub fn is_looked_at(a: Findings, s: Slot) -> bool
+    ensures { result ≡ is_looked_at a s }
 {
-    (s.length != 0) | (i <= a.free)
+    s.length != 0 || a.free.is_none()
 }
 
 // Before which slot the others are looked at: before the first where there is nothing to find.
+#[tactic(auto, unfolding(crate::specs::Inner::until_at))]
 pub fn until(a: Findings, s: Slot, i: usize, n: usize) -> usize
     ensures { result ≡ until_at a s i n }
 {
-    if !a.valid {
-        return 0;
-    }
-    if s.length == 0 {
-        return 0;
-    }
-    if i < n {
-        return i;
-    }
-    n
-}
-
-fn is_fine(seen: Seen) -> bool
-    ensures { result ≡ is_fine seen }
-{
-    match seen {
-        Seen::Fine => true,
-        Seen::Bad(_, _) => false,
+    if !a.valid || s.length == 0 {
+        0
+    } else if i < n {
+        i
+    } else {
+        n
     }
 }
 
 // Whether a used slot's designator is well formed and its text accepted.
+#[tactic(auto, unfolding(crate::specs::Inner::sound_at))]
 fn sound(s: Slot, area: &[u8], i: usize) -> bool
     ensures { result ≡ sound_at s area.now i }
 {
-    let n = middle(s.length);
-    if MOST_SLOTS <= i {
-        return false;
-    }
-    if LONGEST < n {
+    let n = s.length as usize;
+    if MOST_SLOTS <= i || LONGEST < n {
         return false;
     }
     let at = LONGEST * i;
     let end = at + n;
-    if area.len() < end {
+    if area.len() < end || !all_allowed(&s.designator) {
         return false;
     }
-    let designator = s.designator;
-    if !all_allowed(&designator) {
-        return false;
-    }
-    is_fine(check(&area[at..end]))
+    check(&area[at..end]).is_ok()
 }
 
-// Before the first slot: the number of slots and the area's length.
+// Before the first slot: by the number of slots and the area's length.
+#[tactic(auto, unfolding(crate::specs::Inner::start_of))]
 pub fn start(n: usize, area: &[u8]) -> Findings
     ensures { result ≡ start_of n (length area.now) }
 {
-    let valid = (n <= MOST_SLOTS) & (area.len() == LONGEST * (n % TOO_MANY));
     Findings {
-        valid,
+        valid: n <= MOST_SLOTS && area.len() == LONGEST * n,
         length: 0,
-        own: n,
-        free: n,
-        count: n,
+        own: None,
+        free: None,
     }
-}
-
-fn first_of(found: usize, i: usize) -> usize
-    ensures { result ≡ first_of found i }
-{
-    if found < i {
-        return found;
-    }
-    i
 }
 
 // A used slot: its own soundness, and whether it is the aircraft's.
 fn with_used(a: Findings, s: Slot, fine: bool, i: usize, w: Wanted) -> Findings
-    ensures { result ≡ with_used a s fine i w.designator }
+    ensures { result ≡ with_used a s fine i w }
 {
-    if a.own < i {
-        return Findings {
-            valid: fine,
-            length: a.length,
-            own: a.own,
-            free: a.free,
-            count: a.count,
-        };
-    }
-    let asked = w.designator;
-    let its = s.designator;
-    if same_aircraft(asked, its) {
-        return Findings {
+    if a.own.is_none() && names(w, s.designator) {
+        Findings {
             valid: fine,
             length: s.length,
-            own: i,
+            own: Some(i),
             free: a.free,
-            count: a.count,
-        };
-    }
-    Findings {
-        valid: fine,
-        length: a.length,
-        own: a.own,
-        free: a.free,
-        count: a.count,
+        }
+    } else {
+        Findings { valid: fine, ..a }
     }
 }
 
 // One slot more. `clear` says that no slot before it is for the same aircraft.
+#[tactic(auto, unfolding(crate::specs::Inner::step_of))]
 pub fn step(a: Findings, s: Slot, clear: bool, area: &[u8], i: usize, w: Wanted) -> Findings
     ensures { result ≡ step_of area.now w a s clear i }
 {
@@ -184,13 +137,9 @@ pub fn step(a: Findings, s: Slot, clear: bool, area: &[u8], i: usize, w: Wanted)
     }
     if s.length == 0 {
         return Findings {
-            valid: true,
-            length: a.length,
-            own: a.own,
-            free: first_of(a.free, i),
-            count: a.count,
+            free: a.free.or(Some(i)),
+            ..a
         };
     }
-    let fine = clear & sound(s, area, i);
-    with_used(a, s, fine, i, w)
+    with_used(a, s, clear && sound(s, area, i), i, w)
 }

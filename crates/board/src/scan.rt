@@ -6,32 +6,28 @@ use crate::look::{apart, is_looked_at, start, step, until};
 use crate::{Findings, Slot, Wanted};
 
 // Whether no slot before slot i, which is `s`, is used for its aircraft: used slots lie low, so there are few.
+#[tactic(auto, using(crate::proofs::Found::until_steps))]
 pub fn alone(slots: &[Slot], a: Findings, s: Slot, i: usize) -> bool
     ensures { result ≡ alone_in a s (take i slots.now) }
 {
     let mut clear = true;
-    let mut j = 0;
-    let end = until(a, s, i, slots.len());
-    while j < end {
-        clear = apart(clear, slots[j], s);
-        j += 1;
+    for &x in &slots[..until(a, s, i, slots.len())] {
+        clear = apart(clear, x, s);
     }
     clear
 }
 
 // One look over the slots for all that adding and taking ask.
+#[tactic(auto, using(crate::proofs::Found::look_steps))]
 pub fn look_over(slots: &[Slot], area: &[u8], w: Wanted) -> Findings
     ensures { result ≡ scanned area.now w slots.now }
 {
     let mut a = start(slots.len(), area);
-    let mut i = 0;
-    while i < slots.len() {
-        let s = slots[i];
-        if is_looked_at(a, s, i) {
+    for (i, &s) in slots.iter().enumerate() {
+        if is_looked_at(a, s) {
             let clear = alone(slots, a, s, i);
             a = step(a, s, clear, area, i, w);
         }
-        i += 1;
     }
     a
 }

@@ -9,13 +9,10 @@ use lib.ListN.{length, get_or, drop, length-drop, take-append-drop}
 use lib.Seq.{drop-cons, take-add, drop-drop, length-take-le, drop-length}
 use borrow.Author.Tests.{leb-true, le-leb, eq-eqb, eqb-true}
 use Rattle.text.specs.Parts.{part}
-use Rattle.text.specs.declared.Seen.TheVariants.{Fine}
 use Rattle.text.proofs.Cases.{by_test, both_left, both_right}
 use Rattle.text.proofs.Parts.{part-rest}
-use Rattle.text.proofs.Checks.{bad_fine, must-held}
-use Rattle.field.specs.Fields.{after}
-use Rattle.field.specs.declared.Step.{Step}
-use Rattle.field.specs.declared.Step.TheVariants.{Next, Stop}
+use Rattle.text.proofs.Checks.{err_ok, must-held}
+use Rattle.text.specs.Checks.{after}
 use Rattle.field.proofs.Local.{after-cases, part-byte}
 use Rattle.section.specs.Layout.{layout_of, table_of, items_most, numbers}
 use Rattle.command.specs.Text.{is_flag, is_downlink, is_indicator, is_named, check_head, check_from, sections_most, longest, ended, check_command}
@@ -25,6 +22,9 @@ use Rattle.command.proofs.Head.{Head, head-next, head-passes, passes, passes-apa
 use Rattle.command.proofs.Parts.{present, marks, bodies, text_of, body_of, parts_of, flag_tests, Sound, holds}
 use Rattle.command.proofs.Marks.{byte_of, indicators, indicators_pass, marks_are}
 use Rattle.command.proofs.Walk.{Walked, walked, held-body}
+use Rattle.std.specs.Prelude.{Result, Ok, Err}
+use Rattle.text.specs.declared.Refusal.{Refusal}
+use Rattle.text.specs.declared.Code.TheVariants.{WrongEnd}
 
 -- ---- What the check says
 
@@ -37,27 +37,27 @@ longest-is = refl
 pub record Accepted (s : List ℕ) : Type 0 where
   pub short : length s ≤ longest
   pub head : Head s
-  pub walk : check_from numbers s 22 ≡ Next (length s)
+  pub walk : check_from numbers s 22 ≡ Ok (length s)
 
-ended-next : (s : List ℕ) (r : Step) → ended s r ≡ Fine → r ≡ Next (length s)
-ended-next s (Next at) e = ap Next (eqb-true at (length s) (must-held (eqb at (length s)) 8 at e))
-ended-next s (Stop code place) e = bad_fine code place e
+ended-next : (s : List ℕ) (r : Result ℕ Refusal) → ended s r ≡ Ok tt → r ≡ Ok (length s)
+ended-next s (Ok at) e = ap Ok (eqb-true at (length s) (must-held (eqb at (length s)) WrongEnd at e))
+ended-next s (Err r) e = err_ok r tt e
 
 -- what an accepted text is
-pub accepted : (s : List ℕ) → check_command s ≡ Fine → Accepted s
+pub accepted : (s : List ℕ) → check_command s ≡ Ok tt → Accepted s
 unfolding check_command
 accepted s e =
     let rest = ended s (after (check_head s) (check_from numbers s)) in
     by_test (leb (length s) longest)
     (λ (l : leb (length s) longest ≡ true).
     after-cases (check_head s) (check_from numbers s) (length s) (ended-next s (after (check_head s) (check_from numbers s)) (rw l at e))
-    (λ p (h : check_head s ≡ Next p) (c : check_from numbers s p ≡ Next (length s)).
+    (λ p (h : check_head s ≡ Ok p) (c : check_from numbers s p ≡ Ok (length s)).
     let k = head-next s p h in
     record { short = leb-true (length s) longest l; head = k.0; walk = rw k.1 at c }))
-    (λ (l : leb (length s) longest ≡ false). bad_fine 1 0 (rw l at e))
+    (λ (l : leb (length s) longest ≡ false). err_ok _ tt (rw l at e))
 
 -- and nothing else is asked
-pub accepts : (s : List ℕ) → Accepted s → check_command s ≡ Fine
+pub accepts : (s : List ℕ) → Accepted s → check_command s ≡ Ok tt
 unfolding check_command
 accepts s a =
     rw (le-leb (length s) longest a.short, head-passes s a.head, a.walk, eq-eqb (length s) (length s) refl)

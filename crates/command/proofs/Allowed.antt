@@ -13,10 +13,8 @@ use lib.Seq.{take_all}
 use borrow.Author.Tests.{eqb-true, leb-true, le-leb, lt-leb, ne_eqb}
 use Rattle.text.specs.Checks.{must, ◌and_then◌, is_fine}
 use Rattle.text.specs.Names.{between, allowed, all_allowed}
-use Rattle.text.specs.declared.Seen.TheVariants.{Fine, Bad}
-use Rattle.text.specs.declared.Seen.{Seen}
 use Rattle.text.proofs.Cases.{by_test, by_le, by_eq, both_left, both_right}
-use Rattle.text.proofs.Checks.{bad_fine, fine-must, fine_then, fine-is}
+use Rattle.text.proofs.Checks.{err_ok, fine-must, fine_then, fine-is}
 use Rattle.text.proofs.Parts.{part_bytes}
 use Rattle.field.specs.Boxes.{latitude, longitude, line_of, region_allowed}
 use Rattle.field.specs.Steps.{edge_is, region_is}
@@ -37,6 +35,9 @@ use Rattle.settings.specs.Valid.{are_zero}
 use Rattle.command.specs.Allowed.{every, nought, allowed_edge, signed, allowed_box, allowed_boxes, allowed_airfields, allowed_section, zero_section, zero_or_one, allowed_flag, allowed_indicator, in_turn, allowed_command}
 use Rattle.command.specs.declared.Command.{Command}
 use Rattle.command.proofs.Each.{Each, each_map}
+use Rattle.std.specs.Prelude.{Result, Ok, Err}
+use Rattle.text.specs.declared.Refusal.{Refusal}
+use Rattle.text.specs.declared.Code.TheVariants.{Disagree, NotAllowed}
 
 -- ---- Tests
 
@@ -134,10 +135,10 @@ allowed-bytes [] = refl
 allowed-bytes (b ∷ s) = ap (λ (t : Bool). allowed b && t) (allowed-bytes s)
 
 -- what is refused nowhere just where a test holds
-by_fine : (x : Seen) (t : Bool) → (x ≡ Fine → t ≡ true) → (t ≡ true → x ≡ Fine) → is_fine x ≡ t
-by_fine Fine t f g = sym (f refl)
-by_fine (Bad code place) true f g = bad_fine code place (g refl)
-by_fine (Bad code place) false f g = refl
+by_fine : (x : Result (Unit {0}) Refusal) (t : Bool) → (x ≡ Ok tt → t ≡ true) → (t ≡ true → x ≡ Ok tt) → is_fine x ≡ t
+by_fine (Ok u) t f g = sym (f refl)
+by_fine (Err r) true f g = err_ok r tt (g refl)
+by_fine (Err r) false f g = refl
 
 -- a list of airfields is refused nowhere just where it is allowed
 airfields-same : (at : ℕ) (l : Airfields) → is_fine (airfields_allowed at l) ≡ allowed_airfields l
@@ -248,8 +249,8 @@ turns_same (k ∷ ks) at c a z =
     rw n (fine_then (contents_allowed (layout_of k) at cs) (sections_allowed ks p c) ∙ ap₂ ◌&&◌ (a.0 at) (turns_same ks p c a.1 z.1)))
     (λ (n : names c k ≡ false).
     rw n
-    (fine_then (must (are_zero cs) 7 at) (sections_allowed ks at c)
-    ∙ ap₂ ◌&&◌ (fine-must (are_zero cs) 7 at ∙ z.0) (turns_same ks at c a.1 z.1)))
+    (fine_then (must (are_zero cs) Disagree at) (sections_allowed ks at c)
+    ∙ ap₂ ◌&&◌ (fine-must (are_zero cs) Disagree at ∙ z.0) (turns_same ks at c a.1 z.1)))
 
 -- ---- The head
 
@@ -265,8 +266,8 @@ flags-same : (at : ℕ) (fs : List ℕ) → is_fine (flags_allowed at fs) ≡ ev
 unfolding flags_allowed every
 flags-same at [] = refl
 flags-same at (v ∷ fs) =
-    fine_then (must (flag_allowed v) 4 at) (flags_allowed (at + 1) fs)
-    ∙ ap₂ ◌&&◌ (fine-must (flag_allowed v) 4 at ∙ ap (λ (t : Bool). t || eqb v 9) (low_same v)) (flags-same (at + 1) fs)
+    fine_then (must (flag_allowed v) NotAllowed at) (flags_allowed (at + 1) fs)
+    ∙ ap₂ ◌&&◌ (fine-must (flag_allowed v) NotAllowed at ∙ ap (λ (t : Bool). t || eqb v 9) (low_same v)) (flags-same (at + 1) fs)
 
 -- an indicator v of section k by the layout: 0 or its own number, if there is such a section
 abbrev pub indicated : ℕ → ℕ → Bool
@@ -276,8 +277,8 @@ marks-same : (ks : List ℕ) (at : ℕ) (f : ℕ → ℕ) → is_fine (named_all
 unfolding named_allowed every
 marks-same [] at f = refl
 marks-same (k ∷ ks) at f =
-    fine_then (must (indicated k (f k)) 4 at) (named_allowed ks (at + 1) (map f ks))
-    ∙ ap₂ ◌&&◌ (fine-must (indicated k (f k)) 4 at) (marks-same ks (at + 1) f)
+    fine_then (must (indicated k (f k)) NotAllowed at) (named_allowed ks (at + 1) (map f ks))
+    ∙ ap₂ ◌&&◌ (fine-must (indicated k (f k)) NotAllowed at) (marks-same ks (at + 1) f)
 
 -- eight values one by one
 pub eight-values : (vs : List ℕ) → length vs ≡ 8 → vs ≡ map (λ (k : ℕ). get_or vs (k - 2) 0) numbers
@@ -300,6 +301,6 @@ allowed_same c l =
     let named = named_allowed numbers 13 c.named in
     let marks = marks_allowed c in
     let sections = sections_allowed numbers 22 c in
-    fine_then flags (must digit 4 12 and_then marks and_then sections)
-    ∙ rw (fine_then (must digit 4 12) (marks and_then sections), fine_then marks sections, fine-must digit 4 12, fine_then named (must (eqb c.spare 0) 7 21), fine-must (eqb c.spare 0) 7 21)
+    fine_then flags (must digit NotAllowed 12 and_then marks and_then sections)
+    ∙ rw (fine_then (must digit NotAllowed 12) (marks and_then sections), fine_then marks sections, fine-must digit NotAllowed 12, fine_then named (must (eqb c.spare 0) Disagree 21), fine-must (eqb c.spare 0) Disagree 21)
     (rw (flags-same 5 c.settings.flags, indicators_same c l, turns_same numbers 22 c (sections_are c.settings) (zeros_are c.settings)) (simp and_assoc))

@@ -21,7 +21,7 @@ use Rattle.command.specs.Examples.{longest_text, examples, AllReadBack}
 pub examples-read : AllReadBack examples
 unfolding examples longest_text check_command sections_most items_most check_head check_awr04 same_bytes check_each check_delimiter check_from check_items layout_of table_of items_size check_digits all_digits value_from check_list repeat check_airfield all_allowed allowed check_box check_pair check_edge edge_at line_of read_command command_of no_command no_settings settings_from place_from contents_at airfields_at boxes_at regions_at region_at regions_from airports_from enroute_from ascent_from hours_from allowed_command every allowed_section zero_section allowed_box command_text sections_text section_text contents_of fixed_hold contents_text digits_before airfields_text boxes_text regions_text region_text edge_text
 examples-read =
-    ((refl, refl, refl), ((refl, refl, refl), ((refl, refl, refl), ((refl, refl, refl), ((refl, refl, refl), ((refl, refl, refl), tt))))))
+    ((refl, refl, refl, refl), ((refl, refl, refl, refl), ((refl, refl, refl, refl), ((refl, refl, refl, refl), ((refl, refl, refl, refl), ((refl, refl, refl, refl), tt))))))
 
 -- the longest command has as many bytes as any may have
 pub longest-text : length longest_text ≡ longest

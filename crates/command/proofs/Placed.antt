@@ -2,13 +2,12 @@
 use mathlib.Core.Path.{◌≡◌, refl}
 use mathlib.Core.Bool.{Bool, true, false, cond, not, ◌||◌}
 use mathlib.Core.List.{List, []}
-use Prim.Native.Nat.{ℕ, ◌+◌, ◌≤◌, ◌<◌}
+use Prim.Native.Nat.{ℕ, ◌+◌, ◌-◌, ◌≤◌, ◌<◌}
 use native.Mathlib.Omega.{arith}
 use lib.Dec.{eqb, leb}
 use lib.ListN.{length, get_or}
 use borrow.Author.Tests.{eqb-true, leb-true, ne_eqb}
-use Rattle.text.specs.declared.Seen.TheVariants.{Fine}
-use Rattle.text.proofs.Cases.{by_test, by_eq, both_left, both_right}
+use Rattle.text.proofs.Cases.{by_test, by_eq, by_lt, both_left, both_right}
 use Rattle.section.specs.Layout.{layout_of, is_empty, Accepted, numbers}
 use Rattle.section.specs.Contents.{Content, contents_at}
 use Rattle.settings.specs.Settings.{amount_in, regions_from, airports_from, enroute_from, ascent_from, descent_from, hours_from, settings_from, contents_of, fixed_hold}
@@ -16,9 +15,14 @@ use Rattle.settings.specs.Valid.{no_settings}
 use Rattle.command.specs.Text.{is_flag, is_indicator, is_named, check_command}
 use Rattle.command.specs.Sections.{is_one_of, place_of, held_in}
 use Rattle.command.specs.Inner.{Stands, Noted, held_over}
-use Rattle.command.proofs.Each.{Each, each_map, each_with}
+use Rattle.command.proofs.Each.{Each}
 use Rattle.command.proofs.Standing.{accepted-place, one-least, one-most}
 use Rattle.command.proofs.Accepted.{accepted, flag-byte, downlink-byte, indicators_are}
+use Rattle.std.specs.Prelude.{Ok}
+
+-- an accepted text has its first 22 bytes
+pub first-there : (s : List ℕ) → check_command s ≡ Ok tt → 22 ≤ length s
+first-there s fine = (accepted s fine).head.inside
 
 -- ---- A section at its place
 
@@ -36,8 +40,10 @@ module _ {s : List ℕ} {k at : ℕ} (p : Stands s k at) where
   pub stands-held : contents_at (layout_of k) s at ≡ contents_at (layout_of k) s (place_of s k)
   stands-held = rw p.place
 
+pub ruleset standing = (first-there, stands-accepted, stands-held)
+
 -- a noted place is its section's
-pub noted-stands : {s places : List ℕ} → check_command s ≡ Fine → Noted s places → (k : ℕ) → is_one_of numbers k ≡ true
+pub noted-stands : {s places : List ℕ} → check_command s ≡ Ok tt → Noted s places → (k : ℕ) → is_one_of numbers k ≡ true
     → Stands s k (get_or places k 0)
 noted-stands fine n k i =
     record { fine = fine; number = i; place = n.under k (one-least 2 numbers k (omega arith) i) (below-ten (one-most 9 numbers k (omega arith) i)) }
@@ -67,32 +73,37 @@ indicator-low k b i =
     eqb-true b (48 + k) (both_right (not (is_empty (layout_of k))) (eqb b (48 + k)) (rw (ne_eqb b 48 n) at i)) in
     omega arith)
 
-module _ (s : List ℕ) (fine : check_command s ≡ Fine) where
-  -- flag i is a digit
-  pub flag-read : (i : ℕ) → i < 7 → (5 + i + 1 ≤ length s) × (48 ≤ get_or s (5 + i) 0)
-  flag-read i h =
-      let a = accepted s fine in
-      let l = a.head.inside in
-      (omega arith, flag-low (get_or s (5 + i) 0) (flag-byte s a i h))
+-- what holds of each section number holds of those from 2 to 9
+each_between : (P : ℕ → Type 0) → Each P numbers → (k : ℕ) → 2 ≤ k → k < 10 → P k
+each_between P e k lo hi =
+    by_eq k 2 (λ (y : k ≡ 2). rw y e.0) (λ (n2 : k ≡ 2 → ⊥).
+    by_eq k 3 (λ (y : k ≡ 3). rw y e.1.0) (λ (n3 : k ≡ 3 → ⊥).
+    by_eq k 4 (λ (y : k ≡ 4). rw y e.1.1.0) (λ (n4 : k ≡ 4 → ⊥).
+    by_eq k 5 (λ (y : k ≡ 5). rw y e.1.1.1.0) (λ (n5 : k ≡ 5 → ⊥).
+    by_eq k 6 (λ (y : k ≡ 6). rw y e.1.1.1.1.0) (λ (n6 : k ≡ 6 → ⊥).
+    by_eq k 7 (λ (y : k ≡ 7). rw y e.1.1.1.1.1.0) (λ (n7 : k ≡ 7 → ⊥).
+    by_eq k 8 (λ (y : k ≡ 8). rw y e.1.1.1.1.1.1.0) (λ (n8 : k ≡ 8 → ⊥).
+    let y : k ≡ 9 = omega (arith, n2, n3, n4, n5, n6, n7, n8) in rw y e.1.1.1.1.1.1.1.0)))))))
 
-  -- so is byte 12
-  pub downlink-read : (12 + 1 ≤ length s) × (48 ≤ get_or s 12 0)
-  downlink-read =
-      let a = accepted s fine in
-      let l = a.head.inside in
-      let b = get_or s 12 0 in
-      (omega arith, leb-true 48 b (both_left (leb 48 b) (leb b 50) (downlink-byte s a)))
+-- each byte from the first flag to the last indicator is a digit
+pub digit_read : (s : List ℕ) (j : ℕ) → check_command s ≡ Ok tt → 5 ≤ j → j < 21 → 48 ≤ get_or s j 0
+digit_read s j fine lo hi =
+    let a = accepted s fine in
+    by_lt j 12
+    (λ (h : j < 12).
+    let e : 5 + (j - 5) ≡ j = omega arith in
+    flag-low (get_or s j 0) (rw e at (flag-byte s a (j - 5) (omega arith))))
+    (λ (h : 12 ≤ j).
+    by_eq j 12
+    (λ (y : j ≡ 12).
+    let b = get_or s 12 0 in
+    rw y (leb-true 48 b (both_left (leb 48 b) (leb b 50) (downlink-byte s a))))
+    (λ (n : j ≡ 12 → ⊥).
+    let e : 11 + (j - 11) ≡ j = omega (arith, n) in
+    indicator-low (j - 11) (get_or s j 0)
+    (rw e at (each_between (λ k. is_indicator k (get_or s (11 + k) 0) ≡ true) (indicators_are s a) (j - 11) (omega (arith, n)) (omega arith)))))
 
-  -- and so is each indicator
-  pub indicator-read : Each (λ k. (11 + k + 1 ≤ length s) × (48 ≤ get_or s (11 + k) 0)) numbers
-  indicator-read =
-      let a = accepted s fine in
-      let l = a.head.inside in
-      let low = each_map (λ k. is_indicator k (get_or s (11 + k) 0) ≡ true) (λ k. 48 ≤ get_or s (11 + k) 0)
-      (λ k i. indicator-low k (get_or s (11 + k) 0) i) numbers (indicators_are s a) in
-      let room : Each (λ k. k ≤ 9) numbers = omega arith in
-      each_with (λ k. k ≤ 9) (λ k. 48 ≤ get_or s (11 + k) 0) (λ k. (11 + k + 1 ≤ length s) × (48 ≤ get_or s (11 + k) 0))
-      (λ k h d. (omega arith, d)) numbers room low
+pub ruleset first_bytes = (first-there, digit_read)
 
 -- ---- Over settings that are all zero
 

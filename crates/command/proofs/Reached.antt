@@ -6,12 +6,13 @@ use native.Mathlib.Omega.{arith}
 use lib.ListN.{length, set, length-set}
 use lib.Seq.{get_or-set_same, get_or-set_other}
 use Rattle.text.proofs.Cases.{by_eq, by_lt}
-use Rattle.field.specs.declared.Step.TheVariants.{Next, Stop}
 use Rattle.command.specs.Text.{check_from}
 use Rattle.section.specs.Layout.{numbers}
 use Rattle.command.specs.Inner.{section_seen, Reached, Noted}
 use Rattle.command.specs.Sections.{place_from}
 use Rattle.command.proofs.Checking.{section_stop, section-on, section-inside, sections_end, place_here, place-on}
+use Rattle.std.specs.Prelude.{Ok, Err}
+use Rattle.text.specs.declared.Refusal.{Refusal}
 
 -- before the first
 pub reached_first : (s places : List ℕ) → 22 ≤ length s → length places ≡ 11 → Reached s 2 22 places
@@ -23,11 +24,11 @@ below j k h n = by_lt j k (λ l. l) (λ m. absurd (n (omega arith)))
 
 module _ (s : List ℕ) (k p : ℕ) (places : List ℕ) (lo : 2 ≤ k) (hi : k < 10) (r : Reached s k p places) where
   -- a section that is refused decides
-  pub reached_stop : (c q : ℕ) → section_seen s k p ≡ Stop c q → check_from numbers s 22 ≡ Stop c q
-  reached_stop c q e = r.decides ∙ section_stop s k p lo hi c q e
+  pub reached_stop : (d : Refusal) → section_seen s k p ≡ Err d → check_from numbers s 22 ≡ Err d
+  reached_stop d e = r.decides ∙ section_stop s k p lo hi d e
 
   -- behind any other it is the next one's turn
-  pub reached_on : (q : ℕ) → section_seen s k p ≡ Next q → Reached s (k + 1) q (set places k p)
+  pub reached_on : (q : ℕ) → section_seen s k p ≡ Ok q → Reached s (k + 1) q (set places k p)
   reached_on q e =
       record {
         inside = section-inside s k p lo hi q r.inside e;
@@ -43,7 +44,7 @@ module _ (s : List ℕ) (k p : ℕ) (places : List ℕ) (lo : 2 ≤ k) (hi : k <
 
 -- behind the last
 module _ (s : List ℕ) (k p : ℕ) (places : List ℕ) (h : 10 ≤ k) (r : Reached s k p places) where
-  pub reached_end : check_from numbers s 22 ≡ Next p
+  pub reached_end : check_from numbers s 22 ≡ Ok p
   reached_end = r.decides ∙ sections_end s k p h
 
   -- the place where the last ends is noted too

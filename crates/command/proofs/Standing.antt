@@ -8,7 +8,6 @@ use lib.Dec.{eqb}
 use borrow.Author.Tests.{eqb-true, ne_eqb}
 use Rattle.text.specs.Parts.{part}
 use Rattle.text.proofs.Cases.{by_test}
-use Rattle.field.specs.declared.Step.TheVariants.{Next}
 use Rattle.field.proofs.Local.{after-cases}
 use Rattle.section.specs.Layout.{numbers, layout_of, check_section, items_size, Accepted}
 use Rattle.section.proofs.Own.{cut_end}
@@ -16,9 +15,10 @@ use Rattle.command.specs.Text.{is_named, check_from}
 use Rattle.command.specs.Sections.{is_one_of, place_from, bytes_of}
 use Rattle.command.proofs.Each.{Each}
 use Rattle.command.proofs.Parts.{body_from, body_of}
+use Rattle.std.specs.Prelude.{Ok}
 
 -- a named section was accepted at its place
-pub accepted-place : (ks s : List ℕ) (at j p : ℕ) → is_one_of ks j ≡ true → is_named s j ≡ true → check_from ks s at ≡ Next p
+pub accepted-place : (ks s : List ℕ) (at j p : ℕ) → is_one_of ks j ≡ true → is_named s j ≡ true → check_from ks s at ≡ Ok p
     → Accepted j s (place_from ks s at j)
 unfolding check_from place_from
 accepted-place [] s at j p i n e = cc
@@ -26,10 +26,10 @@ accepted-place (k ∷ ks) s at j p i n e =
     by_test (is_named s k)
     (λ (m : is_named s k ≡ true).
     after-cases (check_section k s at) (check_from ks s) p (rw m at e)
-    (λ q (c : check_section k s at ≡ Next q) (d : check_from ks s q ≡ Next p).
+    (λ q (c : check_section k s at ≡ Ok q) (d : check_from ks s q ≡ Ok p).
     let end = cut_end (layout_of k) s at q c in
     by_test (eqb j k)
-    (λ (y : eqb j k ≡ true). rw (y, eqb-true j k y) (c ∙ ap Next end))
+    (λ (y : eqb j k ≡ true). rw (y, eqb-true j k y) (c ∙ ap Ok end))
     (λ (y : eqb j k ≡ false).
     rw (y, m) (accepted-place ks s (at + items_size (layout_of k) s at) j p (rw y at i) n (rw end at d)))))
     (λ (m : is_named s k ≡ false).

@@ -12,7 +12,6 @@ use borrow.Author.Tests.{eq-eqb, ne_eqb, eqb-true, not-true}
 use Rattle.text.specs.Parts.{part}
 use Rattle.text.proofs.Cases.{by_test, both_left}
 use Rattle.text.proofs.Parts.{part-rest}
-use Rattle.field.specs.declared.Step.TheVariants.{Next}
 use Rattle.field.proofs.Local.{after-cases}
 use Rattle.section.specs.Layout.{numbers, layout_of, is_empty, check_section, check_items, items_size}
 use Rattle.section.specs.Contents.{contents_at}
@@ -22,6 +21,7 @@ use Rattle.command.specs.Sections.{is_one_of, place_of, held_in}
 use Rattle.command.proofs.Each.{Each, Rising, each-rising}
 use Rattle.command.proofs.Parts.{present, bodies, body_from, body_of, Place, Absent, Present, holds}
 use Rattle.command.proofs.Standing.{accepted-place, bytes-body, body_absent}
+use Rattle.std.specs.Prelude.{Ok}
 
 -- ---- Bodies and the walk in a list that rises
 
@@ -109,7 +109,7 @@ module _ (k : ℕ) (ks s : List ℕ) (at p : ℕ) (rises : Rising (suc k) ks) wh
       }
 
   -- a turn where it is
-  pub walked_named : (q : ℕ) → is_named s k ≡ true → is_empty (layout_of k) ≡ false → check_items (layout_of k) s at ≡ Next q
+  pub walked_named : (q : ℕ) → is_named s k ≡ true → is_empty (layout_of k) ≡ false → check_items (layout_of k) s at ≡ Ok q
       → Walked ks s (at + items_size (layout_of k) s at) p → Walked (k ∷ ks) s at p
   unfolding bodies
   walked_named q n some c w =
@@ -136,7 +136,7 @@ module _ (k : ℕ) (ks s : List ℕ) (at p : ℕ) (rises : Rising (suc k) ks) wh
 
 -- what the check of the sections ks found, from a place to where it came
 pub walked : (lo : ℕ) (ks s : List ℕ) (at p : ℕ) → 1 ≤ lo → Rising lo ks → Each (λ k. is_indicator k (get_or s (11 + k) 0) ≡ true) ks
-    → check_from ks s at ≡ Next p → Walked ks s at p
+    → check_from ks s at ≡ Ok p → Walked ks s at p
 unfolding check_from bodies
 walked lo [] s at p h r i e = let d : at ≡ p = cc in record { text = rw d; places = tt; named = tt }
 walked lo (k ∷ ks) s at p h r i e =
@@ -144,7 +144,7 @@ walked lo (k ∷ ks) s at p h r i e =
     by_test (is_named s k)
     (λ (n : is_named s k ≡ true).
     after-cases (check_section k s at) (check_from ks s) p (rw n at e)
-    (λ q (c : check_section k s at ≡ Next q) (d : check_from ks s q ≡ Next p).
+    (λ q (c : check_section k s at ≡ Ok q) (d : check_from ks s q ≡ Ok p).
     walked_named k ks s at p r.1 q n (indicator-some k (get_or s (11 + k) 0) (omega arith) i.0 n) c
     (walked (suc k) ks s (at + items_size (layout_of k) s at) p (omega arith) r.1 i.1
     (rw (cut_end (layout_of k) s at q c) at d))))
@@ -152,7 +152,7 @@ walked lo (k ∷ ks) s at p h r i e =
     walked_unnamed k ks s at p r.1 n (walked (suc k) ks s at p (omega arith) r.1 i.1 (rw n at e)))
 
 -- what section k of an accepted text holds is what its own bytes hold
-pub held-body : (s : List ℕ) (p k : ℕ) → is_one_of numbers k ≡ true → check_from numbers s 22 ≡ Next p → held_in s k ≡ holds k (body_of s k)
+pub held-body : (s : List ℕ) (p k : ℕ) → is_one_of numbers k ≡ true → check_from numbers s 22 ≡ Ok p → held_in s k ≡ holds k (body_of s k)
 held-body s p k i e =
     by_test (is_named s k)
     (λ (n : is_named s k ≡ true).
@@ -167,7 +167,7 @@ held-body s p k i e =
 -- ---- Sections put one after the other are found again
 
 pub record Found (f : ℕ → List ℕ) (ks s : List ℕ) (at : ℕ) : Type 0 where
-  pub check : check_from ks s at ≡ Next (at + length (bodies f ks))
+  pub check : check_from ks s at ≡ Ok (at + length (bodies f ks))
   pub found : Each (λ k. body_from ks s at k ≡ f k) ks
 
 module _ (f : ℕ → List ℕ) (k : ℕ) (ks s : List ℕ) (at : ℕ) (rises : Rising (suc k) ks) where
@@ -191,12 +191,12 @@ module _ (f : ℕ → List ℕ) (k : ℕ) (ks s : List ℕ) (at : ℕ) (rises : 
       let x = take at s in
       let text : x ++ (f k ++ y) ≡ s = rw (← t) (take-append-drop at s) in
       let starts : length x ≡ at = length-take-le at s h in
-      let check : check_items (layout_of k) s at ≡ Next (at + length (f k)) = rw text at (put_check (layout_of k) x (f k) y at starts own) in
+      let check : check_items (layout_of k) s at ≡ Ok (at + length (f k)) = rw text at (put_check (layout_of k) x (f k) y at starts own) in
       let size : items_size (layout_of k) s at ≡ length (f k) = rw text at (put_size (layout_of k) x (f k) y at starts own) in
       let cut : part at (items_size (layout_of k) s at) s ≡ f k = rw text at (put_part (layout_of k) x (f k) y at starts own) in
       let long : at + length (f k) + length (bodies f ks) ≡ at + length (f k ++ bodies f ks) = simp length-append (omega arith) in
       record {
-        check = rw (n, check) (g.check ∙ ap Next long);
+        check = rw (n, check) (g.check ∙ ap Ok long);
         found = (
           body-first k ks s at n ∙ cut,
           each-rising (suc k) ks rises
@@ -209,7 +209,7 @@ module _ (f : ℕ → List ℕ) (k : ℕ) (ks s : List ℕ) (at : ℕ) (rises : 
 pub finds : (f : ℕ → List ℕ) (lo : ℕ) (ks s y : List ℕ) (at : ℕ) → Rising lo ks → Each (λ k. Place k (f k)) ks
     → Each (λ k. is_named s k ≡ present (f k)) ks → at ≤ length s → drop at s ≡ bodies f ks ++ y → Found f ks s at
 unfolding check_from bodies
-finds f lo [] s y at r ps ns h t = record { check = ap Next (sym (add-zero at)); found = tt }
+finds f lo [] s y at r ps ns h t = record { check = ap Ok (sym (add-zero at)); found = tt }
 finds f lo (k ∷ ks) s y at r (Absent none, ps) ns h t =
     found_absent f k ks s at r.1 none (ns.0 ∙ ap present none) (finds f (suc k) ks s y at r.1 ps ns.1 h (rw none at t))
 finds f lo (k ∷ ks) s y at r (Present some own, ps) ns h t =

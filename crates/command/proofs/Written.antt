@@ -7,8 +7,6 @@ use native.Mathlib.Omega.{arith}
 use lib.ListN.{length, get_or, take, drop, length-append}
 use lib.Seq.{take_at, get_or_at, drop-append-add}
 use Rattle.text.specs.Parts.{part}
-use Rattle.text.specs.declared.Seen.TheVariants.{Fine}
-use Rattle.field.specs.declared.Step.TheVariants.{Next}
 use Rattle.section.specs.Layout.{layout_of, numbers}
 use Rattle.section.proofs.Own.{own-most}
 use Rattle.command.specs.Text.{awr04, is_downlink, is_indicator, is_named, sections_most, check_command}
@@ -18,6 +16,7 @@ use Rattle.command.proofs.Parts.{Parts, present, marks, bodies, text_of, body_of
 use Rattle.command.proofs.Marks.{indicators, marks-length, marks_pass, names-from}
 use Rattle.command.proofs.Walk.{Found, finds}
 use Rattle.command.proofs.Accepted.{Accepted, accepts, rising, longest-is}
+use Rattle.std.specs.Prelude.{Ok}
 
 bodies-most : (f : ℕ → List ℕ) (ks : List ℕ) → Each (λ k. Place k (f k)) ks → length (bodies f ks) ≤ sections_most ks
 unfolding bodies sections_most
@@ -118,9 +117,9 @@ module _ (p : Parts) (ok : Sound p) where
       record {
         short = omega (arith, bodies-most p.sections numbers ok.sections, longest-is);
         head = text_head;
-        walk = text-found.check ∙ ap Next (sym l);
+        walk = text-found.check ∙ ap Ok (sym l);
       }
 
   -- 22 good bytes and the own bytes of just the sections named are an accepted command
-  pub text-fine : check_command (text_of p) ≡ Fine
+  pub text-fine : check_command (text_of p) ≡ Ok tt
   text-fine = accepts (text_of p) text-accepted

@@ -1,9 +1,8 @@
 -- Commands that document 01 prints, one with every section at its least, and one as long as a command can be.
-use Rattle.std.specs.Prelude.{◌≡◌, true, List, [], ◌∷◌, ◌++◌, ℕ, zero, suc}
+use Rattle.std.specs.Prelude.{◌≡◌, true, List, [], ◌∷◌, ◌++◌, ℕ, zero, suc, Ok}
 use Rattle.text.specs.Bytes.{bytes}
-use Rattle.text.specs.declared.Seen.TheVariants.{Fine}
 use Rattle.command.specs.Text.{check_command}
-use Rattle.command.specs.Record.{read_command, command_text}
+use Rattle.command.specs.Record.{command_of, read_command, command_text}
 use Rattle.command.specs.Allowed.{allowed_command}
 
 abbrev pub copies : ℕ → List ℕ → List ℕ
@@ -43,10 +42,13 @@ examples =
     ∷ bytes "AWR049999999000000700/004020011/"
     ∷ []
 
--- a text is accepted, what it reads to is within document 01's ranges, and is written as the same bytes
+-- a text is accepted, it reads to its command, and that is within document 01's ranges and is written as the same bytes
 abbrev pub ReadsBack : List ℕ → Type 0
 ReadsBack t =
-    (check_command t ≡ Fine) × (allowed_command (read_command t).command ≡ true) × (command_text (read_command t).command ≡ t)
+    (check_command t ≡ Ok tt)
+    × (read_command t ≡ Ok (command_of t))
+    × (allowed_command (command_of t) ≡ true)
+    × (command_text (command_of t) ≡ t)
 
 abbrev pub AllReadBack : List (List ℕ) → Type 0
 AllReadBack [] = Unit

@@ -1,14 +1,12 @@
 -- What the inner functions of the check and of the reader answer. No promise to a caller rests on these names.
-use Rattle.std.specs.Prelude.{◌≡◌, Bool, true, cond, ◌||◌, List, ℕ, ◌-◌, ◌≤◌, ◌<◌, ltb, eqb, length, drop, get_or}
-use Rattle.text.specs.declared.Seen.TheVariants.{Fine}
+use Rattle.std.specs.Prelude.{◌≡◌, Bool, true, cond, ◌||◌, List, ℕ, ◌-◌, ◌≤◌, ◌<◌, ltb, eqb, length, drop, get_or, Result, Ok}
 use Rattle.section.specs.Layout.{check_section, numbers}
 use Rattle.section.specs.Contents.{Content}
 use Rattle.settings.specs.Settings.{amount_in, enroute_from, ascent_from, descent_from, hours_from, fixed_hold}
 use Rattle.settings.specs.declared.Fixed.{Fixed}
-use Rattle.field.specs.declared.Step.{Step}
-use Rattle.field.specs.declared.Step.TheVariants.{Next}
 use Rattle.command.specs.Text.{is_flag, is_downlink, is_indicator, is_named, check_from, check_command}
 use Rattle.command.specs.Sections.{is_one_of, place_from, place_of, held_in}
+use Rattle.text.specs.declared.Refusal.{Refusal}
 
 -- the test of the byte i bytes behind the first flag
 abbrev pub head_test : ℕ → ℕ → Bool
@@ -19,8 +17,8 @@ abbrev pub is_among : ℕ → ℕ → ℕ → ℕ → ℕ → Bool
 is_among b one two nine own = eqb b 48 || eqb b one || eqb b two || eqb b nine || eqb b own
 
 -- a section, where it is named
-abbrev pub section_seen : List ℕ → ℕ → ℕ → Step
-section_seen s k at = cond (is_named s k) (check_section k s at) (Next at)
+abbrev pub section_seen : List ℕ → ℕ → ℕ → Result ℕ Refusal
+section_seen s k at = cond (is_named s k) (check_section k s at) (Ok at)
 
 -- ---- Where the sections of an accepted text stand
 
@@ -39,7 +37,7 @@ pub record Noted (s places : List ℕ) : Type 0 where
 
 -- the place of section k in an accepted text
 pub record Stands (s : List ℕ) (k at : ℕ) : Type 0 where
-  pub fine : check_command s ≡ Fine
+  pub fine : check_command s ≡ Ok tt
   pub number : is_one_of numbers k ≡ true
   pub place : at ≡ place_of s k
 

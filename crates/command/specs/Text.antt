@@ -1,15 +1,13 @@
 -- Document 01, "The command": its text, field by field from left to right.
-use Rattle.std.specs.Prelude.{Bool, cond, ◌&&◌, ◌||◌, not, List, [], ◌∷◌, ℕ, ◌+◌, leb, eqb, length, get_or}
+use Rattle.std.specs.Prelude.{Bool, cond, ◌&&◌, ◌||◌, not, List, [], ◌∷◌, ℕ, ◌+◌, leb, eqb, length, get_or, Result, Ok, Err}
 use Rattle.text.specs.Names.{between}
 use Rattle.text.specs.Parts.{part}
 use Rattle.text.specs.Equal.{same_bytes}
-use Rattle.text.specs.Checks.{must}
-use Rattle.text.specs.declared.Seen.{Seen}
-use Rattle.text.specs.declared.Seen.TheVariants.{Bad}
-use Rattle.field.specs.Fields.{after, room, check_delimiter}
-use Rattle.field.specs.declared.Step.{Step}
-use Rattle.field.specs.declared.Step.TheVariants.{Next, Stop}
+use Rattle.text.specs.Checks.{must, refuse, after}
+use Rattle.field.specs.Fields.{room, check_delimiter}
 use Rattle.section.specs.Layout.{numbers, layout_of, is_empty, check_section, items_most}
+use Rattle.text.specs.declared.Refusal.{Refusal}
+use Rattle.text.specs.declared.Code.TheVariants.{NotAllowed, WrongEnd, WrongFixed, WrongLength}
 
 -- ---- The first 22 bytes: `AWR04`, seven flags, a downlink digit, eight indicators E2 to E9, `/`
 
@@ -50,16 +48,16 @@ head_bytes =
     ∷ []
 
 -- bytes that are fields by themselves: another byte is 4
-unfoldable pub check_each : List (ℕ → Bool) → List ℕ → ℕ → Step
-check_each [] s at = Next at
+unfoldable pub check_each : List (ℕ → Bool) → List ℕ → ℕ → Result ℕ Refusal
+check_each [] s at = Ok at
 check_each (test ∷ tests) s at =
-    room 1 s at (cond (test (get_or s at 0)) (check_each tests s (at + 1)) (Stop 4 at))
+    room 1 s at (cond (test (get_or s at 0)) (check_each tests s (at + 1)) (refuse NotAllowed at))
 
 -- one fixed group
-unfoldable pub check_awr04 : List ℕ → Step
-check_awr04 s = room 5 s 0 (cond (same_bytes (part 0 5 s) awr04) (Next 5) (Stop 3 0))
+unfoldable pub check_awr04 : List ℕ → Result ℕ Refusal
+check_awr04 s = room 5 s 0 (cond (same_bytes (part 0 5 s) awr04) (Ok 5) (refuse WrongFixed 0))
 
-unfoldable pub check_head : List ℕ → Step
+unfoldable pub check_head : List ℕ → Result ℕ Refusal
 check_head s = after (check_awr04 s) (λ at. after (check_each head_bytes s at) (check_delimiter s))
 
 -- ---- Then the sections named, in rising order
@@ -68,8 +66,8 @@ check_head s = after (check_awr04 s) (λ at. after (check_each head_bytes s at) 
 abbrev pub is_named : List ℕ → ℕ → Bool
 is_named s k = eqb (get_or s (11 + k) 0) (48 + k)
 
-unfoldable pub check_from : List ℕ → List ℕ → ℕ → Step
-check_from [] s at = Next at
+unfoldable pub check_from : List ℕ → List ℕ → ℕ → Result ℕ Refusal
+check_from [] s at = Ok at
 check_from (k ∷ ks) s at = cond (is_named s k) (after (check_section k s at) (check_from ks s)) (check_from ks s at)
 
 -- ---- The whole
@@ -83,10 +81,10 @@ sections_most [] = 0
 sections_most (k ∷ ks) = cond (is_empty (layout_of k)) 0 (items_most (layout_of k)) + sections_most ks
 
 -- bytes after the last delimiter are 8 at the first of them
-abbrev pub ended : List ℕ → Step → Seen
-ended s (Next at) = must (eqb at (length s)) 8 at
-ended s (Stop code place) = Bad code place
+abbrev pub ended : List ℕ → Result ℕ Refusal → Result (Unit {0}) Refusal
+ended s (Ok at) = must (eqb at (length s)) WrongEnd at
+ended s (Err r) = Err r
 
-unfoldable pub check_command : List ℕ → Seen
+unfoldable pub check_command : List ℕ → Result (Unit {0}) Refusal
 check_command s =
-    cond (leb (length s) longest) (ended s (after (check_head s) (check_from numbers s))) (Bad 1 0)
+    cond (leb (length s) longest) (ended s (after (check_head s) (check_from numbers s))) (refuse WrongLength 0)

@@ -19,11 +19,3 @@ pub struct Command {
     pub named: [u8; 8],
     pub spare: u8,
 }
-
-// What reading means: the command, or the refusal's code and place beside the one empty command. Contracts speak of it.
-#[derive(Clone, Copy)]
-pub struct Got {
-    pub code: u8,
-    pub place: usize,
-    pub command: Command,
-}

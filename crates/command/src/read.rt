@@ -1,11 +1,9 @@
 // Reading a command: its text checked, then what it holds as a record.
-ghost use Rattle.std.specs.Prelude.{◌≡◌, false, cond, map, ℕ, ◌+◌, ◌-◌, ◌≤◌, length, get_or};
+ghost use Rattle.std.specs.Prelude.{◌≡◌, false, cond, ℕ, ◌+◌, ◌-◌, ◌≤◌, length, get_or, Ok};
 ghost use Rattle.text.specs.Parts.{part};
-ghost use Rattle.text.specs.declared.Seen.TheVariants.{Fine};
-ghost use Rattle.section.specs.Contents.{Amount};
 ghost use Rattle.section.specs.Inner.{numbers_of};
 ghost use Rattle.settings.specs.Inner.{Held};
-ghost use Rattle.settings.specs.Settings.{regions_hold, airports_hold, fixed_of, fixed_hold, contents_of, regions_from, airports_from, settings_from};
+ghost use Rattle.settings.specs.Settings.{regions_hold, airports_hold, fixed_hold, contents_of, regions_from, airports_from, settings_from};
 ghost use Rattle.command.specs.Text.{is_named, check_command};
 ghost use Rattle.command.specs.Sections.{held_in};
 ghost use Rattle.command.specs.Record.{digits_of, flags_of, downlink_of, command_of, no_command};
@@ -25,24 +23,28 @@ use settings::{Airports, Fixed, Regions, Settings};
 
 // ---- Each section: what the text holds where it names the section, else the old one
 
+#[tactic(auto, using(crate::proofs::Placed::standing), unfolding(settings::specs::Settings::regions_from))]
 fn regions_over(s: &[u8], at: usize, old: Regions) -> Regions
     requires { Stands s.now 2 at }
     ensures { result ≡ regions_from (held_over s.now 2 (regions_hold old)) }
 {
     if is_named(s, 2) {
-        return regions_at(s, at);
+        regions_at(s, at)
+    } else {
+        old
     }
-    old
 }
 
+#[tactic(auto, using(crate::proofs::Placed::standing), unfolding(settings::specs::Settings::airports_from))]
 fn airports_over(s: &[u8], at: usize, old: Airports) -> Airports
     requires { Stands s.now 3 at }
     ensures { result ≡ airports_from (held_over s.now 3 (airports_hold old)) }
 {
     if is_named(s, 3) {
-        return airports_at(s, lists_at(s, at));
+        airports_at(s, lists_at(s, at))
+    } else {
+        old
     }
-    old
 }
 
 // The numbers of a section without lists.
@@ -51,13 +53,14 @@ fn numbers_over(s: &[u8], k: usize, at: usize, old: Fixed) -> [u16; 8]
     ensures { (result ≡ numbers_of (held_over s.now k (fixed_hold old k))) × Held k result }
 {
     if is_named(s, k) {
-        return numbers_at(s, at, k);
+        numbers_at(s, at, k)
+    } else {
+        numbers_of(old, k)
     }
-    numbers_of(old, k)
 }
 
 fn fixed_over(s: &[u8], places: [usize; 11], old: Fixed) -> Fixed
-    requires { (check_command s.now ≡ Fine) × Noted s.now places }
+    requires { (check_command s.now ≡ Ok tt) × Noted s.now places }
     ensures { result ≡ fixed_over s.now old }
 {
     Fixed {
@@ -71,25 +74,22 @@ fn fixed_over(s: &[u8], places: [usize; 11], old: Fixed) -> Fixed
 }
 
 // Flags, and the sections of an accepted text over those of other settings. The record is put together once.
+#[tactic(auto, unfolding(settings::specs::Settings::settings_from, settings::specs::Settings::contents_of))]
 pub fn settings_over(x: Settings, flags: [u8; 7], s: &[u8], places: [usize; 11]) -> Settings
-    requires { (check_command s.now ≡ Fine) × Noted s.now places }
+    requires { (check_command s.now ≡ Ok tt) × Noted s.now places }
     ensures { result ≡ settings_from flags (λ (k : ℕ). cond (is_named s.now k) (held_in s.now k) (contents_of x k)) }
 {
     let fixed = fixed_over(s, places, fixed_of(x));
-    let enroute = fixed.enroute;
-    let ascent = fixed.ascent;
-    let descent = fixed.descent;
-    let hours = fixed.hours;
     Settings {
         flags,
         regions: regions_over(s, places[2], x.regions),
         airports: airports_over(s, places[3], x.airports),
-        enroute,
-        ascent,
-        descent,
+        enroute: fixed.enroute,
+        ascent: fixed.ascent,
+        descent: fixed.descent,
         routine6: fixed.routine6,
         routine8: fixed.routine8,
-        hours,
+        hours: fixed.hours,
     }
 }
 
@@ -103,8 +103,9 @@ fn mark_at(s: &[u8], at: usize) -> u8
     s[at] - b'0'
 }
 
+#[tactic(auto, using(crate::proofs::Placed::first_bytes, text::proofs::Parts::part_bytes))]
 pub fn flags_of(s: &[u8]) -> [u8; 7]
-    requires { check_command s.now ≡ Fine }
+    requires { check_command s.now ≡ Ok tt }
     ensures { result ≡ flags_of s.now }
 {
     [
@@ -118,15 +119,17 @@ pub fn flags_of(s: &[u8]) -> [u8; 7]
     ]
 }
 
+#[tactic(auto, using(crate::proofs::Placed::first_bytes))]
 pub fn downlink_of(s: &[u8]) -> u8
-    requires { check_command s.now ≡ Fine }
+    requires { check_command s.now ≡ Ok tt }
     ensures { result ≡ downlink_of s.now }
 {
     mark_at(s, 12)
 }
 
+#[tactic(auto, using(crate::proofs::Placed::first_bytes, text::proofs::Parts::part_bytes))]
 fn named_of(s: &[u8]) -> [u8; 8]
-    requires { check_command s.now ≡ Fine }
+    requires { check_command s.now ≡ Ok tt }
     ensures { result ≡ digits_of (part 13 8 s.now) }
 {
     [
@@ -143,21 +146,23 @@ fn named_of(s: &[u8]) -> [u8; 8]
 
 // ---- The whole
 
-// The command that every refusal carries.
+// The one empty command, which stands beside every refusal.
+#[tactic(auto, unfolding(crate::specs::Record::no_command))]
 pub fn no_command() -> Command
     ensures { result ≡ no_command }
 {
     Command {
         settings: no_settings(),
         downlink: 0,
-        named: [0u8; 8],
+        named: [0; 8],
         spare: 0,
     }
 }
 
 // Whether a text names a section of lists.
+#[tactic(auto, using(crate::proofs::Placed::first_bytes))]
 pub fn names_lists(s: &[u8]) -> bool
-    requires { check_command s.now ≡ Fine }
+    requires { check_command s.now ≡ Ok tt }
     ensures { result ≡ names_lists s.now }
 {
     is_named(s, 2) | is_named(s, 3)
@@ -165,43 +170,40 @@ pub fn names_lists(s: &[u8]) -> bool
 
 // Flags and sections of a text that names none: its digits and numbers, and no list is looked at.
 fn short_settings(s: &[u8], places: [usize; 11]) -> Settings
-    requires s_value { (check_command s.now ≡ Fine) × Noted s.now places }
+    requires s_value { (check_command s.now ≡ Ok tt) × Noted s.now places }
     requires s_value_2 { names_lists s.now ≡ false }
     ensures { result ≡ settings_from (flags_of s.now) (held_in s.now) }
 {
-    let flags = flags_of(s);
     let fixed = fixed_over(s, places, no_fixed());
-    let enroute = fixed.enroute;
-    let ascent = fixed.ascent;
-    let descent = fixed.descent;
-    let hours = fixed.hours;
     Settings {
-        flags,
+        flags: flags_of(s),
         regions: no_regions(),
         airports: no_airports(),
-        enroute,
-        ascent,
-        descent,
+        enroute: fixed.enroute,
+        ascent: fixed.ascent,
+        descent: fixed.descent,
         routine6: fixed.routine6,
         routine8: fixed.routine8,
-        hours,
+        hours: fixed.hours,
     }
 }
 
 // Flags and sections of an accepted text: those that aren't named are zero.
 fn settings_of(s: &[u8], places: [usize; 11]) -> Settings
-    requires { (check_command s.now ≡ Fine) × Noted s.now places }
+    requires { (check_command s.now ≡ Ok tt) × Noted s.now places }
     ensures { result ≡ settings_from (flags_of s.now) (held_in s.now) }
 {
     if names_lists(s) {
-        return settings_over(no_settings(), flags_of(s), s, places);
+        settings_over(no_settings(), flags_of(s), s, places)
+    } else {
+        short_settings(s, places)
     }
-    short_settings(s, places)
 }
 
 // An accepted text's command.
+#[tactic(auto, unfolding(crate::specs::Record::command_of))]
 pub fn command_of(s: &[u8], places: [usize; 11]) -> Command
-    requires { (check_command s.now ≡ Fine) × Noted s.now places }
+    requires { (check_command s.now ≡ Ok tt) × Noted s.now places }
     ensures { result ≡ command_of s.now }
 {
     Command {

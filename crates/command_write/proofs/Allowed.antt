@@ -13,9 +13,7 @@ use lib.Seq.{take_at}
 use Rattle.text.specs.Checks.{must, is_fine}
 use Rattle.text.specs.Over.{over}
 use Rattle.text.specs.Parts.{part}
-use Rattle.text.specs.declared.Seen.TheVariants.{Fine}
 use Rattle.text.proofs.Checks.{must-held, both-fine, fine-is}
-use Rattle.field.specs.declared.Step.TheVariants.{Next}
 use Rattle.field.proofs.Decimal.{part-long}
 use Rattle.field.proofs.Local.{after-cases}
 use Rattle.lists.proofs.RoundTrip.{airfields-full, boxes-full}
@@ -31,20 +29,22 @@ use Rattle.command.specs.declared.Command.{Command}
 use Rattle.command.proofs.Parts.{body_of, Place, Absent, Present, holds}
 use Rattle.command.proofs.Accepted.{Accepted, accepted, sound, held-own}
 use Rattle.command.proofs.Allowed.{allowed_same}
-use Rattle.command.proofs.Codes.{read-zero}
+use Rattle.command.proofs.Codes.{read-ok}
 use Rattle.command_write.specs.Writing.{wrote}
 use Rattle.command_write.specs.Filled.{Filled}
 use Rattle.command_write.proofs.RoundTrip.{read-write, write_read}
-use Rattle.command_write.proofs.Codes.{wrote-zero}
+use Rattle.command_write.proofs.Codes.{wrote-ok}
+use Rattle.std.specs.Prelude.{Ok}
+use Rattle.text.specs.declared.Code.TheVariants.{NoRoom}
 
 -- ---- A record's own check and document 01's ranges
 
 -- what the ranges allow is refused nowhere
-pub allowed-fine : (c : Command) → Filled c → allowed_command c ≡ true → command_allowed c ≡ Fine
+pub allowed-fine : (c : Command) → Filled c → allowed_command c ≡ true → command_allowed c ≡ (Ok tt)
 allowed-fine c full e = fine-is (command_allowed c) (allowed_same c full.named ∙ e)
 
 -- and nothing else is
-pub fine-allowed : (c : Command) → Filled c → command_allowed c ≡ Fine → allowed_command c ≡ true
+pub fine-allowed : (c : Command) → Filled c → command_allowed c ≡ (Ok tt) → allowed_command c ≡ true
 fine-allowed c full e = sym (allowed_same c full.named) ∙ ap is_fine e
 
 -- ---- What is read has arrays of their lengths
@@ -58,17 +58,17 @@ abbrev AllFull : List Content → Type 0
 AllFull [] = Unit
 AllFull (c ∷ cs) = Full c × AllFull cs
 
-item_full : (i : Item) (s : List ℕ) (at p : ℕ) → check_item i s at ≡ Next p → Full (content_at i s at)
+item_full : (i : Item) (s : List ℕ) (at p : ℕ) → check_item i s at ≡ Ok p → Full (content_at i s at)
 item_full (Digits r) s at p e = tt
 item_full AirfieldList s at p e = airfields-full s at p e
 item_full BoxList s at p e = boxes-full s at p e
 
-items-full : (is : List Item) (s : List ℕ) (at p : ℕ) → check_items is s at ≡ Next p → AllFull (contents_at is s at)
+items-full : (is : List Item) (s : List ℕ) (at p : ℕ) → check_items is s at ≡ Ok p → AllFull (contents_at is s at)
 unfolding check_items contents_at
 items-full [] s at p e = tt
 items-full (i ∷ is) s at p e =
     after-cases (check_item i s at) (check_items is s) p e
-    (λ m (d : check_item i s at ≡ Next m) (c : check_items is s m ≡ Next p).
+    (λ m (d : check_item i s at ≡ Ok m) (c : check_items is s m ≡ Ok p).
     (item_full i s at m d, items-full is s (at + item_size i s at) p (rw ((item_sized i).passes s at m d) at c)))
 
 full_at : (cs : List Content) (i : ℕ) → AllFull cs → Full (get_or cs i (Amount 0))
@@ -123,7 +123,7 @@ pub record Spells (s : List ℕ) (c : Command) : Type 0 where
   pub allowed : allowed_command c ≡ true
   pub text : s ≡ command_text c
 
-accepted_spells : (s : List ℕ) → check_command s ≡ Fine → Spells s (command_of s)
+accepted_spells : (s : List ℕ) → check_command s ≡ (Ok tt) → Spells s (command_of s)
 accepted_spells s e =
     let full = read-filled s (accepted s e) in
     record {
@@ -133,43 +133,41 @@ accepted_spells s e =
     }
 
 -- a text is accepted just where it is the text of an allowed record
-pub accepted-allowed : (s : List ℕ) → (check_command s ≡ Fine) ↔ ((c : Command) × Spells s c)
+pub accepted-allowed : (s : List ℕ) → (check_command s ≡ (Ok tt)) ↔ ((c : Command) × Spells s c)
 accepted-allowed s = (
   λ e. (command_of s, accepted_spells s e),
   λ t. let p = t.1 in rw p.text (write_read t.0 p.filled (allowed-fine t.0 p.filled p.allowed)).0,
 )
 
--- what is read with code 0 is an allowed record that is written as the same bytes
-pub read_then_write : (s : List ℕ) → (read_command s).code ≡ 0 → Spells s (read_command s).command
-unfolding read_command
-read_then_write s z = let e = (read-zero s).0 z in rw e (accepted_spells s e)
+-- what is read is an allowed record that is written as the same bytes
+pub read_then_write : (s : List ℕ) (c : Command) → read_command s ≡ Ok c → Spells s c
+read_then_write s c e = let x = (read-ok s c).0 e in rw (← x.1) (accepted_spells s x.0)
 
 -- ---- Writing
 
 -- a record is written just where the ranges allow it and there is room for its text
 pub writes-allowed : (c : Command) (room : ℕ) → Filled c
-    → (write_seen c room ≡ Fine) ↔ ((allowed_command c ≡ true) × (length (command_text c) ≤ room))
+    → (write_seen c room ≡ (Ok tt)) ↔ ((allowed_command c ≡ true) × (length (command_text c) ≤ room))
 unfolding write_seen
 writes-allowed c room full =
     let fits = leb (length (command_text c)) room in (
       λ e.
-          let x = both-fine (command_allowed c) (must fits 2 0) e in
-          (fine-allowed c full x.0, leb-true (length (command_text c)) room (must-held fits 2 0 x.1)),
+          let x = both-fine (command_allowed c) (must fits NoRoom 0) tt e in
+          (fine-allowed c full x.0, leb-true (length (command_text c)) room (must-held fits NoRoom 0 x.1)),
       λ h. rw (allowed-fine c full h.0, le-leb (length (command_text c)) room h.1),
     )
 
-module _ (c : Command) (room : ℕ) (z : (wrote (write_seen c room) (length (command_text c))).code ≡ 0) where
-  -- the length that the answer gives is the text's
-  pub wrote-length : (wrote (write_seen c room) (length (command_text c))).length ≡ length (command_text c)
-  wrote-length = rw ((wrote-zero c room (length (command_text c))).0 z)
+-- the length that the answer gives is the text's
+pub wrote-length : (c : Command) (room n : ℕ) → wrote (write_seen c room) (length (command_text c)) ≡ Ok n → n ≡ length (command_text c)
+wrote-length c room n e = sym ((wrote-ok c room (length (command_text c)) n).0 e).1
 
--- what was written, as many bytes as the answer says, reads back with code 0 as the record
-pub write_then_read : (c : Command) (out : List ℕ) → Filled c
-    → let seen = write_seen c (length out) in let answer = wrote seen (length (command_text c)) in
-    answer.code ≡ 0 → read_command (take answer.length (left_by seen (command_text c) out)) ≡ record { code = 0; place = 0; command = c }
-unfolding read_command over
-write_then_read c out full z =
+-- what was written, as many bytes as the answer says, reads back as the record
+pub write_then_read : (c : Command) (out : List ℕ) (n : ℕ) → Filled c
+    → let seen = write_seen c (length out) in
+    wrote seen (length (command_text c)) ≡ Ok n → read_command (take n (left_by seen (command_text c) out)) ≡ Ok c
+unfolding over
+write_then_read c out n full w =
     let t = command_text c in
-    let e = (wrote-zero c (length out) (length t)).0 z in
+    let e = ((wrote-ok c (length out) (length t) n).0 w).0 in
     let back = write_read c full (allowed-fine c full ((writes-allowed c (length out) full).0 e).0) in
-    rw (wrote-length c (length out) z, e, take_at t (drop (0 + length t) out) (length t) refl, back.0, back.1)
+    rw (wrote-length c (length out) n w, e, take_at t (drop (0 + length t) out) (length t) refl) ((read-ok t c).1 back)

@@ -1,16 +1,15 @@
 -- A command that is not written is refused with a code from 2 to 7, never 0.
 use mathlib.Core.Path.{◌≡◌, refl}
 use mathlib.Core.Logic.{◌↔◌}
-use mathlib.Core.Bool.{Bool, true, false, ◌&&◌, ◌||◌}
+use mathlib.Core.Bool.{Bool, true, false, ◌&&◌}
 use mathlib.Core.List.{List, [], ◌∷◌}
 use Prim.Native.Nat.{ℕ, zero, suc, ◌+◌, ◌≤◌}
-use native.Mathlib.Omega.{arith}
-use lib.Dec.{leb, eqb}
+use lib.Dec.{leb}
 use lib.ListN.{length, drop}
 use borrow.Author.Tests.{leb-true}
 use Rattle.text.specs.Checks.{must, ◌and_then◌}
-use Rattle.text.specs.declared.Seen.{Seen}
-use Rattle.text.specs.declared.Seen.TheVariants.{Fine, Bad}
+use Rattle.text.specs.Codes.{number_of}
+use Rattle.text.proofs.Checks.{both-fine}
 use Rattle.text.proofs.Cases.{by_test, both_left, both_right}
 use Rattle.field.specs.Boxes.{edge_allowed, region_allowed}
 use Rattle.field.specs.declared.Circle.{Circle}
@@ -20,28 +19,34 @@ use Rattle.lists.specs.Lists.{names_allowed, airfields_allowed, regions_allowed,
 use Rattle.lists.specs.declared.Airfields.{Airfields}
 use Rattle.lists.specs.declared.Boxes.{Boxes}
 use Rattle.section.specs.Layout.{Item, Digits, AirfieldList, BoxList, layout_of}
-use Rattle.section.proofs.Rows.{codes_fit, table-coded, four-or-five}
+use Rattle.section.proofs.Rows.{fits_code, codes_fit, table-coded, four-or-five}
 use Rattle.section.specs.Contents.{Content, amount_of, names_of, areas_of, content_text, content_allowed, contents_allowed}
 use Rattle.settings.specs.Settings.{contents_of}
 use Rattle.command.specs.Record.{flags_allowed, named_allowed, names, section_text, sections_allowed, command_allowed, write_seen}
 use Rattle.command.specs.declared.Command.{Command}
 use Rattle.command_write.specs.Writing.{wrote}
+use Rattle.std.specs.Prelude.{Result, Ok, Err}
+use Rattle.text.specs.declared.Refusal.{Refusal}
+use Rattle.text.specs.declared.Code.{Code}
 
-abbrev code_of : Seen → ℕ
-code_of Fine = 2
-code_of (Bad code place) = code
+abbrev code_of : Result (Unit {0}) Refusal → ℕ
+code_of (Ok u) = 2
+code_of (Err r) = number_of r.code
+
+abbrev two_to_seven : Code → Bool
+two_to_seven code = leb 2 (number_of code) && leb (number_of code) 7
 
 -- where it refuses, it refuses with a code from 2 to 7
-record Coded (x : Seen) : Type 0 where
+record Coded (x : Result (Unit {0}) Refusal) : Type 0 where
   coded : (leb 2 (code_of x) && leb (code_of x) 7) ≡ true
 
-one : (ok : Bool) (code place : ℕ) → (leb 2 code && leb code 7) ≡ true → Coded (must ok code place)
+one : (ok : Bool) (code : Code) (place : ℕ) → two_to_seven code ≡ true → Coded (must ok code place)
 one true code place e = record { coded = refl }
 one false code place e = record { coded = e }
 
-then : (x y : Seen) → Coded x → Coded y → Coded (x and_then y)
-then Fine y a b = b
-then (Bad code place) y a b = a
+then : (x y : Result (Unit {0}) Refusal) → Coded x → Coded y → Coded (x and_then y)
+then (Ok u) y a b = b
+then (Err r) y a b = a
 
 -- ---- Lists
 
@@ -74,8 +79,8 @@ airfields-coded at l = search (one, then, names-coded) depth 8
 
 -- ---- Sections
 
-digits-coded : (ok : Bool) (code at : ℕ) → (eqb code 4 || eqb code 5) ≡ true → Coded (must ok code at)
-digits-coded ok code at e = one ok code at (four-or-five (λ n. leb 2 n && leb n 7) code refl refl e)
+digits-coded : (ok : Bool) (code : Code) (at : ℕ) → fits_code code ≡ true → Coded (must ok code at)
+digits-coded ok code at e = one ok code at (four-or-five two_to_seven code refl refl e)
 
 contents_coded : (is : List Item) (at : ℕ) (cs : List Content) → codes_fit is ≡ true → Coded (contents_allowed is at cs)
 unfolding contents_allowed codes_fit
@@ -83,7 +88,7 @@ contents_coded [] at cs e = record { coded = refl }
 contents_coded (i ∷ is) at [] e = record { coded = refl }
 contents_coded (Digits r ∷ is) at (c ∷ cs) e =
     let next = at + length (content_text (Digits r) c) in
-    let fits = eqb r.code 4 || eqb r.code 5 in
+    let fits = fits_code r.code in
     then (content_allowed (Digits r) at c) (contents_allowed is next cs)
     (digits-coded (leb r.least (amount_of c) && leb (amount_of c) r.most) r.code at (both_left fits (codes_fit is) e))
     (contents_coded is next cs (both_right fits (codes_fit is) e))
@@ -123,15 +128,20 @@ unfolding write_seen command_allowed
 seen-coded c room = search (one, then, flags-coded, named-coded, sections-coded) depth 12
 
 -- a command that is not written is refused with a code from 2 to 7
-pub write-coded : (c : Command) (room code place : ℕ) → write_seen c room ≡ Bad code place → (2 ≤ code) × (code ≤ 7)
-write-coded c room code place e =
-    let r = rw e at (seen-coded c room) in
-    (leb-true 2 code (both_left (leb 2 code) (leb code 7) r.coded), leb-true code 7 (both_right (leb 2 code) (leb code 7) r.coded))
+pub write-coded : (c : Command) (room : ℕ) (r : Refusal) → write_seen c room ≡ Err r → (2 ≤ number_of r.code) × (number_of r.code ≤ 7)
+write-coded c room r e =
+    let n = number_of r.code in
+    let x = rw e at (seen-coded c room) in
+    (leb-true 2 n (both_left (leb 2 n) (leb n 7) x.coded), leb-true n 7 (both_right (leb 2 n) (leb n 7) x.coded))
 
--- the answer's code is 0 just where the command is written
-pub wrote-zero : (c : Command) (room n : ℕ) → ((wrote (write_seen c room) n).code ≡ 0) ↔ (write_seen c room ≡ Fine)
-wrote-zero c room n = (go (write_seen c room) refl, λ e. rw e)
+-- the answer is a length just where the command is written
+pub wrote-ok : (c : Command) (room n m : ℕ) → (wrote (write_seen c room) n ≡ Ok m) ↔ ((write_seen c room ≡ Ok tt) × (n ≡ m))
+wrote-ok c room n m = (λ e. let b = both-fine (write_seen c room) (Ok n) m e in (b.0, cc), λ e. rw (e.0, e.1))
+
+-- and the refusal where it is not
+pub wrote-refused : (c : Command) (room n : ℕ) (r : Refusal) → (wrote (write_seen c room) n ≡ Err r) ↔ (write_seen c room ≡ Err r)
+wrote-refused c room n r = (go (write_seen c room), λ e. rw e)
   where
-    go : (x : Seen) → write_seen c room ≡ x → (wrote x n).code ≡ 0 → x ≡ Fine
-    go Fine e z = refl
-    go (Bad code place) e z = absurd (omega (arith, write-coded c room code place e))
+    go : (x : Result (Unit {0}) Refusal) → wrote x n ≡ Err r → x ≡ Err r
+    go (Ok u) e = cc
+    go (Err d) e = cc

@@ -8,7 +8,6 @@ use lib.Dec.{leb, eqb}
 use lib.ListN.{length, get_or}
 use borrow.Author.Tests.{eqb-true, leb-true, le-leb, eq-eqb, ne_eqb}
 use Rattle.text.specs.Parts.{part}
-use Rattle.text.specs.declared.Seen.TheVariants.{Fine}
 use Rattle.text.proofs.Cases.{by_test, by_eq, both_left, both_right}
 use Rattle.lists.specs.Lists.{all_zero, regions_zero}
 use Rattle.section.specs.Layout.{layout_of, table_of, is_empty, numbers}
@@ -30,6 +29,7 @@ use Rattle.command.proofs.Parts.{present, bodies, text_of, body_of, Place, Absen
 use Rattle.command.proofs.Marks.{byte_of, indicators}
 use Rattle.command.proofs.Accepted.{Accepted, rising, sound, marked, spelt, indicators_are, named-present, held-each, downlink-byte}
 use Rattle.command_write.proofs.Writing.{text-first}
+use Rattle.std.specs.Prelude.{Ok}
 
 -- ---- Digits
 
@@ -53,7 +53,7 @@ flags_n zero = []
 flags_n (suc n) = is_flag ∷ flags_n n
 
 -- flags are digits, allowed, and written back
-flags-back : (n place : ℕ) (bs : List ℕ) → passes (flags_n n) bs ≡ true → (digit_bytes (digits_of bs) ≡ bs) × (flags_allowed place (digits_of bs) ≡ Fine)
+flags-back : (n place : ℕ) (bs : List ℕ) → passes (flags_n n) bs ≡ true → (digit_bytes (digits_of bs) ≡ bs) × (flags_allowed place (digits_of bs) ≡ (Ok tt))
 unfolding passes flags_allowed
 flags-back zero place [] e = (refl, refl)
 flags-back zero place (b ∷ bs) e = let z : ◌≡◌ {A = ℕ} 0 1 = cc in absurd (omega arith)
@@ -97,7 +97,7 @@ module _ (k b : ℕ) (some : 1 ≤ k) (i : is_indicator k b ≡ true) where
 
 -- the indicators are allowed and written back
 named_back : (ks : List ℕ) (lo place : ℕ) (g : ℕ → ℕ) → 1 ≤ lo → Rising lo ks → Each (λ k. is_indicator k (g k) ≡ true) ks
-    → (digit_bytes (digits_of (map g ks)) ≡ map g ks) × (named_allowed ks place (digits_of (map g ks)) ≡ Fine)
+    → (digit_bytes (digits_of (map g ks)) ≡ map g ks) × (named_allowed ks place (digits_of (map g ks)) ≡ (Ok tt))
 unfolding named_allowed
 named_back [] lo place g some r i = (refl, refl)
 named_back (k ∷ ks) lo place g some r i =
@@ -123,11 +123,11 @@ module _ (fs : List ℕ) (h : ℕ → List Content) where
 
 -- a section of a record that is fine: allowed where it is named, else zero
 pub record Good (c : Command) (k : ℕ) : Type 0 where
-  pub allowed : names c k ≡ true → (place : ℕ) → contents_allowed (layout_of k) place (contents_of c.settings k) ≡ Fine
+  pub allowed : names c k ≡ true → (place : ℕ) → contents_allowed (layout_of k) place (contents_of c.settings k) ≡ (Ok tt)
   pub unused : names c k ≡ false → are_zero (contents_of c.settings k) ≡ true
 
 -- sections that are fine are allowed
-pub sections-fine : (ks : List ℕ) (place : ℕ) (c : Command) → Each (Good c) ks → sections_allowed ks place c ≡ Fine
+pub sections-fine : (ks : List ℕ) (place : ℕ) (c : Command) → Each (Good c) ks → sections_allowed ks place c ≡ (Ok tt)
 unfolding sections_allowed
 sections-fine [] place c g = refl
 sections-fine (k ∷ ks) place c g =
@@ -241,10 +241,10 @@ module _ (s : List ℕ) (a : Accepted s) where
       × (h k ≡ [] → are_zero (contents_of (settings_from fs h) k) ≡ true))
       (λ k x y. (x, y)) numbers (read_held fs h) (unread_zero fs h)))
 
-  flags-both : (digit_bytes (digits_of (part 5 7 s)) ≡ part 5 7 s) × (flags_allowed 5 (digits_of (part 5 7 s)) ≡ Fine)
+  flags-both : (digit_bytes (digits_of (part 5 7 s)) ≡ part 5 7 s) × (flags_allowed 5 (digits_of (part 5 7 s)) ≡ (Ok tt))
   flags-both = flags-back 7 5 (part 5 7 s) (sound s a).flags
 
-  named-both : (digit_bytes (digits_of (part 13 8 s)) ≡ part 13 8 s) × (named_allowed numbers 13 (digits_of (part 13 8 s)) ≡ Fine)
+  named-both : (digit_bytes (digits_of (part 13 8 s)) ≡ part 13 8 s) × (named_allowed numbers 13 (digits_of (part 13 8 s)) ≡ (Ok tt))
   named-both = rw (indicators s long) (named_back numbers 2 13 (byte_of s) (omega arith) rising (indicators_are s a))
 
   downlink-low : 48 ≤ get_or s 12 0
@@ -254,7 +254,7 @@ module _ (s : List ℕ) (a : Accepted s) where
   downlink-high = let b = get_or s 12 0 in leb-true b 50 (both_right (leb 48 b) (leb b 50) (downlink-byte s a))
 
   -- what is read is allowed
-  pub read-allowed : command_allowed c ≡ Fine
+  pub read-allowed : command_allowed c ≡ (Ok tt)
   unfolding command_allowed command_of settings_from
   read-allowed =
       rw (flags-both.1, le-leb (get_or s 12 0 - 48) 2 (omega (arith, downlink-high)), named-both.1)

@@ -10,7 +10,6 @@ use lib.ListN.{length, get_or}
 use borrow.Author.Tests.{eqb-true, leb-true, le-leb, ne_eqb, not-true}
 use Rattle.text.specs.Checks.{must, ◌and_then◌}
 use Rattle.text.specs.Parts.{part}
-use Rattle.text.specs.declared.Seen.TheVariants.{Fine}
 use Rattle.text.proofs.Cases.{by_test, by_eq, both_left, both_right}
 use Rattle.text.proofs.Checks.{must-held, both-fine}
 use Rattle.section.specs.Layout.{layout_of, table_of, is_empty, numbers}
@@ -35,9 +34,11 @@ use Rattle.command.proofs.Accepted.{accepted, held-each}
 use Rattle.command.proofs.Written.{flags-back, downlink-back, marks-back, bodies-back, text-accepted, text-fine}
 use Rattle.command_write.proofs.Writing.{named-at, head_allowed, allowed_halves, sections-named}
 use Rattle.command_write.proofs.ReadBack.{texts_are, flags_n, read-allowed, read-written}
+use Rattle.std.specs.Prelude.{Ok}
+use Rattle.text.specs.declared.Code.TheVariants.{Disagree, NotAllowed}
 
 -- each accepted text reads to an allowed record that is written back as the same bytes
-pub read-write : (s : List ℕ) → check_command s ≡ Fine → (command_allowed (command_of s) ≡ Fine) × (command_text (command_of s) ≡ s)
+pub read-write : (s : List ℕ) → check_command s ≡ (Ok tt) → (command_allowed (command_of s) ≡ (Ok tt)) × (command_text (command_of s) ≡ s)
 read-write s e = let a = accepted s e in (read-allowed s a, read-written s a)
 
 -- ---- The head of an allowed record
@@ -56,14 +57,14 @@ flag-byte v e =
     (λ (l : leb v 1 ≡ true). absurd (omega (arith, leb-true v 1 l)))
     (λ (l : leb v 1 ≡ false). let n : v ≡ 9 = eqb-true v 9 (rw l at e) in rw n)))
 
-flags_pass : (n place : ℕ) (fs : List ℕ) → length fs ≡ n → flags_allowed place fs ≡ Fine → passes (flags_n n) (digit_bytes fs) ≡ true
+flags_pass : (n place : ℕ) (fs : List ℕ) → length fs ≡ n → flags_allowed place fs ≡ (Ok tt) → passes (flags_n n) (digit_bytes fs) ≡ true
 unfolding passes flags_allowed
 flags_pass zero place [] l e = refl
 flags_pass zero place (v ∷ fs) l e = absurd (omega arith)
 flags_pass (suc n) place [] l e = absurd (omega arith)
 flags_pass (suc n) place (v ∷ fs) l e =
-    let x = both-fine (must (flag_allowed v) 4 place) (flags_allowed (place + 1) fs) e in
-    rw (flag-byte v (must-held (flag_allowed v) 4 place x.0)) (flags_pass n (place + 1) fs (omega arith) x.1)
+    let x = both-fine (must (flag_allowed v) NotAllowed place) (flags_allowed (place + 1) fs) tt e in
+    rw (flag-byte v (must-held (flag_allowed v) NotAllowed place x.0)) (flags_pass n (place + 1) fs (omega arith) x.1)
 
 downlink_pass : (v : ℕ) → v ≤ 2 → is_downlink (48 + v) ≡ true
 downlink_pass v h = rw (le-leb 48 (48 + v) (omega arith), le-leb (48 + v) 50 (omega arith))
@@ -71,7 +72,7 @@ downlink_pass v h = rw (le-leb 48 (48 + v) (omega arith), le-leb (48 + v) 50 (om
 -- ---- A section of an allowed record
 
 -- sections that aren't named are zero
-sections-zero : (ks : List ℕ) (place : ℕ) (c : Command) → sections_allowed ks place c ≡ Fine
+sections-zero : (ks : List ℕ) (place : ℕ) (c : Command) → sections_allowed ks place c ≡ (Ok tt)
     → Each (λ k. names c k ≡ false → are_zero (contents_of c.settings k) ≡ true) ks
 unfolding sections_allowed
 sections-zero [] place c e = tt
@@ -79,11 +80,11 @@ sections-zero (k ∷ ks) place c e =
     let cs = contents_of c.settings k in
     by_test (names c k)
     (λ (n : names c k ≡ true).
-    let x = both-fine (contents_allowed (layout_of k) place cs) (sections_allowed ks (place + length (section_text c k)) c) (rw n at e) in
+    let x = both-fine (contents_allowed (layout_of k) place cs) (sections_allowed ks (place + length (section_text c k)) c) tt (rw n at e) in
     (λ t. let z : true ≡ false = sym n ∙ t in cc, sections-zero ks (place + length (section_text c k)) c x.1))
     (λ (n : names c k ≡ false).
-    let x = both-fine (must (are_zero cs) 7 place) (sections_allowed ks place c) (rw n at e) in
-    (λ t. must-held (are_zero cs) 7 place x.0, sections-zero ks place c x.1))
+    let x = both-fine (must (are_zero cs) Disagree place) (sections_allowed ks place c) tt (rw n at e) in
+    (λ t. must-held (are_zero cs) Disagree place x.0, sections-zero ks place c x.1))
 
 -- the section k, its indicator v, and its text
 pub record Kept (k v : ℕ) (named : Bool) (cs : List Content) : Type 0 where
@@ -112,7 +113,7 @@ none_is k v i n =
     cc)
 
 kept : (k v : ℕ) (cs : List Content) → 1 ≤ k → indicated k v ≡ true → Shaped (layout_of k) cs
-    → (eqb v k ≡ true → contents_allowed (layout_of k) 0 cs ≡ Fine) → Kept k v (eqb v k) cs
+    → (eqb v k ≡ true → contents_allowed (layout_of k) 0 cs ≡ (Ok tt)) → Kept k v (eqb v k) cs
 kept k v cs some i shaped allowed =
     by_test (eqb v k)
     (λ (n : eqb v k ≡ true).
@@ -161,7 +162,7 @@ shaped c full =
       ),
     )
 
-module _ (c : Command) (full : Filled c) (fine : command_allowed c ≡ Fine) where
+module _ (c : Command) (full : Filled c) (fine : command_allowed c ≡ (Ok tt)) where
   abbrev value : ℕ → ℕ
   value k = get_or c.named (k - 2) 0
 
@@ -174,20 +175,20 @@ module _ (c : Command) (full : Filled c) (fine : command_allowed c ≡ Fine) whe
   abbrev parts : Parts
   parts = record { flags = digit_bytes c.settings.flags; downlink = 48 + c.downlink; sections = body }
 
-  halves : (head_allowed c ≡ Fine) × (sections_allowed numbers 22 c ≡ Fine)
-  halves = both-fine (head_allowed c) (sections_allowed numbers 22 c) (rw (allowed_halves c) at fine)
+  halves : (head_allowed c ≡ (Ok tt)) × (sections_allowed numbers 22 c ≡ (Ok tt))
+  halves = both-fine (head_allowed c) (sections_allowed numbers 22 c) tt (rw (allowed_halves c) at fine)
 
-  flags-fine : (flags_allowed 5 c.settings.flags ≡ Fine) × ((must (leb c.downlink 2) 4 12 and_then marks_allowed c) ≡ Fine)
-  flags-fine = both-fine (flags_allowed 5 c.settings.flags) (must (leb c.downlink 2) 4 12 and_then marks_allowed c) halves.0
+  flags-fine : (flags_allowed 5 c.settings.flags ≡ (Ok tt)) × ((must (leb c.downlink 2) NotAllowed 12 and_then marks_allowed c) ≡ (Ok tt))
+  flags-fine = both-fine (flags_allowed 5 c.settings.flags) (must (leb c.downlink 2) NotAllowed 12 and_then marks_allowed c) tt halves.0
 
-  rest-fine : (must (leb c.downlink 2) 4 12 ≡ Fine) × (marks_allowed c ≡ Fine)
-  rest-fine = both-fine (must (leb c.downlink 2) 4 12) (marks_allowed c) flags-fine.1
+  rest-fine : (must (leb c.downlink 2) NotAllowed 12 ≡ (Ok tt)) × (marks_allowed c ≡ (Ok tt))
+  rest-fine = both-fine (must (leb c.downlink 2) NotAllowed 12) (marks_allowed c) tt flags-fine.1
 
-  marks-fine : (named_allowed numbers 13 c.named ≡ Fine) × (must (eqb c.spare 0) 7 21 ≡ Fine)
-  marks-fine = both-fine (named_allowed numbers 13 c.named) (must (eqb c.spare 0) 7 21) rest-fine.1
+  marks-fine : (named_allowed numbers 13 c.named ≡ (Ok tt)) × (must (eqb c.spare 0) Disagree 21 ≡ (Ok tt))
+  marks-fine = both-fine (named_allowed numbers 13 c.named) (must (eqb c.spare 0) Disagree 21) tt rest-fine.1
 
   low : c.downlink ≤ 2
-  low = leb-true c.downlink 2 (must-held (leb c.downlink 2) 4 12 rest-fine.0)
+  low = leb-true c.downlink 2 (must-held (leb c.downlink 2) NotAllowed 12 rest-fine.0)
 
   at : (i : ℕ) → i < 8 → indicated (get_or numbers i 0) (get_or c.named i 0) ≡ true
   at i h = named-at numbers c.named 13 i marks-fine.0 h
@@ -242,7 +243,7 @@ module _ (c : Command) (full : Filled c) (fine : command_allowed c ≡ Fine) whe
   text-is = rw (marks_are_named, ← (texts_are numbers c body (each_same numbers)))
 
   -- the text of an allowed record is accepted
-  pub written-fine : check_command (command_text c) ≡ Fine
+  pub written-fine : check_command (command_text c) ≡ (Ok tt)
   written-fine = rw (← text-is) (text-fine parts sound-parts)
 
   -- what each section of that text holds
@@ -380,8 +381,8 @@ module _ (c : Command) (full : Filled c) (fine : command_allowed c ≡ Fine) whe
   written_read =
       rw (← text-is, settings-back, digit-back, all_named)
       (ap (λ (n : ℕ). record { settings = c.settings; downlink = c.downlink; named = c.named; spare = n })
-      (sym (eqb-true c.spare 0 (must-held (eqb c.spare 0) 7 21 marks-fine.1))))
+      (sym (eqb-true c.spare 0 (must-held (eqb c.spare 0) Disagree 21 marks-fine.1))))
 
 -- the text of an allowed record is accepted, and reads back as that record
-pub write_read : (c : Command) → Filled c → command_allowed c ≡ Fine → (check_command (command_text c) ≡ Fine) × (command_of (command_text c) ≡ c)
+pub write_read : (c : Command) → Filled c → command_allowed c ≡ (Ok tt) → (check_command (command_text c) ≡ (Ok tt)) × (command_of (command_text c) ≡ c)
 write_read c full fine = (written-fine c full fine, written_read c full fine)

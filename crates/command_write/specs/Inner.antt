@@ -1,9 +1,6 @@
 -- What the inner functions of the record's check and of the writer do. No promise to a caller rests on these names.
-use Rattle.std.specs.Prelude.{◌≡◌, true, List, [], ◌∷◌, ◌++◌, ℕ, ◌+◌, ◌-◌, ◌≤◌, eqb, get_or}
-use Rattle.text.specs.declared.Seen.TheVariants.{Fine}
-use Rattle.field.specs.Fields.{after}
-use Rattle.field.specs.declared.Step.{Step}
-use Rattle.field.specs.declared.Step.TheVariants.{Next}
+use Rattle.std.specs.Prelude.{◌≡◌, true, List, [], ◌∷◌, ◌++◌, ℕ, ◌+◌, ◌-◌, ◌≤◌, eqb, get_or, Result, Ok}
+use Rattle.text.specs.Checks.{after}
 use Rattle.section.specs.Layout.{layout_of}
 use Rattle.section.specs.Contents.{contents_allowed}
 use Rattle.settings.specs.Settings.{contents_of, fixed_hold}
@@ -12,18 +9,19 @@ use Rattle.settings.specs.declared.Fixed.{Fixed}
 use Rattle.command.specs.Text.{awr04}
 use Rattle.command.specs.Record.{digit_bytes, names}
 use Rattle.command.specs.declared.Command.{Command}
+use Rattle.text.specs.declared.Refusal.{Refusal}
 
 -- ---- The record's own check, section by section
 
 -- the sections ks, one after the other: where what follows them would begin, or the first refusal
-unfoldable pub pass_sections : List ℕ → ℕ → Command → Step
-pass_sections [] at c = Next at
+unfoldable pub pass_sections : List ℕ → ℕ → Command → Result ℕ Refusal
+pass_sections [] at c = Ok at
 pass_sections (k ∷ ks) at c =
     after (pass_section (names c k) k at (contents_of c.settings k)) (λ (p : ℕ). pass_sections ks p c)
 
 -- the same for sections of numbers, by their own part of the record and the indicators
-unfoldable pub pass_numbered : List ℕ → ℕ → Fixed → List ℕ → Step
-pass_numbered [] at x named = Next at
+unfoldable pub pass_numbered : List ℕ → ℕ → Fixed → List ℕ → Result ℕ Refusal
+pass_numbered [] at x named = Ok at
 pass_numbered (k ∷ ks) at x named =
     after (pass_section (eqb (get_or named (k - 2) 0) k) k at (fixed_hold x k)) (λ (p : ℕ). pass_numbered ks p x named)
 
@@ -43,7 +41,7 @@ head_text c =
 abbrev pub AllNamed : List ℕ → Command → Type 0
 AllNamed [] c = Unit
 AllNamed (k ∷ ks) c =
-    (names c k ≡ true → contents_allowed (layout_of k) 0 (contents_of c.settings k) ≡ Fine) × AllNamed ks c
+    (names c k ≡ true → contents_allowed (layout_of k) 0 (contents_of c.settings k) ≡ (Ok tt)) × AllNamed ks c
 
 -- values that a digit spells
 abbrev pub Digits : List ℕ → Type 0

@@ -1,10 +1,8 @@
 -- What writing answers.
-use Rattle.std.specs.Prelude.{ℕ}
-use Rattle.text.specs.declared.Seen.{Seen}
-use Rattle.text.specs.declared.Seen.TheVariants.{Fine, Bad}
-use Rattle.command_write.specs.declared.Wrote.{Wrote}
+use Rattle.std.specs.Prelude.{ℕ, Result, Ok}
+use Rattle.text.specs.Checks.{◌and_then◌}
+use Rattle.text.specs.declared.Refusal.{Refusal}
 
--- the numbers of the answer: a refusal carries no length
-abbrev pub wrote : Seen → ℕ → Wrote
-wrote Fine n = record { code = 0; place = 0; length = n }
-wrote (Bad code place) n = record { code = code; place = place; length = 0 }
+-- the text's length where nothing is refused
+abbrev pub wrote : Result (Unit {0}) Refusal → ℕ → Result ℕ Refusal
+wrote seen n = seen and_then Ok n

@@ -1,7 +1,6 @@
 // Writing a command: the record is checked first, then the room, and only then is a byte written.
-ghost use Rattle.std.specs.Prelude.{◌≡◌, ◌∷◌, [], ◌++◌, ◌+◌, ◌≤◌, length, drop};
+ghost use Rattle.std.specs.Prelude.{◌≡◌, ◌∷◌, [], ◌++◌, ◌+◌, ◌≤◌, length, drop, Ok};
 ghost use Rattle.text.specs.Over.{over};
-ghost use Rattle.text.specs.declared.Seen.TheVariants.{Fine};
 ghost use Rattle.section.specs.Layout.{numbers};
 ghost use Rattle.section.specs.Inner.{going_on};
 ghost use Rattle.command.specs.Text.{awr04};
@@ -9,16 +8,14 @@ ghost use Rattle.command.specs.Record.{digit_bytes, sections_text, command_text,
 ghost use Rattle.command_write.specs.Writing.{wrote};
 ghost use Rattle.command_write.specs.Inner.{numbered_text, head_text, AllNamed, Digits};
 
-use crate::Wrote;
 use crate::record::pass_record;
 use command::Command;
-use field::Step;
 use field::record::wide;
 use settings::Fixed;
 use settings::numbers::{fixed_of, put_fixed};
 use settings::section2::put_named_regions;
 use settings::section3::put_named_airports;
-use text::copy;
+use text::{Code, Refusal, copy};
 
 // `AWR04`, one fixed group.
 fn put_awr04(d: &mut [u8])
@@ -33,10 +30,8 @@ fn put_digits(values: &[u8], d: &mut [u8])
     requires { (length values.now ≤ length d.old) × Digits values.now }
     ensures { d.new ≡ over d.old 0 (digit_bytes values.now) }
 {
-    let mut i = 0;
-    while i < values.len() {
-        d[i] = b'0' + values[i];
-        i += 1;
+    for (i, &v) in values.iter().enumerate() {
+        d[i] = b'0' + v;
     }
 }
 
@@ -64,11 +59,8 @@ fn put_head(c: Command, d: &mut [u8])
     requires { (22 ≤ length d.old) × Digits c.settings.flags × (c.downlink ≤ 9) × Digits c.named }
     ensures { d.new ≡ over d.old 0 (head_text c) }
 {
-    let settings = c.settings;
-    let flags = settings.flags;
-    let named = c.named;
-    put_flags(flags, &mut d[0..12]);
-    put_indicators(c.downlink, named, &mut d[12..22]);
+    put_flags(c.settings.flags, &mut d[0..12]);
+    put_indicators(c.downlink, c.named, &mut d[12..22]);
 }
 
 // Sections 2 and 3, those that are named.
@@ -76,12 +68,8 @@ fn put_lists(c: Command, d: &mut [u8]) -> usize
     requires { AllNamed (2 ∷ 3 ∷ []) c × (length (sections_text (2 ∷ 3 ∷ []) c) ≤ length d.old) }
     ensures { (result ≡ length (sections_text (2 ∷ 3 ∷ []) c)) × (d.new ≡ over d.old 0 (sections_text (2 ∷ 3 ∷ []) c)) }
 {
-    let settings = c.settings;
-    let named = c.named;
-    let regions = settings.regions;
-    let airports = settings.airports;
-    let at = put_named_regions(named[0] == 2, regions, d);
-    let n = put_named_airports(named[1] == 3, airports, &mut d[at..]);
+    let at = put_named_regions(c.named[0] == 2, c.settings.regions, d);
+    let n = put_named_airports(c.named[1] == 3, c.settings.airports, &mut d[at..]);
     at + n
 }
 
@@ -91,10 +79,8 @@ fn put_numbered(x: Fixed, named: [u8; 8], d: &mut [u8]) -> usize
     ensures { (result ≡ length (numbered_text (drop 2 numbers) x named)) × (d.new ≡ over d.old 0 (numbered_text (drop 2 numbers) x named)) }
 {
     let mut at = 0;
-    let mut k: usize = 4;
-    while k < 10 {
+    for k in 4..10 {
         at += put_fixed(wide(named[k - 2]) == k, x, k, &mut d[at..]);
-        k += 1;
     }
     at
 }
@@ -105,16 +91,14 @@ fn put_sections(c: Command, d: &mut [u8]) -> usize
     ensures { (result ≡ length (sections_text numbers c))
         × (d.new ≡ over d.old 0 (sections_text numbers c)) }
 {
-    let named = c.named;
-    let fixed = fixed_of(c.settings);
     let at = put_lists(c, d);
-    let n = put_numbered(fixed, named, &mut d[at..]);
+    let n = put_numbered(fixed_of(c.settings), c.named, &mut d[at..]);
     at + n
 }
 
 // The whole command at the start of the buffer: the head, then the sections; the answer is how many bytes that is.
 fn put(c: Command, d: &mut [u8]) -> usize
-    requires { (command_allowed c ≡ Fine) × (length (command_text c) ≤ length d.old) }
+    requires { (command_allowed c ≡ Ok tt) × (length (command_text c) ≤ length d.old) }
     ensures { (result ≡ length (command_text c)) × (d.new ≡ over d.old 0 (command_text c)) }
 {
     put_head(c, d);
@@ -123,38 +107,21 @@ fn put(c: Command, d: &mut [u8]) -> usize
 }
 
 // The record, then the room.
-fn pass_room(c: Command, room: usize) -> Step
+fn pass_room(c: Command, room: usize) -> Result<usize, Refusal>
     ensures { result ≡ going_on (write_seen c room) (length (command_text c)) }
 {
-    match pass_record(c) {
-        Step::Stop(code, place) => Step::Stop(code, place),
-        Step::Next(n) => {
-            if room < n {
-                return Step::Stop(2, 0);
-            }
-            Step::Next(n)
-        }
+    let n = pass_record(c)?;
+    if room < n {
+        return Err(Code::NoRoom.at(0));
     }
+    Ok(n)
 }
 
-// A command at the start of what is lent, or nothing and the refusal's code and place.
-pub fn write(c: Command, out: &mut [u8]) -> Wrote
+// A command at the start of what is lent, and how long its text is; or the refusal, and nothing is written.
+pub fn write(c: Command, out: &mut [u8]) -> Result<usize, Refusal>
     ensures { (result ≡ wrote (write_seen c (length out.old)) (length (command_text c)))
         × (out.new ≡ left_by (write_seen c (length out.old)) (command_text c) out.old) }
 {
-    match pass_room(c, out.len()) {
-        Step::Stop(code, place) => Wrote {
-            code,
-            place,
-            length: 0,
-        },
-        Step::Next(_) => {
-            let length = put(c, out);
-            Wrote {
-                code: 0,
-                place: 0,
-                length,
-            }
-        }
-    }
+    pass_room(c, out.len())?;
+    Ok(put(c, out))
 }

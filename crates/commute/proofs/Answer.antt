@@ -9,25 +9,29 @@ use lib.Dec.{eqb, leb}
 use lib.ListN.{length}
 use borrow.Author.Tests.{eqb-true, eq-eqb, le-leb}
 use Rattle.text.specs.Equal.{same_bytes}
-use Rattle.text.specs.declared.Seen.{Seen}
-use Rattle.text.specs.declared.Seen.TheVariants.{Fine, Bad}
 use Rattle.section.specs.Layout.{numbers}
 use Rattle.command.specs.Text.{is_named, longest, check_command}
 use Rattle.command.specs.Sections.{bytes_of, held_in}
 use Rattle.command.proofs.Each.{Each}
 use Rattle.command.proofs.Accepted.{accepted}
 use Rattle.command.proofs.Standing.{one-most}
-use Rattle.join.specs.Join.{Joined, Joins, Refuses, join_text, join}
+use Rattle.join.specs.Join.{join_text, join}
 use Rattle.join.specs.Join as J
+use Rattle.join.specs.declared.Fault.{Fault as JoinFault}
+use Rattle.join.specs.declared.Fault.TheVariants.{First as JoinFirst, Second as JoinSecond, Room}
 use Rattle.join.proofs.Laws.{join-short}
-use Rattle.commute.specs.Commute.{sets, flag_of, flag_apart, section_apart, flag_numbers, bits_of, bit, by_seen, compared}
+use Rattle.commute.specs.Commute.{sets, flag_of, flag_apart, section_apart, flag_numbers, bits_of, bit, all_apart, by_seen, compared}
 use Rattle.commute.specs.Order.{EitherWay, Agree}
-use Rattle.commute.specs.declared.Compared.TheVariants.{Apart, Refused}
+use Rattle.commute.specs.declared.Apart.{Apart}
+use Rattle.commute.specs.declared.Fault.{Fault}
+use Rattle.commute.specs.declared.Fault.TheVariants.{First, Second}
 use Rattle.commute.proofs.Numbered.{each_of, each_in, one-behind, of_number, each_number}
 use Rattle.commute.proofs.Same.{same_contents_lem}
 use Rattle.commute.proofs.Order.{either_way}
 use Rattle.commute.proofs.Bits.{bit_is, bits_under, none_bits, bits_none}
 use Rattle.commute.proofs.Turns.{flag_at, flags-next, section-at}
+use Rattle.std.specs.Prelude.{Result, Ok, Err}
+use Rattle.text.specs.declared.Refusal.{Refusal}
 
 -- ---- The test of one flag or section: both set it, and not the same
 
@@ -83,7 +87,7 @@ each-flag P f = each_in P flag_numbers (λ i o. f i (omega (arith, one-most 6 fl
 
 -- ---- Two accepted texts
 
-module _ (a b : List ℕ) (x : check_command a ≡ Fine) (y : check_command b ≡ Fine) where
+module _ (a b : List ℕ) (x : check_command a ≡ (Ok tt)) (y : check_command b ≡ (Ok tt)) where
   abbrev flags : ℕ
   flags = bits_of (flag_apart a b) flag_numbers
 
@@ -91,7 +95,7 @@ module _ (a b : List ℕ) (x : check_command a ≡ Fine) (y : check_command b �
   sections = bits_of (section_apart a b) numbers
 
   -- the answer is what both set differently
-  pub compared_is : compared a b ≡ Apart flags sections
+  pub compared_is : compared a b ≡ Ok (all_apart a b)
   unfolding compared
   compared_is = rw (x, y)
 
@@ -154,31 +158,48 @@ module _ (a b : List ℕ) (x : check_command a ≡ Fine) (y : check_command b �
   )
 
   -- so the answer says yes exactly there
-  pub yes-is : (compared a b ≡ Apart 0 0) ↔ EitherWay a b
+  pub yes-is : (compared a b ≡ Ok (record { flags = 0; sections = 0 })) ↔ EitherWay a b
   yes-is = (
-    λ e. none_either.0 (zeros flags sections (sym compared_is ∙ e)),
+    λ e. none_either.0 (zeros (all_apart a b) (sym compared_is ∙ e)),
     λ h. let z = none_either.1 h in compared_is ∙ rw (z.0, z.1),
   )
     where
-      zeros : (f s : ℕ) → Apart f s ≡ Apart 0 0 → (f ≡ 0) × (s ≡ 0)
-      zeros f s e = (cc, cc)
+      zeros : (x : Apart) → ◌≡◌ {A = Result Apart Fault} (Ok x) (Ok (record { flags = 0; sections = 0 })) → (x.flags ≡ 0) × (x.sections ≡ 0)
+      zeros x e = let z : x ≡ record { flags = 0; sections = 0 } = cc in (ap (λ (y : Apart). y.flags) z, ap (λ (y : Apart). y.sections) z)
 
 -- ---- Refusals
 
--- those of a join with room enough, and no others
-pub refuses_as_join : (a b : List ℕ) (room c p n : ℕ) → longest ≤ room → (compared a b ≡ Refused c p n) ↔ (join a b room ≡ Refuses c p n)
-unfolding compared join
-refuses_as_join a b room c p n l = go (check_command a) (check_command b) refl refl
-  where
-    fits : check_command a ≡ Fine → check_command b ≡ Fine → leb (length (join_text a b)) room ≡ true
-    fits x y = le-leb (length (join_text a b)) room (omega (arith, l, join-short a b x y))
+-- a join's words for the same
+abbrev pub as_join : Fault → JoinFault
+as_join (First r) = JoinFirst r
+as_join (Second r) = JoinSecond r
 
-    go : (x y : Seen) → check_command a ≡ x → check_command b ≡ y
-        → (by_seen x y (Apart (bits_of (flag_apart a b) flag_numbers) (bits_of (section_apart a b) numbers)) ≡ Refused c p n)
-        ↔ (J.by_seen x y (join_text a b) room ≡ Refuses c p n)
-    go (Bad d q) y e f = (λ h. cc, λ h. cc)
-    go Fine (Bad d q) e f = (λ h. cc, λ h. cc)
-    go Fine Fine e f = (
-      λ h. let w : ◌≡◌ {A = ℕ} 0 1 = cc in absurd (omega arith),
-      λ h. let k : Joins (join_text a b) ≡ Refuses c p n = rw (fits e f) at h in let w : ◌≡◌ {A = ℕ} 0 1 = cc in absurd (omega arith),
-    )
+module _ (a b : List ℕ) (room : ℕ) (l : longest ≤ room) where
+  fits : check_command a ≡ Ok tt → check_command b ≡ Ok tt → leb (length (join_text a b)) room ≡ true
+  fits x y = le-leb (length (join_text a b)) room (omega (arith, l, join-short a b x y))
+
+  -- those of a join with room enough
+  pub refuses_as_join : (f : Fault) → (compared a b ≡ Err f) ↔ (join a b room ≡ Err (as_join f))
+  unfolding compared join
+  refuses_as_join f = go f (check_command a) (check_command b) refl refl
+    where
+      go : (f : Fault) (x y : Result (Unit {0}) Refusal) → check_command a ≡ x → check_command b ≡ y
+          → (by_seen x y (all_apart a b) ≡ Err f) ↔ (J.by_seen x y (join_text a b) room ≡ Err (as_join f))
+      go (First r) (Err d) y e g = (λ h. cc, λ h. cc)
+      go (Second r) (Err d) y e g = (λ h. cc, λ h. cc)
+      go (First r) (Ok u) (Err d) e g = (λ h. cc, λ h. cc)
+      go (Second r) (Ok u) (Err d) e g = (λ h. cc, λ h. cc)
+      go f (Ok u) (Ok v) e g = (
+        λ h. cc,
+        λ h. let k : ◌≡◌ {A = J.Joined} (Ok (join_text a b)) (Err (as_join f)) = rw (fits e g) at h in cc,
+      )
+
+  -- and no others: there is room
+  pub joins_in_room : ¬ (join a b room ≡ Err Room)
+  unfolding join
+  joins_in_room = go (check_command a) (check_command b) refl refl
+    where
+      go : (x y : Result (Unit {0}) Refusal) → check_command a ≡ x → check_command b ≡ y → ¬ (J.by_seen x y (join_text a b) room ≡ Err Room)
+      go (Err r) y e g h = cc
+      go (Ok u) (Err r) e g h = cc
+      go (Ok u) (Ok v) e g h = let k : ◌≡◌ {A = J.Joined} (Ok (join_text a b)) (Err Room) = rw (fits e g) at h in cc

@@ -6,6 +6,7 @@ use Prim.Native.Nat.{ℕ, zero, suc, ◌+◌, ◌*◌, ◌/◌, ◌%◌, ◌^◌
 use native.Mathlib.Omega.{arith}
 use native.Mathlib.Nat.{pow-zero, pow-succ', two-pow-succ, pow-le-pow_right, div-one, div-div-eq-div-mul}
 use lib.Dec.{lit<}
+use mir.Val.{bool_byte}
 use lib.ListN.{length, get_or}
 use Rattle.command.proofs.Each.{Each}
 use Rattle.commute.specs.Commute.{bits_of, bit}
@@ -28,6 +29,11 @@ bit_is test (k ∷ ks) (suc i) h =
     ∙ ap (λ (m : ℕ). m % 2) (sym (div-div-eq-div-mul n 2 (2 ^ i)))
     ∙ ap (λ (m : ℕ). m / 2 ^ i % 2) (one_bit (bits_of test ks) (test k)).1
     ∙ bit_is test ks i (omega arith)
+
+-- a test as a byte
+pub byte_is : (t : Bool) → bool_byte t ≡ cond t 1 0
+byte_is true = refl
+byte_is false = refl
 
 -- a bit is 0 or 1
 pub bit-most : (t : Bool) → cond t 1 0 ≤ 1

@@ -10,7 +10,6 @@ use lib.Dec.{eqb}
 use lib.ListN.{length, get_or}
 use borrow.Author.Tests.{eqb-true, not-true}
 use Rattle.text.specs.Parts.{part}
-use Rattle.text.specs.declared.Seen.TheVariants.{Fine}
 use Rattle.text.proofs.Cases.{by_test}
 use Rattle.field.proofs.Local.{part-byte}
 use Rattle.section.specs.Layout.{numbers}
@@ -34,6 +33,7 @@ use Rattle.commute.specs.Commute.{sets, flag_of}
 use Rattle.commute.specs.Order.{EitherWay, Agree}
 use Rattle.commute.proofs.Numbered.{of_number, each_number}
 use Rattle.commute.proofs.Same.{some-named, held_bytes}
+use Rattle.std.specs.Prelude.{Ok}
 
 -- ---- At one place
 
@@ -105,7 +105,7 @@ seven : (s : List ℕ) → length (apply_to reset s).flags ≡ 7
 unfolding reset settings_from
 seven s = flags-length reset s
 
-module _ (a b : List ℕ) (x : check_command a ≡ Fine) (y : check_command b ≡ Fine) where
+module _ (a b : List ℕ) (x : check_command a ≡ (Ok tt)) (y : check_command b ≡ (Ok tt)) where
   abbrev A : Accepted a
   A = accepted a x
 

@@ -1,13 +1,13 @@
 -- Document 02, §12: which flags and sections two commands set differently. The call's answer.
-use Rattle.std.specs.Prelude.{Bool, cond, ◌&&◌, not, List, [], ◌∷◌, ℕ, ◌+◌, ◌*◌, ◌/◌, ◌%◌, ◌^◌, eqb, get_or}
+use Rattle.std.specs.Prelude.{Bool, cond, ◌&&◌, not, List, [], ◌∷◌, ℕ, ◌+◌, ◌*◌, ◌/◌, ◌%◌, ◌^◌, eqb, get_or, Result, Ok, Err}
 use Rattle.text.specs.Equal.{same_bytes}
-use Rattle.text.specs.declared.Seen.{Seen}
-use Rattle.text.specs.declared.Seen.TheVariants.{Fine, Bad}
 use Rattle.section.specs.Layout.{numbers}
 use Rattle.command.specs.Text.{is_named, check_command}
 use Rattle.command.specs.Sections.{bytes_of}
-use Rattle.commute.specs.declared.Compared.{Compared}
-use Rattle.commute.specs.declared.Compared.TheVariants.{Apart, Refused}
+use Rattle.commute.specs.declared.Apart.{Apart}
+use Rattle.commute.specs.declared.Fault.{Fault}
+use Rattle.commute.specs.declared.Fault.TheVariants.{First, Second}
+use Rattle.text.specs.declared.Refusal.{Refusal}
 
 -- ---- "each flag and section that both set"
 
@@ -44,14 +44,16 @@ bits_of test (k ∷ ks) = 2 * bits_of test ks + cond (test k) 1 0
 abbrev pub bit : ℕ → ℕ → ℕ
 bit i n = n / 2 ^ i % 2
 
+-- the flags and the sections that two texts set differently
+abbrev pub all_apart : List ℕ → List ℕ → Apart
+all_apart a b = record { flags = bits_of (flag_apart a b) flag_numbers; sections = bits_of (section_apart a b) numbers }
+
 -- ---- The answer: the first text's refusals, then the second's
 
-abbrev pub by_seen : Seen → Seen → Compared → Compared
-by_seen (Bad c p) y r = Refused c p 1
-by_seen Fine (Bad c p) r = Refused c p 2
-by_seen Fine Fine r = r
+abbrev pub by_seen : Result (Unit {0}) Refusal → Result (Unit {0}) Refusal → Apart → Result Apart Fault
+by_seen (Err r) y x = Err (First r)
+by_seen (Ok u) (Err r) x = Err (Second r)
+by_seen (Ok u) (Ok v) x = Ok x
 
-unfoldable pub compared : List ℕ → List ℕ → Compared
-compared a b =
-    by_seen (check_command a) (check_command b)
-    (Apart (bits_of (flag_apart a b) flag_numbers) (bits_of (section_apart a b) numbers))
+unfoldable pub compared : List ℕ → List ℕ → Result Apart Fault
+compared a b = by_seen (check_command a) (check_command b) (all_apart a b)

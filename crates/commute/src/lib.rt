@@ -1,29 +1,27 @@
 // When two commands may be sent either way round: which flags and sections both set, and differently.
 #![tactic(auto)]
 
-ghost use Rattle.std.specs.Prelude.{◌≡◌, cond, ◌&&◌, ◌≤◌, length};
+ghost use Rattle.std.specs.Prelude.{◌≡◌, ◌≤◌, length};
 ghost use Rattle.section.specs.Layout.{numbers};
-ghost use Rattle.command.specs.Text.{is_named};
-ghost use Rattle.join.specs.Inner.{Walked};
+ghost use Rattle.join.specs.Inner.{IsWalked};
 ghost use Rattle.commute.specs.Commute.{apart, flag_apart, section_apart, flag_numbers, bits_of, compared};
 
-use command::check::{is_named, walk};
-use text::{Seen, same_bytes};
+use command::check::walk;
+use join::walked::Walked;
+use text::{Refusal, same_bytes};
 
-// The flags and the sections that both set differently, a bit for each, or the refusal's code and place and which text is at fault.
-#[derive(Clone, Copy)]
-pub enum Compared {
-    Apart(u8, u8),
-    Refused(u8, usize, u8),
+// The flags and the sections that both set differently, a bit for each.
+#[derive(Clone, Copy, Debug, PartialEq, Eq)]
+pub struct Apart {
+    pub flags: u8,
+    pub sections: u8,
 }
 
-fn one_if(t: bool) -> u8
-    ensures { result ≡ cond t 1 0 }
-{
-    if t {
-        return 1;
-    }
-    0
+// What refuses the first text, or the second.
+#[derive(Clone, Copy, Debug, PartialEq, Eq)]
+pub enum Fault {
+    First(Refusal),
+    Second(Refusal),
 }
 
 // Whether both set a flag, and differently. A flag `9` sets none.
@@ -38,70 +36,49 @@ fn flags_apart(a: &[u8], b: &[u8]) -> u8
     requires { (22 ≤ length a.now) × (22 ≤ length b.now) }
     ensures { result ≡ bits_of (flag_apart a.now b.now) flag_numbers }
 {
-    let mut i: usize = 7;
     let mut bits: u8 = 0;
-    while 0 < i {
-        i -= 1;
-        let one = one_if(is_apart(a[5 + i], b[5 + i]));
-        bits = 2 * bits + one;
+    for i in (0..7).rev() {
+        bits = 2 * bits + u8::from(is_apart(a[5 + i], b[5 + i]));
     }
     bits
 }
 
-fn both_name(k: usize, a: &[u8], b: &[u8]) -> bool
-    requires { (k ≤ 9) × (22 ≤ length a.now) × (22 ≤ length b.now) }
-    ensures { result ≡ (is_named a.now k && is_named b.now k) }
-{
-    is_named(a, k) & is_named(b, k)
-}
-
 // Whether both name section k, and with other bytes.
-fn is_section_apart(k: usize, a: &[u8], pa: [usize; 11], b: &[u8], pb: [usize; 11]) -> bool
-    requires { (2 ≤ k) × (k ≤ 9) × Walked a.now pa × Walked b.now pb }
-    ensures { result ≡ section_apart a.now b.now k }
+fn is_section_apart<'a>(k: usize, a: &Walked<'a>, b: &Walked<'a>) -> bool
+    requires { (2 ≤ k) × (k ≤ 9) × IsWalked a.now × IsWalked b.now }
+    ensures { result ≡ section_apart a.now.text.now b.now.text.now k }
 {
-    if !both_name(k, a, b) {
-        return false;
-    }
-    let at = pa[k];
-    let end = pa[k + 1];
-    let from = pb[k];
-    let to = pb[k + 1];
-    !same_bytes(&a[at..end], &b[from..to])
+    a.is_named(k) && b.is_named(k) && !same_bytes(a.section(k), b.section(k))
 }
 
 // The sections that both set differently, the last of them first.
-fn sections_apart(a: &[u8], pa: [usize; 11], b: &[u8], pb: [usize; 11]) -> u8
-    requires { Walked a.now pa × Walked b.now pb }
-    ensures { result ≡ bits_of (section_apart a.now b.now) numbers }
+fn sections_apart<'a>(a: &Walked<'a>, b: &Walked<'a>) -> u8
+    requires { IsWalked a.now × IsWalked b.now }
+    ensures { result ≡ bits_of (section_apart a.now.text.now b.now.text.now) numbers }
 {
-    let mut k: usize = 10;
     let mut bits: u8 = 0;
-    while 2 < k {
-        k -= 1;
-        let one = one_if(is_section_apart(k, a, pa, b, pb));
-        bits = 2 * bits + one;
+    for k in (2..10).rev() {
+        bits = 2 * bits + u8::from(is_section_apart(k, a, b));
     }
     bits
 }
 
 // The first text's refusals, then the second's. Each text is gone through once: its check notes where its sections stand.
-pub fn compare(a: &[u8], b: &[u8]) -> Compared
+pub fn compare(a: &[u8], b: &[u8]) -> Result<Apart, Fault>
     ensures { result ≡ compared a.now b.now }
 {
-    let mut pa: [usize; 11] = [0; 11];
-    match walk(a, &mut pa) {
-        Seen::Bad(code, place) => {
-            return Compared::Refused(code, place, 1);
-        }
-        Seen::Fine => {}
-    }
-    let mut pb: [usize; 11] = [0; 11];
-    match walk(b, &mut pb) {
-        Seen::Bad(code, place) => {
-            return Compared::Refused(code, place, 2);
-        }
-        Seen::Fine => {}
-    }
-    Compared::Apart(flags_apart(a, b), sections_apart(a, pa, b, pb))
+    let mut first = Walked {
+        text: a,
+        places: [0; 11],
+    };
+    walk(a, &mut first.places).map_err(Fault::First)?;
+    let mut second = Walked {
+        text: b,
+        places: [0; 11],
+    };
+    walk(b, &mut second.places).map_err(Fault::Second)?;
+    Ok(Apart {
+        flags: flags_apart(a, b),
+        sections: sections_apart(&first, &second),
+    })
 }

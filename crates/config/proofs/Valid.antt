@@ -9,7 +9,6 @@ use lib.ListN.{length, replicate}
 use borrow.Author.Tests.{eqb-true}
 use Rattle.text.specs.Checks.{is_fine}
 use Rattle.text.specs.Parts.{part}
-use Rattle.text.specs.declared.Seen.TheVariants.{Fine}
 use Rattle.text.proofs.Cases.{by_test, both_left, both_right}
 use Rattle.section.specs.Layout.{layout_of, table_of, numbers}
 use Rattle.section.specs.Contents.{Content, contents_at, contents_allowed}
@@ -27,6 +26,7 @@ use Rattle.command.proofs.Accepted.{accepted, sound}
 use Rattle.config.specs.Config.{new_flag, new_flags, apply_to}
 use Rattle.settings.specs.Valid.{flags_valid, sections_valid, valid, reset}
 use Rattle.config.proofs.Apply.{set_by, section-own, flags-own}
+use Rattle.std.specs.Prelude.{Ok}
 
 -- ---- Flags
 
@@ -82,7 +82,7 @@ set-valid k b old h (Present some own) =
 -- ---- The whole
 
 -- what a valid configuration becomes under an accepted command is valid
-pub applies_valid : (x : Settings) (s : List ℕ) → valid x ≡ true → check_command s ≡ Fine → valid (apply_to x s) ≡ true
+pub applies_valid : (x : Settings) (s : List ℕ) → valid x ≡ true → check_command s ≡ Ok tt → valid (apply_to x s) ≡ true
 unfolding valid
 applies_valid x s h e =
     let a = accepted s e in

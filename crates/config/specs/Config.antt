@@ -1,14 +1,15 @@
 -- Document 01, "The command": what applying a command does to the configuration.
-use Rattle.std.specs.Prelude.{cond, List, [], ◌∷◌, ℕ, eqb}
-use Rattle.text.specs.declared.Seen.{Seen}
-use Rattle.text.specs.declared.Seen.TheVariants.{Fine, Bad}
+use Rattle.std.specs.Prelude.{cond, List, [], ◌∷◌, ℕ, eqb, Result, Ok, Err}
+use Rattle.text.specs.Checks.{must, ◌and_then◌}
 use Rattle.settings.specs.Settings.{contents_of, settings_from}
-use Rattle.settings.specs.Valid.{valid, no_settings}
+use Rattle.settings.specs.Valid.{valid}
 use Rattle.settings.specs.declared.Settings.{Settings}
 use Rattle.command.specs.Text.{is_named, check_command}
 use Rattle.command.specs.Sections.{held_in}
 use Rattle.command.specs.Record.{flags_of, downlink_of}
 use Rattle.config.specs.declared.Applied.{Applied}
+use Rattle.text.specs.declared.Refusal.{Refusal}
+use Rattle.text.specs.declared.Code.TheVariants.{SettingsInvalid}
 
 -- ---- Applying sets every flag that isn't 9 and replaces each named section whole; nothing else changes
 
@@ -24,22 +25,18 @@ unfoldable pub apply_to : Settings → List ℕ → Settings
 apply_to x s =
     settings_from (new_flags x.flags (flags_of s)) (λ (k : ℕ). cond (is_named s k) (held_in s k) (contents_of x k))
 
--- ---- The answer: 12, then the command's own refusals
+-- ---- The answer: a configuration that isn't valid is refused, then come the command's own refusals
 
-abbrev pub refused : ℕ → ℕ → Applied
-refused c p = record { code = c; place = p; downlink = 0; settings = no_settings }
+abbrev pub outcome : Settings → List ℕ → Applied
+outcome x s = record { downlink = downlink_of s; settings = apply_to x s }
 
-abbrev pub on_seen : Seen → Settings → List ℕ → Applied
-on_seen Fine x s = record { code = 0; place = 0; downlink = downlink_of s; settings = apply_to x s }
-on_seen (Bad code place) x s = refused code place
-
-unfoldable pub applied : Settings → List ℕ → Applied
-applied x s = cond (valid x) (on_seen (check_command s) x s) (refused 12 0)
+unfoldable pub applied : Settings → List ℕ → Result Applied Refusal
+applied x s = must (valid x) SettingsInvalid 0 and_then check_command s and_then Ok (outcome x s)
 
 -- what the caller's own record holds afterwards
-abbrev pub kept_by : Seen → Settings → List ℕ → Settings
-kept_by Fine x s = apply_to x s
-kept_by (Bad code place) x s = x
+abbrev pub kept_by : Result (Unit {0}) Refusal → Settings → List ℕ → Settings
+kept_by (Ok u) x s = apply_to x s
+kept_by (Err r) x s = x
 
 unfoldable pub kept : Settings → List ℕ → Settings
 kept x s = cond (valid x) (kept_by (check_command s) x s) x

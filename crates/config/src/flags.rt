@@ -6,12 +6,10 @@ ghost use Rattle.config.specs.Config.{new_flag, new_flags};
 fn new_flag(old: u8, v: u8) -> u8
     ensures { result ≡ new_flag old v }
 {
-    if v == 9 {
-        return old;
-    }
-    v
+    if v == 9 { old } else { v }
 }
 
+#[tactic(auto, using(crate::proofs::Seven::new_seven))]
 pub fn new_flags(old: [u8; 7], vs: [u8; 7]) -> [u8; 7]
     ensures { result ≡ new_flags old vs }
 {

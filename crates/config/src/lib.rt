@@ -6,12 +6,9 @@ pub mod flags;
 
 use settings::Settings;
 
-// What applying a command gives: the downlink digit that it asks for and the settings afterwards, or the refusal's code
-// and place beside the one empty digit and settings.
+// What applying a command gives: the downlink digit that it asks for and the settings afterwards.
 #[derive(Clone, Copy)]
 pub struct Applied {
-    pub code: u8,
-    pub place: usize,
     pub downlink: u8,
     pub settings: Settings,
 }

@@ -20,8 +20,10 @@ use Rattle.settings.specs.Valid.{reset_holds, reset, flags_valid, sections_valid
 use Rattle.decide.specs.Question.{Question}
 use Rattle.decide.specs.Tests.{holds, first_from, has_airfield}
 use Rattle.decide.specs.Reason.{inhibiting_box, no_reporting_box, scheme_reason, phase_reason, reason_for, explained, decided}
-use Rattle.decide.specs.declared.Decided.{Decided}
-use Rattle.decide.specs.declared.Decided.TheVariants.{Is, Refused}
+use Rattle.std.specs.Prelude.{Result, Ok, Err}
+use Rattle.text.specs.declared.Code.{Code}
+use Rattle.text.specs.declared.Code.TheVariants.{NotAllowed, OutOfRange, SettingsInvalid}
+use Rattle.decide.specs.declared.Decision.{Decision}
 use Rattle.decide.specs.declared.Decision.TheVariants.{Silent, Routine, Scheme}
 
 -- ---- Configurations
@@ -102,35 +104,35 @@ asked_at phase airfield = ask phase (pos 0) (pos 0) 0 airfield
 pub record Case : Type 0 where
   pub held : Settings
   pub asked : Question
-  pub answer : Decided
+  pub answer : Result Decision Code
 
-abbrev case : Settings → Question → Decided → Case
+abbrev case : Settings → Question → Result Decision Code → Case
 case held asked answer = record { held = held; asked = asked; answer = answer }
 
 unfoldable pub cases : List Case
 cases =
     -- after reset: ascent, level, descent; with AMDAR 0; with ascent 0, section 6 saying 1
-    case reset (in_phase 0) (Is Scheme)
-    ∷ case reset (in_phase 1) (Is Routine)
-    ∷ case reset (in_phase 2) (Is Scheme)
-    ∷ case (flagged (0 ∷ 0 ∷ 0 ∷ 0 ∷ 1 ∷ 1 ∷ 1 ∷ [])) (in_phase 0) (Is Silent)
-    ∷ case (flagged (1 ∷ 0 ∷ 0 ∷ 0 ∷ 0 ∷ 1 ∷ 1 ∷ [])) (in_phase 0) (Is Routine)
+    case reset (in_phase 0) (Ok Scheme)
+    ∷ case reset (in_phase 1) (Ok Routine)
+    ∷ case reset (in_phase 2) (Ok Scheme)
+    ∷ case (flagged (0 ∷ 0 ∷ 0 ∷ 0 ∷ 1 ∷ 1 ∷ 1 ∷ [])) (in_phase 0) (Ok Silent)
+    ∷ case (flagged (1 ∷ 0 ∷ 0 ∷ 0 ∷ 0 ∷ 1 ∷ 1 ∷ [])) (in_phase 0) (Ok Routine)
     -- window 2301 silences hours 23 and 0, not 1
-    ∷ case (window 23 1) (at_hour 23) (Is Silent)
-    ∷ case (window 23 1) (at_hour 0) (Is Silent)
-    ∷ case (window 23 1) (at_hour 1) (Is Scheme)
+    ∷ case (window 23 1) (at_hour 23) (Ok Silent)
+    ∷ case (window 23 1) (at_hour 0) (Ok Silent)
+    ∷ case (window 23 1) (at_hour 1) (Ok Scheme)
     -- a reporting box: its north edge, and a minute beyond; both kinds: inhibiting wins
-    ∷ case (boxed square no_boxes) (at_place (pos 600) (pos 0)) (Is Scheme)
-    ∷ case (boxed square no_boxes) (at_place (pos 601) (pos 0)) (Is Silent)
-    ∷ case (boxed square square) (at_place (pos 0) (pos 0)) (Is Silent)
+    ∷ case (boxed square no_boxes) (at_place (pos 600) (pos 0)) (Ok Scheme)
+    ∷ case (boxed square no_boxes) (at_place (pos 601) (pos 0)) (Ok Silent)
+    ∷ case (boxed square square) (at_place (pos 0) (pos 0)) (Ok Silent)
     -- ascent's selected list has the airfield, or has another; it plays no part in descent
-    ∷ case (listed only_abcd no_airfields 1) (asked_at 0 abcd) (Is Scheme)
-    ∷ case (listed only_abcd no_airfields 1) (asked_at 0 abce) (Is Routine)
-    ∷ case (listed only_abcd no_airfields 1) (asked_at 2 abce) (Is Scheme)
+    ∷ case (listed only_abcd no_airfields 1) (asked_at 0 abcd) (Ok Scheme)
+    ∷ case (listed only_abcd no_airfields 1) (asked_at 0 abce) (Ok Routine)
+    ∷ case (listed only_abcd no_airfields 1) (asked_at 2 abce) (Ok Scheme)
     -- refusals: 12 before 5, 5 before 4, 4 also where AMDAR is off
-    ∷ case (window 24 1) (ask 3 (pos 0) (pos 0) 24 []) (Refused 12)
-    ∷ case reset (ask 0 (pos 5401) (pos 0) 0 []) (Refused 5)
-    ∷ case (flagged (0 ∷ 0 ∷ 0 ∷ 0 ∷ 1 ∷ 1 ∷ 1 ∷ [])) (asked_at 1 []) (Refused 4)
+    ∷ case (window 24 1) (ask 3 (pos 0) (pos 0) 24 []) (Err SettingsInvalid)
+    ∷ case reset (ask 0 (pos 5401) (pos 0) 0 []) (Err OutOfRange)
+    ∷ case (flagged (0 ∷ 0 ∷ 0 ∷ 0 ∷ 1 ∷ 1 ∷ 1 ∷ [])) (asked_at 1 []) (Err NotAllowed)
     ∷ []
 
 -- every case is decided as the table says

@@ -11,8 +11,10 @@ use Rattle.decide.specs.Question.{Question}
 use Rattle.decide.specs.Words.{Amdar, InhibitHours, Regions, Airports, Enroute, flag_of, InRange, Own, of_ascent, of_descent}
 use Rattle.decide.specs.Rules.{Window, Heard, Level, Admitted, TurnedAway, switched_off, inhibited, not_selected, Profile, Rules, Answers}
 use Rattle.decide.specs.declared.Decision.TheVariants.{Silent, Routine, Scheme}
-use Rattle.decide.specs.declared.Decided.{Decided}
-use Rattle.decide.specs.declared.Decided.TheVariants.{Is, Refused}
+use Rattle.std.specs.Prelude.{Result, Ok, Err}
+use Rattle.text.specs.declared.Code.{Code}
+use Rattle.text.specs.declared.Code.TheVariants.{NotAllowed, OutOfRange, SettingsInvalid}
+use Rattle.decide.specs.declared.Decision.{Decision}
 use Rattle.decide.proofs.Sound.{Sound, sound}
 use Rattle.decide.proofs.Tests.{by_said}
 use Rattle.decide.proofs.Words.{has-said, range-said, airfield-said}
@@ -114,13 +116,13 @@ answers_forced x q =
     (λ a.
     let f = rules_forced x q (sound x v) r in
     record {
-      value = Is f.value;
-      only = λ d s. let k = s.decided v r a in k.is ∙ ap Is (f.only k.decision k.rules);
+      value = Ok f.value;
+      only = λ d s. let k = s.decided v r a in k.is ∙ ap Ok (f.only k.decision k.rules);
     })
-    (λ n. record { value = Refused 4; only = λ d s. s.four v r n }))
-    (λ n. record { value = Refused 5; only = λ d s. s.five v n }))
-    (λ n. record { value = Refused 12; only = λ d s. s.twelve n })
+    (λ n. record { value = Err NotAllowed; only = λ d s. s.four v r n }))
+    (λ n. record { value = Err OutOfRange; only = λ d s. s.five v n }))
+    (λ n. record { value = Err SettingsInvalid; only = λ d s. s.twelve n })
 
 -- two answers to one question that both follow the document are the same
-pub one_answer : (x : Settings) (q : Question) (r s : Decided) → Answers x q r → Answers x q s → r ≡ s
+pub one_answer : (x : Settings) (q : Question) (r s : Result Decision Code) → Answers x q r → Answers x q s → r ≡ s
 one_answer x q r s a b = let f = answers_forced x q in f.only r a ∙ sym (f.only s b)

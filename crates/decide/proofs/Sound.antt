@@ -9,7 +9,6 @@ use lib.Dec.{leb}
 use lib.ListN.{length, get_or}
 use borrow.Author.Tests.{leb-true}
 use Rattle.text.specs.Checks.{is_fine}
-use Rattle.text.specs.declared.Seen.TheVariants.{Fine}
 use Rattle.text.proofs.Cases.{both_left, both_right}
 use Rattle.text.proofs.Checks.{must-held, both-fine, fine-is}
 use Rattle.field.specs.Boxes.{region_allowed, no_region}
@@ -26,6 +25,8 @@ use Rattle.settings.specs.declared.Airports.{Airports}
 use Rattle.settings.specs.declared.Hours.{Hours}
 use Rattle.settings.specs.declared.Settings.{Settings}
 use Rattle.settings.specs.Valid.{flags_valid, sections_valid, valid}
+use Rattle.std.specs.Prelude.{Ok}
+use Rattle.text.specs.declared.Code.TheVariants.{OutOfRange}
 
 -- ---- Flags
 
@@ -38,31 +39,31 @@ flag_small (v ∷ vs) (suc i) e = flag_small vs i (both_right (leb v 1) (flags_v
 -- ---- Sections
 
 -- a section that is allowed: its first item, and the others
-parts : (i : Item) (is : List Item) (at : ℕ) (c : Content) (cs : List Content) → contents_allowed (i ∷ is) at (c ∷ cs) ≡ Fine
-    → (content_allowed i at c ≡ Fine) × (contents_allowed is (at + length (content_text i c)) cs ≡ Fine)
+parts : (i : Item) (is : List Item) (at : ℕ) (c : Content) (cs : List Content) → contents_allowed (i ∷ is) at (c ∷ cs) ≡ (Ok tt)
+    → (content_allowed i at c ≡ (Ok tt)) × (contents_allowed is (at + length (content_text i c)) cs ≡ (Ok tt))
 unfolding contents_allowed
-parts i is at c cs e = both-fine (content_allowed i at c) (contents_allowed is (at + length (content_text i c)) cs) e
+parts i is at c cs e = both-fine (content_allowed i at c) (contents_allowed is (at + length (content_text i c)) cs) tt e
 
 -- a number of w digits is no more than it may be
-amount_held : (w most at v : ℕ) → content_allowed (Digits (number w 0 most)) at (Amount v) ≡ Fine → v ≤ most
-amount_held w most at v e = leb-true v most (both_right (leb 0 v) (leb v most) (must-held (leb 0 v && leb v most) 5 at e))
+amount_held : (w most at v : ℕ) → content_allowed (Digits (number w 0 most)) at (Amount v) ≡ (Ok tt) → v ≤ most
+amount_held w most at v e = leb-true v most (both_right (leb 0 v) (leb v most) (must-held (leb 0 v && leb v most) OutOfRange at e))
 
 -- every box of a list, of the first as many as its count says
 pub record SoundBoxes (l : Boxes) : Type 0 where
   pub few : l.count ≤ 16
   pub boxes : (i : ℕ) → i < l.count → i < length l.regions → AllowedBox (get_or l.regions i no_region)
 
-each-box : (n at : ℕ) (bs : List Region) → regions_allowed n at bs ≡ Fine
+each-box : (n at : ℕ) (bs : List Region) → regions_allowed n at bs ≡ (Ok tt)
     → (i : ℕ) → i < n → i < length bs → AllowedBox (get_or bs i no_region)
 unfolding regions_allowed
 each-box zero at bs e i l m = absurd (omega arith)
 each-box (suc n) at [] e i l m = absurd (omega arith)
 each-box (suc n) at (b ∷ bs) e zero l m =
-    region_held at b (both-fine (region_allowed at b) (regions_allowed n (at + 14) bs) e).0
+    region_held at b (both-fine (region_allowed at b) (regions_allowed n (at + 14) bs) tt e).0
 each-box (suc n) at (b ∷ bs) e (suc i) l m =
-    each-box n (at + 14) bs (both-fine (region_allowed at b) (regions_allowed n (at + 14) bs) e).1 i (omega arith) (omega arith)
+    each-box n (at + 14) bs (both-fine (region_allowed at b) (regions_allowed n (at + 14) bs) tt e).1 i (omega arith) (omega arith)
 
-sound-boxes : (at : ℕ) (l : Boxes) → boxes_allowed at l ≡ Fine → SoundBoxes l
+sound-boxes : (at : ℕ) (l : Boxes) → boxes_allowed at l ≡ (Ok tt) → SoundBoxes l
 sound-boxes at l e =
     let a = boxes-held at l e in
     record { few = a.few; boxes = each-box l.count (at + 2) l.regions a.regions }
@@ -72,7 +73,7 @@ pub record SoundRegions (x : Regions) : Type 0 where
   pub reporting : SoundBoxes x.reporting
   pub inhibiting : SoundBoxes x.inhibiting
 
-sound-regions : (x : Regions) → contents_allowed (BoxList ∷ BoxList ∷ []) 0 (regions_hold x) ≡ Fine → SoundRegions x
+sound-regions : (x : Regions) → contents_allowed (BoxList ∷ BoxList ∷ []) 0 (regions_hold x) ≡ (Ok tt) → SoundRegions x
 sound-regions x e =
     let a = parts BoxList (BoxList ∷ []) 0 (Areas x.reporting) (Areas x.inhibiting ∷ []) e in
     let b = parts BoxList [] _ (Areas x.inhibiting) [] a.1 in
@@ -85,7 +86,7 @@ pub record SoundAirports (x : Airports) : Type 0 where
   pub routine : x.routine ≤ 1
 
 sound-airports : (x : Airports)
-    → contents_allowed (AirfieldList ∷ AirfieldList ∷ AirfieldList ∷ AirfieldList ∷ Digits (number 1 0 1) ∷ []) 0 (airports_hold x) ≡ Fine
+    → contents_allowed (AirfieldList ∷ AirfieldList ∷ AirfieldList ∷ AirfieldList ∷ Digits (number 1 0 1) ∷ []) 0 (airports_hold x) ≡ (Ok tt)
     → SoundAirports x
 sound-airports x e =
     let rest : List Content = Amount x.routine ∷ [] in
@@ -104,11 +105,11 @@ sound-airports x e =
     }
 
 -- section 6, and 8 alike
-sound-digit : (v : ℕ) → contents_allowed (Digits (number 1 0 1) ∷ []) 0 (digit_hold v) ≡ Fine → v ≤ 1
+sound-digit : (v : ℕ) → contents_allowed (Digits (number 1 0 1) ∷ []) 0 (digit_hold v) ≡ (Ok tt) → v ≤ 1
 sound-digit v e = amount_held 1 1 0 v (parts (Digits (number 1 0 1)) [] 0 (Amount v) [] e).0
 
 -- section 9
-sound-hours : (x : Hours) → contents_allowed (Digits (number 2 0 23) ∷ Digits (number 2 0 23) ∷ []) 0 (hours_hold x) ≡ Fine
+sound-hours : (x : Hours) → contents_allowed (Digits (number 2 0 23) ∷ Digits (number 2 0 23) ∷ []) 0 (hours_hold x) ≡ (Ok tt)
     → (x.start ≤ 23) × (x.end ≤ 23)
 sound-hours x e =
     let a = parts (Digits (number 2 0 23)) (Digits (number 2 0 23) ∷ []) 0 (Amount x.start) (Amount x.end ∷ []) e in
@@ -127,7 +128,7 @@ pub record Sound (x : Settings) : Type 0 where
 
 -- one section, and the others
 turn : (k : ℕ) (ks : List ℕ) (x : Settings) → sections_valid (k ∷ ks) x ≡ true
-    → (contents_allowed (layout_of k) 0 (contents_of x k) ≡ Fine) × (sections_valid ks x ≡ true)
+    → (contents_allowed (layout_of k) 0 (contents_of x k) ≡ (Ok tt)) × (sections_valid ks x ≡ true)
 unfolding sections_valid
 turn k ks x e =
     let one = contents_allowed (layout_of k) 0 (contents_of x k) in

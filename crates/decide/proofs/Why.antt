@@ -18,7 +18,7 @@ use Rattle.decide.specs.Rules.{Window, Inhibiting, Heard, Admitted, TurnedAway}
 use Rattle.decide.specs.Why.{Awake, Levels, Climbs, Flies, without_lists, with_lists, DigitSays, own_section, section3, level_on, scheme_on, Quiet, level_off, silent_off, When}
 use Rattle.decide.specs.declared.Reason.{Reason}
 use Rattle.decide.specs.declared.Reason.TheVariants.{AmdarOff, Hours, InhibitingBox, NoReportingBox, FlagOn, Digit, FlagOff, AirfieldInhibited, AirfieldNotSelected}
-use Rattle.decide.specs.declared.Explained.TheVariants.{Because}
+use Rattle.std.specs.Prelude.{Ok}
 use Rattle.decide.proofs.Answers.{small, window-holds, reporting-holds, inside, inside-said, outside-said, heard-past, scheme, given, admitted-scheme, not-admitted, turned_away}
 use Rattle.decide.proofs.Determined.{bit, admitted-or-not}
 use Rattle.decide.proofs.First.{Found, NotFound, first_said}
@@ -333,19 +333,19 @@ module _ (x : Settings) (q : Question) (ok : Sound x) (r : InRange q) where
 
 module _ (x : Settings) (q : Question) (v : valid x ≡ true) (r : InRange q) (a : FourAllowed q.airfield) where
   -- a question that is not refused is given a reason
-  pub some-reason : explained x q ≡ Because (reason_for x q)
+  pub some-reason : explained x q ≡ Ok (reason_for x q)
   unfolding explained
   some-reason = rw (v, (range-said q).so_yes r, (airfield-said q.airfield).so_yes a)
 
   -- it is the reason e exactly when e holds
-  pub exactly : (e : Reason) → (explained x q ≡ Because e) ↔ When x q e
+  pub exactly : (e : Reason) → (explained x q ≡ Ok e) ↔ When x q e
   exactly e = (out, back)
     where
-      out : explained x q ≡ Because e → When x q e
+      out : explained x q ≡ Ok e → When x q e
       out h = let z : reason_for x q ≡ e = cc (some-reason, h) in subst (When x q) z (given_holds x q (sound x v) r)
 
-      back : When x q e → explained x q ≡ Because e
-      back h = some-reason ∙ ap Because (holds-given x q (sound x v) r e h)
+      back : When x q e → explained x q ≡ Ok e
+      back h = some-reason ∙ ap Ok (holds-given x q (sound x v) r e h)
 
   -- no two hold
   pub one-reason : (d e : Reason) → When x q d → When x q e → d ≡ e

@@ -1,6 +1,8 @@
 -- Document 01, "Whether to report", walked once: the first reason that holds, as document 02, §1, names them. The decision
 -- is read off the reason.
-use Rattle.std.specs.Prelude.{Bool, true, false, cond, ◌&&◌, ◌||◌, List, ℕ, ltb, eqb}
+use Rattle.std.specs.Prelude.{Bool, true, false, cond, ◌&&◌, ◌||◌, List, ℕ, ltb, eqb, Result, Ok, Err}
+use Rattle.text.specs.declared.Code.{Code}
+use Rattle.text.specs.declared.Code.TheVariants.{NotAllowed, OutOfRange, SettingsInvalid}
 use Rattle.lists.specs.declared.Airfields.{Airfields}
 use Rattle.lists.specs.declared.Boxes.{Boxes}
 use Rattle.settings.specs.declared.Settings.{Settings}
@@ -12,10 +14,6 @@ use Rattle.decide.specs.declared.Decision.{Decision}
 use Rattle.decide.specs.declared.Decision.TheVariants.{Silent, Routine, Scheme}
 use Rattle.decide.specs.declared.Reason.{Reason}
 use Rattle.decide.specs.declared.Reason.TheVariants.{AmdarOff, Hours, InhibitingBox, NoReportingBox, FlagOn, Digit, FlagOff, AirfieldInhibited, AirfieldNotSelected}
-use Rattle.decide.specs.declared.Explained.{Explained}
-use Rattle.decide.specs.declared.Explained.TheVariants.{Because, Refusal}
-use Rattle.decide.specs.declared.Decided.{Decided}
-use Rattle.decide.specs.declared.Decided.TheVariants.{Is, Refused}
 
 -- ---- What a reason decides
 
@@ -93,18 +91,18 @@ reason_for x q =
 
 -- ---- Refusals: 12, then 5 for phase, hour or position, then 4 for an airfield that isn't four allowed bytes
 
-unfoldable pub explained : Settings → Question → Explained
+unfoldable pub explained : Settings → Question → Result Reason Code
 explained x q =
     cond (valid x)
     (cond (in_range q)
-    (cond (is_airfield q.airfield) (Because (reason_for x q)) (Refusal 4))
-    (Refusal 5))
-    (Refusal 12)
+    (cond (is_airfield q.airfield) (Ok (reason_for x q)) (Err NotAllowed))
+    (Err OutOfRange))
+    (Err SettingsInvalid)
 
 -- the decision, or the same refusal
-abbrev pub decided_by : Explained → Decided
-decided_by (Because r) = Is (decision_of r)
-decided_by (Refusal code) = Refused code
+abbrev pub decided_by : Result Reason Code → Result Decision Code
+decided_by (Ok r) = Ok (decision_of r)
+decided_by (Err code) = Err code
 
-unfoldable pub decided : Settings → Question → Decided
+unfoldable pub decided : Settings → Question → Result Decision Code
 decided x q = decided_by (explained x q)

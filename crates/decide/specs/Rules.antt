@@ -1,6 +1,8 @@
 -- Document 01, "Whether to report", sentence by sentence: what is so of the answer r, or of the decision d, to a
 -- question that is asked of a configuration. A field is a sentence, in the document's order.
-use Rattle.std.specs.Prelude.{◌≡◌, ◌⊎◌, true, false, List, ℕ, ◌<◌}
+use Rattle.std.specs.Prelude.{◌≡◌, ◌⊎◌, true, false, List, ℕ, ◌<◌, Result, Ok, Err}
+use Rattle.text.specs.declared.Code.{Code}
+use Rattle.text.specs.declared.Code.TheVariants.{NotAllowed, OutOfRange, SettingsInvalid}
 use Rattle.settings.specs.declared.Settings.{Settings}
 use Rattle.settings.specs.Valid.{valid}
 use Rattle.decide.specs.Question.{Question}
@@ -22,8 +24,6 @@ use Rattle.decide.specs.Words.{
 }
 use Rattle.decide.specs.declared.Decision.{Decision}
 use Rattle.decide.specs.declared.Decision.TheVariants.{Silent, Routine, Scheme}
-use Rattle.decide.specs.declared.Decided.{Decided}
-use Rattle.decide.specs.declared.Decided.TheVariants.{Is, Refused}
 
 abbrev pub Window : Settings → Question → Type 0
 Window x q = InWindow x.hours.start x.hours.end q.hour
@@ -78,15 +78,15 @@ pub record Rules (x : Settings) (q : Question) (d : Decision) : Type 0 where
   pub descent : Heard x q → q.phase ≡ 2 → Profile x (of_descent x) q.airfield d
 
 -- a decision by the rules
-pub record Decides (x : Settings) (q : Question) (r : Decided) : Type 0 where
+pub record Decides (x : Settings) (q : Question) (r : Result Decision Code) : Type 0 where
   pub decision : Decision
-  pub is : r ≡ Is decision
+  pub is : r ≡ Ok decision
   pub rules : Rules x q decision
 
 -- "Refusals: 12, then 5 for phase, hour or position, then 4 for an airfield that isn't four allowed bytes (checked in
 -- every phase)"; every other question is decided
-pub record Answers (x : Settings) (q : Question) (r : Decided) : Type 0 where
-  pub twelve : valid x ≡ false → r ≡ Refused 12
-  pub five : valid x ≡ true → ¬ InRange q → r ≡ Refused 5
-  pub four : valid x ≡ true → InRange q → ¬ FourAllowed q.airfield → r ≡ Refused 4
+pub record Answers (x : Settings) (q : Question) (r : Result Decision Code) : Type 0 where
+  pub twelve : valid x ≡ false → r ≡ Err SettingsInvalid
+  pub five : valid x ≡ true → ¬ InRange q → r ≡ Err OutOfRange
+  pub four : valid x ≡ true → InRange q → ¬ FourAllowed q.airfield → r ≡ Err NotAllowed
   pub decided : valid x ≡ true → InRange q → FourAllowed q.airfield → Decides x q r

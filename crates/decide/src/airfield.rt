@@ -14,13 +14,11 @@ use text::all_allowed;
 pub fn is_airfield(s: &[u8]) -> bool
     ensures { result ≡ is_airfield s.now }
 {
-    if s.len() != 4 {
-        return false;
-    }
-    all_allowed(s)
+    s.len() == 4 && all_allowed(s)
 }
 
 // The same four bytes by value: the lists are then searched without a slice.
+#[tactic(auto, using(crate::proofs::Listed::four))]
 pub fn name_of(s: &[u8]) -> [u8; 4]
     requires { length s.now ≡ 4 }
     ensures { result ≡ s.now }
@@ -41,18 +39,17 @@ fn has_name(l: Airfields, name: [u8; 4]) -> bool
 {
     let n = wide(l.count);
     let names = l.names;
-    let mut i = 0;
-    while i < n {
+    for i in 0..n {
         let p = 4 * i;
         if is_name(names[p], names[p + 1], names[p + 2], names[p + 3], name) {
             return true;
         }
-        i += 1;
     }
     false
 }
 
 // A scheme by the phase's flag, or the first thing that stands against it. The lists count with the airports flag alone.
+#[tactic(auto, unfolding(crate::specs::Reason::scheme_reason))]
 pub fn scheme_reason(
     airports: u8,
     number: u8,
@@ -73,11 +70,9 @@ pub fn scheme_reason(
     if has_name(inhibited, name) {
         return Reason::AirfieldInhibited;
     }
-    if selected.count == 0 {
-        return Reason::FlagOn(number);
+    if selected.count == 0 || has_name(selected, name) {
+        Reason::FlagOn(number)
+    } else {
+        Reason::AirfieldNotSelected
     }
-    if has_name(selected, name) {
-        return Reason::FlagOn(number);
-    }
-    Reason::AirfieldNotSelected
 }

@@ -19,6 +19,7 @@ pub fn minutes_of(x: i32) -> usize
     (x + 60000) as usize
 }
 
+#[tactic(auto, using(crate::proofs::Inside::line_small))]
 fn edge_minutes(c: Circle, e: Edge) -> usize
     ensures { result ≡ 60 * line_of c e }
 {
@@ -38,16 +39,15 @@ fn is_eastward(first: usize, second: usize, east: usize) -> bool
 fn spelt_otherwise(east: usize) -> usize
     ensures { result ≡ other_spelling east }
 {
-    if east == 49200 {
-        return 70800;
+    match east {
+        49200 => 70800,
+        70800 => 49200,
+        _ => east,
     }
-    if east == 70800 {
-        return 49200;
-    }
-    east
 }
 
 // Edges belong to a box. The tests are gathered: which of them fails plays no part.
+#[tactic(auto, unfolding(crate::specs::Tests::holds))]
 fn box_holds(b: Region, north: usize, east: usize, again: usize) -> bool
     requires { again ≡ other_spelling east }
     ensures { result ≡ holds b north east }
@@ -68,38 +68,32 @@ fn first_holding(l: Boxes, north: usize, east: usize) -> u8
     let regions = l.regions;
     let n = l.count;
     let again = spelt_otherwise(east);
-    let mut i = 0;
-    while i < n {
-        let at = wide(i);
-        if box_holds(regions[at], north, east, again) {
+    for i in 0..n {
+        if box_holds(regions[wide(i)], north, east, again) {
             return i + 1;
         }
-        i += 1;
     }
     0
 }
 
 // The inhibiting box that silences, by its number; 0 where none does.
+#[tactic(auto, unfolding(crate::specs::Reason::inhibiting_box))]
 pub fn inhibiting_box(flag: u8, inhibiting: Boxes, north: usize, east: usize) -> u8
     requires { inhibiting.count ≤ most_boxes }
     ensures { result ≡ inhibiting_box flag inhibiting north east }
 {
-    if flag != 1 {
-        return 0;
+    if flag == 1 {
+        first_holding(inhibiting, north, east)
+    } else {
+        0
     }
-    first_holding(inhibiting, north, east)
 }
 
 // Reporting boxes exist, and none holds the position.
+#[tactic(auto, unfolding(crate::specs::Reason::no_reporting_box))]
 pub fn no_reporting_box(flag: u8, reporting: Boxes, north: usize, east: usize) -> bool
     requires { reporting.count ≤ most_boxes }
     ensures { result ≡ no_reporting_box flag reporting north east }
 {
-    if flag != 1 {
-        return false;
-    }
-    if reporting.count == 0 {
-        return false;
-    }
-    first_holding(reporting, north, east) == 0
+    flag == 1 && reporting.count != 0 && first_holding(reporting, north, east) == 0
 }

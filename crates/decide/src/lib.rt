@@ -6,7 +6,7 @@ mod boxes;
 pub mod rules;
 mod window;
 
-#[derive(Clone, Copy)]
+#[derive(Clone, Copy, Debug, PartialEq, Eq)]
 pub enum Decision {
     Silent,
     Routine,
@@ -15,7 +15,7 @@ pub enum Decision {
 
 // Why, in document 02's order. Boxes and flags are numbered from 1: a box by the lowest number of those that hold the place,
 // a flag 5 (ascent), 6 (enroute) or 7 (descent). A digit is named by its section: 3, 6 or 8.
-#[derive(Clone, Copy)]
+#[derive(Clone, Copy, Debug, PartialEq, Eq)]
 pub enum Reason {
     AmdarOff,
     Hours,
@@ -26,18 +26,4 @@ pub enum Reason {
     FlagOff(u8),
     AirfieldInhibited,
     AirfieldNotSelected,
-}
-
-// The reason, or the refusal's code.
-#[derive(Clone, Copy)]
-pub enum Explained {
-    Because(Reason),
-    Refusal(u8),
-}
-
-// The decision, or the refusal's code.
-#[derive(Clone, Copy)]
-pub enum Decided {
-    Is(Decision),
-    Refused(u8),
 }

@@ -3,14 +3,15 @@ ghost use Rattle.std.specs.Prelude.{◌≡◌, true, [], ◌<◌};
 ghost use Rattle.std.specs.Int.Signed.{mag};
 ghost use Rattle.settings.specs.Valid.{valid};
 ghost use Rattle.decide.specs.Tests.{in_range};
-ghost use Rattle.decide.specs.Reason.{by_flag, decision_of, is_silent, or_routine, routine_by, phase_reason, reason_for, explained, decided_by, decided};
+ghost use Rattle.decide.specs.Reason.{by_flag, decision_of, or_routine, routine_by, phase_reason, reason_for, explained, decided};
 
 use crate::airfield::{is_airfield, name_of, scheme_reason};
 use crate::boxes::{inhibiting_box, minutes_of, no_reporting_box};
 use crate::window::in_window;
-use crate::{Decided, Decision, Explained, Reason};
+use crate::{Decision, Reason};
 use settings::Settings;
 use settings::valid::is_valid;
+use text::Code;
 
 // Phase, hour and position: a first observation's limits. Gathered: any of them is 5.
 fn in_range(phase: u8, north: i32, east: i32, hour: u8) -> bool
@@ -38,25 +39,15 @@ pub fn decision_of(reason: Reason) -> Decision
     ensures { result ≡ decision_of reason }
 {
     match reason {
-        Reason::AmdarOff => Decision::Silent,
-        Reason::Hours => Decision::Silent,
-        Reason::InhibitingBox(_) => Decision::Silent,
-        Reason::NoReportingBox => Decision::Silent,
         Reason::FlagOn(flag) => by_flag(flag),
         Reason::Digit(_) => Decision::Routine,
-        Reason::FlagOff(_) => Decision::Silent,
-        Reason::AirfieldInhibited => Decision::Silent,
-        Reason::AirfieldNotSelected => Decision::Silent,
-    }
-}
-
-fn is_silent(decision: Decision) -> bool
-    ensures { result ≡ is_silent decision }
-{
-    match decision {
-        Decision::Silent => true,
-        Decision::Routine => false,
-        Decision::Scheme => false,
+        Reason::AmdarOff
+        | Reason::Hours
+        | Reason::InhibitingBox(_)
+        | Reason::NoReportingBox
+        | Reason::FlagOff(_)
+        | Reason::AirfieldInhibited
+        | Reason::AirfieldNotSelected => Decision::Silent,
     }
 }
 
@@ -64,10 +55,11 @@ fn is_silent(decision: Decision) -> bool
 fn or_routine(section: u8, digit: u8, reason: Reason) -> Reason
     ensures { result ≡ or_routine section digit reason }
 {
-    if is_silent(decision_of(reason)) & (digit == 1) {
-        return Reason::Digit(section);
+    if digit == 1 && matches!(decision_of(reason), Decision::Silent) {
+        Reason::Digit(section)
+    } else {
+        reason
     }
-    reason
 }
 
 // Without airports the phase's own section says whether it is routine, with them section 3.
@@ -75,22 +67,25 @@ fn routine_by(airports: u8, section: u8, own: u8, third: u8, reason: Reason) -> 
     ensures { result ≡ routine_by airports section own third reason }
 {
     if airports == 0 {
-        return or_routine(section, own, reason);
+        or_routine(section, own, reason)
+    } else {
+        or_routine(3, third, reason)
     }
-    or_routine(3, third, reason)
 }
 
 // The enroute flag alone decides level flight. Position and hour play no part in any phase.
+#[tactic(auto, using(crate::proofs::Sound::sound), unfolding(crate::specs::Reason::phase_reason))]
 fn phase_reason(x: Settings, phase: u8, name: [u8; 4]) -> Reason
     requires { valid x ≡ true }
     ensures { result ≡ phase_reason x phase name }
 {
     let flags = x.flags;
     if phase == 1 {
-        if flags[5] == 1 {
-            return Reason::FlagOn(6);
-        }
-        return Reason::FlagOff(6);
+        return if flags[5] == 1 {
+            Reason::FlagOn(6)
+        } else {
+            Reason::FlagOff(6)
+        };
     }
     let airports = x.airports;
     let selected = airports.selected;
@@ -107,6 +102,7 @@ fn phase_reason(x: Settings, phase: u8, name: [u8; 4]) -> Reason
     routine_by(flags[3], 8, x.routine8, airports.routine, reason)
 }
 
+#[tactic(auto, using(crate::proofs::Sound::sound), unfolding(crate::specs::Reason::reason_for))]
 fn reason_for(x: Settings, phase: u8, north: i32, east: i32, hour: u8, name: [u8; 4]) -> Reason
     requires x_value { valid x ≡ true }
     requires north_bound { (mag north < 60000) × (mag east < 60000) }
@@ -136,6 +132,7 @@ fn reason_for(x: Settings, phase: u8, north: i32, east: i32, hour: u8, name: [u8
 }
 
 // A configuration that isn't valid is 12; then 5 for phase, hour or position; then 4 for the airfield, in every phase.
+#[tactic(auto, using(crate::proofs::Position::in_span), unfolding(crate::specs::Reason::explained))]
 pub fn explain(
     x: Settings,
     phase: u8,
@@ -143,33 +140,33 @@ pub fn explain(
     east: i32,
     hour: u8,
     airfield: &[u8],
-) -> Explained
+) -> Result<Reason, Code>
     ensures { result ≡ explained x (record { phase = phase; north = north; east = east; hour = hour; airfield = airfield.now }) }
 {
     if !is_valid(x) {
-        return Explained::Refusal(12);
+        return Err(Code::SettingsInvalid);
     }
     if !in_range(phase, north, east, hour) {
-        return Explained::Refusal(5);
+        return Err(Code::OutOfRange);
     }
     if !is_airfield(airfield) {
-        return Explained::Refusal(4);
+        return Err(Code::NotAllowed);
     }
     let name = name_of(airfield);
-    Explained::Because(reason_for(x, phase, north, east, hour, name))
+    Ok(reason_for(x, phase, north, east, hour, name))
 }
 
-fn decided_by(e: Explained) -> Decided
-    ensures { result ≡ decided_by e }
-{
-    match e {
-        Explained::Because(reason) => Decided::Is(decision_of(reason)),
-        Explained::Refusal(code) => Decided::Refused(code),
-    }
-}
-
-pub fn decide(x: Settings, phase: u8, north: i32, east: i32, hour: u8, airfield: &[u8]) -> Decided
+#[tactic(auto, unfolding(crate::specs::Reason::decided))]
+pub fn decide(
+    x: Settings,
+    phase: u8,
+    north: i32,
+    east: i32,
+    hour: u8,
+    airfield: &[u8],
+) -> Result<Decision, Code>
     ensures { result ≡ decided x (record { phase = phase; north = north; east = east; hour = hour; airfield = airfield.now }) }
 {
-    decided_by(explain(x, phase, north, east, hour, airfield))
+    let reason = explain(x, phase, north, east, hour, airfield)?;
+    Ok(decision_of(reason))
 }

@@ -7,7 +7,8 @@ pub fn in_window(start: u8, end: u8, hour: u8) -> bool
     ensures { result ≡ is_in_window start end hour }
 {
     if start <= end {
-        return (start <= hour) & (hour < end);
+        (start <= hour) & (hour < end)
+    } else {
+        (start <= hour) | (hour < end)
     }
-    (start <= hour) | (hour < end)
 }

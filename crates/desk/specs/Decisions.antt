@@ -1,13 +1,11 @@
 -- Whether to report, and why, as the C host gets it.
-use Rattle.std.specs.Prelude.{ℕ}
+use Rattle.std.specs.Prelude.{ℕ, Result, Ok, Err}
+use Rattle.text.specs.Codes.{number_of}
+use Rattle.text.specs.declared.Code.{Code}
 use Rattle.decide.specs.declared.Decision.{Decision}
 use Rattle.decide.specs.declared.Decision.TheVariants.{Silent, Routine, Scheme}
-use Rattle.decide.specs.declared.Decided.{Decided}
-use Rattle.decide.specs.declared.Decided.TheVariants.{Is, Refused}
 use Rattle.decide.specs.declared.Reason.{Reason}
 use Rattle.decide.specs.declared.Reason.TheVariants.{AmdarOff, Hours, InhibitingBox, NoReportingBox, FlagOn, Digit, FlagOff, AirfieldInhibited, AirfieldNotSelected}
-use Rattle.decide.specs.declared.Explained.{Explained}
-use Rattle.decide.specs.declared.Explained.TheVariants.{Because, Refusal}
 use Rattle.decide.specs.Reason.{decision_of}
 use Rattle.desk.specs.declared.HostDecided.{HostDecided}
 use Rattle.desk.specs.declared.HostExplained.{HostExplained}
@@ -22,9 +20,9 @@ abbrev pub host_decided : ℕ → ℕ → HostDecided
 host_decided code decision = record { place = 0; code = code; decision = decision; spare = 0; rest = 0 }
 
 -- a refusal carries nothing but its code and place
-abbrev pub decided_numbers : Decided → HostDecided
-decided_numbers (Is d) = host_decided 0 (decision_number d)
-decided_numbers (Refused code) = host_decided code 0
+abbrev pub decided_numbers : Result Decision Code → HostDecided
+decided_numbers (Ok d) = host_decided 0 (decision_number d)
+decided_numbers (Err code) = host_decided (number_of code) 0
 
 -- ---- Why: a number for each reason, in document 02's order, and which box, flag or section it names
 
@@ -56,6 +54,6 @@ host_explained code decision reason number =
     record { place = 0; code = code; decision = decision; reason = reason; number = number; spare = 0 }
 
 -- a refusal carries nothing but its code and place
-abbrev pub explained_numbers : Explained → HostExplained
-explained_numbers (Because r) = host_explained 0 (decision_number (decision_of r)) (reason_code r) (reason_number r)
-explained_numbers (Refusal code) = host_explained code 0 0 0
+abbrev pub explained_numbers : Result Reason Code → HostExplained
+explained_numbers (Ok r) = host_explained 0 (decision_number (decision_of r)) (reason_code r) (reason_number r)
+explained_numbers (Err code) = host_explained (number_of code) 0 0 0

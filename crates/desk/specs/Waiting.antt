@@ -1,20 +1,32 @@
 -- The waiting board's answers, as the C host gets them.
-use Rattle.std.specs.Prelude.{Bool, cond, length}
+use Rattle.std.specs.Prelude.{Bool, cond, length, List, ℕ, Result, Ok, Err}
+use Rattle.text.specs.Codes.{number_of}
+use Rattle.text.specs.declared.Refusal.{Refusal}
+use Rattle.text.specs.declared.Code.TheVariants.{BoardInvalid}
 use Rattle.board.specs.Board.{Reply, Given, Refused}
-use Rattle.board.specs.declared.Done.{Done}
-use Rattle.desk.specs.Numbers.{accepted, answer_of}
+use Rattle.board.specs.declared.Stored.{Stored}
+use Rattle.tails.specs.Inner.{relisted}
+use Rattle.tails.specs.declared.keys.Keys.{Keys}
+use Rattle.desk.specs.Numbers.{accepted, answer_of, refused, refused_by}
 use Rattle.desk.specs.declared.Answer.{Answer}
-use Rattle.desk.specs.declared.board_calls.Served.{Served}
 
 -- the length of the text that then waits, or is handed over
 abbrev pub reply_numbers : Reply → Answer
 reply_numbers (Given t) = accepted (length t)
-reply_numbers (Refused code place) = answer_of code place
+reply_numbers (Refused code place) = answer_of (number_of code) place
 
 -- a board that isn't valid is 10
 abbrev pub board_numbers : Bool → Answer
-board_numbers valid = cond valid (accepted 0) (answer_of 10 0)
+board_numbers valid = cond valid (accepted 0) (refused_by BoardInvalid)
 
--- what was done on the board, with its answer
-abbrev pub served_by : Done → Served
-served_by d = record { answer = record { place = d.place; length = d.length; code = d.code; text = 0; spare = 0 }; at = d.at; slot = d.slot }
+-- ---- Inner: no promise rests on these
+
+-- the answer of what was done on the board
+abbrev pub stored_numbers : Result Stored Refusal → Answer
+stored_numbers (Ok x) = accepted x.length
+stored_numbers (Err r) = refused r
+
+-- the list beside the board afterwards: a refusal leaves it
+abbrev pub relisted_by : Keys → List ℕ → Bool → Result Stored Refusal → List ℕ
+relisted_by k ts fits (Ok x) = relisted k ts fits x.at x.slot
+relisted_by k ts fits (Err r) = ts

@@ -1,37 +1,51 @@
 // The numbers of an answer.
 ghost use Rattle.std.specs.Prelude.{◌≡◌, ◌≤◌};
-ghost use Rattle.desk.specs.Numbers.{answer_of, write_numbers};
 ghost use Rattle.command.specs.Text.{longest};
+ghost use Rattle.desk.specs.Numbers.{accepted, refused, refused_by, write_numbers};
 
 use crate::Answer;
-use text::Seen;
+use text::{Code, Refusal};
 
-// A code and a place, and no length.
-pub fn answer_of(code: u8, place: usize) -> Answer
-    ensures { result ≡ answer_of code place }
+// What is accepted, with a length.
+pub fn accepted(length: u32) -> Answer
+    ensures { result ≡ accepted length }
 {
     Answer {
-        place,
-        length: 0,
-        code,
+        place: 0,
+        length,
+        code: 0,
         text: 0,
         spare: 0,
     }
 }
 
+// A code and a place, and no length.
+pub fn refused(r: Refusal) -> Answer
+    ensures { result ≡ refused r }
+{
+    Answer {
+        place: r.place,
+        length: 0,
+        code: r.code.number(),
+        text: 0,
+        spare: 0,
+    }
+}
+
+// A code alone: its place is 0.
+pub fn refused_by(code: Code) -> Answer
+    ensures { result ≡ refused_by code }
+{
+    refused(code.at(0))
+}
+
 // The numbers of what was seen; `length` is given where all is fine.
-pub fn numbers(seen: Seen, length: u32) -> Answer
+pub fn numbers(seen: Result<(), Refusal>, length: u32) -> Answer
     ensures { result ≡ write_numbers seen length }
 {
     match seen {
-        Seen::Fine => Answer {
-            place: 0,
-            length,
-            code: 0,
-            text: 0,
-            spare: 0,
-        },
-        Seen::Bad(code, place) => answer_of(code, place),
+        Ok(()) => accepted(length),
+        Err(r) => refused(r),
     }
 }
 

@@ -1,50 +1,43 @@
 // When order is of no account, for C.
 ghost use Rattle.std.specs.Prelude.{◌≡◌};
 ghost use Rattle.commute.specs.Commute.{compared};
-ghost use Rattle.desk.specs.Orders.{yes_number, commute_numbers};
+ghost use Rattle.desk.specs.Orders.{commute_refused, commute_numbers};
 
 use crate::HostCommute;
-use commute::{Compared, compare};
-
-fn yes_number(flags: u8, sections: u8) -> u8
-    ensures { result ≡ yes_number flags sections }
-{
-    if (flags == 0) & (sections == 0) {
-        return 1;
-    }
-    0
-}
+use commute::{Fault, compare};
+use text::Refusal;
 
 // A refusal carries its code and place and the text at fault, nothing else.
-fn commute_answer(c: Compared) -> HostCommute
-    ensures { result ≡ commute_numbers c }
+fn commute_refused(text: u8, r: Refusal) -> HostCommute
+    ensures { result ≡ commute_refused text r }
 {
-    match c {
-        Compared::Apart(flags, sections) => HostCommute {
-            place: 0,
-            code: 0,
-            text: 0,
-            yes: yes_number(flags, sections),
-            flags,
-            sections,
-            spare: 0,
-            rest: 0,
-        },
-        Compared::Refused(code, place, text) => HostCommute {
-            place,
-            code,
-            text,
-            yes: 0,
-            flags: 0,
-            sections: 0,
-            spare: 0,
-            rest: 0,
-        },
+    HostCommute {
+        place: r.place,
+        code: r.code.number(),
+        text,
+        yes: 0,
+        flags: 0,
+        sections: 0,
+        spare: 0,
+        rest: 0,
     }
 }
 
 pub fn esk_commute(a: &[u8], b: &[u8]) -> HostCommute
     ensures { result ≡ commute_numbers (compared a.now b.now) }
 {
-    commute_answer(compare(a, b))
+    match compare(a, b) {
+        Ok(apart) => HostCommute {
+            place: 0,
+            code: 0,
+            text: 0,
+            yes: u8::from((apart.flags == 0) & (apart.sections == 0)),
+            flags: apart.flags,
+            sections: apart.sections,
+            spare: 0,
+            rest: 0,
+        },
+        Err(Fault::First(r)) => commute_refused(1, r),
+        Err(Fault::Second(r)) => commute_refused(2, r),
+    }
 }

@@ -4,7 +4,6 @@ ghost use Rattle.gust.specs.Gust.{derived};
 ghost use Rattle.desk.specs.Gusts.{host_gust, gust_numbers};
 
 use crate::HostGust;
-use gust::Derived;
 use gust::answer::derived_gust;
 
 fn host_gust(gust: i32, code: u8) -> HostGust
@@ -19,17 +18,11 @@ fn host_gust(gust: i32, code: u8) -> HostGust
 }
 
 // A refusal carries its code and a gust of 0.
-fn gust_answer(d: Derived) -> HostGust
-    ensures { result ≡ gust_numbers d }
-{
-    match d {
-        Derived::Gust(gust) => host_gust(gust, 0),
-        Derived::Refused(code) => host_gust(0, code),
-    }
-}
-
 pub fn esk_gust(row: u32, height: i32, mass: u32, acceleration: u32, speed: u32) -> HostGust
     ensures { result ≡ gust_numbers (derived row height mass acceleration speed) }
 {
-    gust_answer(derived_gust(row, height, mass, acceleration, speed))
+    match derived_gust(row, height, mass, acceleration, speed) {
+        Ok(gust) => host_gust(gust, 0),
+        Err(code) => host_gust(0, code.number()),
+    }
 }

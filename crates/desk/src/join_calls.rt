@@ -1,34 +1,34 @@
 // The join for C.
-ghost use Rattle.std.specs.Prelude.{◌≡◌, ◌≤◌, length};
+ghost use Rattle.std.specs.Prelude.{◌≡◌, length};
 ghost use Rattle.join.specs.Join.{join, joined_over};
-ghost use Rattle.desk.specs.Joins.{join_numbers};
-ghost use Rattle.desk.specs.Steps.{told_numbers, told_length};
-ghost use Rattle.command.specs.Text.{longest};
+ghost use Rattle.desk.specs.Joins.{refused_in, fault_numbers, join_numbers};
 
 use crate::Answer;
-use crate::answers::length_of;
-use join::{Told, join_texts};
+use crate::answers::{accepted, length_of, refused_by};
+use join::{Fault, join_texts};
+use text::{Code, Refusal};
+
+// A refusal of one of the two texts.
+fn refused_in(text: u8, r: Refusal) -> Answer
+    ensures { result ≡ refused_in text r }
+{
+    Answer {
+        place: r.place,
+        length: 0,
+        code: r.code.number(),
+        text,
+        spare: 0,
+    }
+}
 
 // A join's answer names the text at fault, 1 or 2, else 0.
-fn told_answer(told: Told) -> Answer
-    requires { told_length told ≤ longest }
-    ensures { result ≡ told_numbers told }
+fn fault_numbers(fault: Fault) -> Answer
+    ensures { result ≡ fault_numbers fault }
 {
-    match told {
-        Told::Text(n) => Answer {
-            place: 0,
-            length: length_of(n),
-            code: 0,
-            text: 0,
-            spare: 0,
-        },
-        Told::Refused(code, place, text) => Answer {
-            place,
-            length: 0,
-            code,
-            text,
-            spare: 0,
-        },
+    match fault {
+        Fault::First(r) => refused_in(1, r),
+        Fault::Second(r) => refused_in(2, r),
+        Fault::Room => refused_by(Code::NoRoom),
     }
 }
 
@@ -36,6 +36,8 @@ pub fn esk_join(first: &[u8], second: &[u8], out: &mut [u8]) -> Answer
     ensures { (result ≡ join_numbers (join first.now second.now (length out.old)))
         × (out.new ≡ joined_over (join first.now second.now (length out.old)) out.old) }
 {
-    let told = join_texts(first, second, out);
-    told_answer(told)
+    match join_texts(first, second, out) {
+        Ok(length) => accepted(length_of(length)),
+        Err(fault) => fault_numbers(fault),
+    }
 }

@@ -3,10 +3,10 @@ ghost use Rattle.std.specs.Prelude.{◌≡◌, ◌≤◌, length};
 ghost use Rattle.journal.specs.Journal.{last_entry};
 ghost use Rattle.journal.specs.Calls.{check_journal, added, added_over, dropped, replayed};
 ghost use Rattle.journal.specs.Printed.{print_told, printed_over};
-ghost use Rattle.desk.specs.Numbers.{check_numbers};
-ghost use Rattle.desk.specs.Journal.{journal_numbers, entry_numbers, replay_numbers, kept_replay, replay_outcome, Held, EntryHeld};
+ghost use Rattle.desk.specs.Numbers.{check_numbers, length_numbers};
+ghost use Rattle.desk.specs.Journal.{entry_numbers, replay_numbers, kept_replay, Held};
 
-use crate::answers::{answer_of, numbers};
+use crate::answers::{accepted, numbers, refused};
 use crate::{Answer, HostEntry};
 use journal::add::add;
 use journal::check::check_journal;
@@ -14,8 +14,8 @@ use journal::print::print;
 use journal::remove::drop_last;
 use journal::replay::replay;
 use journal::step::last;
-use journal::{Last, Told};
 use settings::Settings;
+use text::Refusal;
 
 // What is printed of 65,535 bytes is less than twice as long.
 fn narrow(n: usize) -> u32
@@ -25,19 +25,38 @@ fn narrow(n: usize) -> u32
     n as u32
 }
 
-fn journal_answer(told: Told) -> Answer
+fn journal_answer(told: Result<usize, Refusal>) -> Answer
     requires { Held told }
-    ensures { result ≡ journal_numbers told }
+    ensures { result ≡ length_numbers told }
 {
     match told {
-        Told::Length(n) => Answer {
+        Ok(n) => accepted(narrow(n)),
+        Err(r) => refused(r),
+    }
+}
+
+pub fn esk_journal_check(journal: &[u8], end: usize) -> Answer
+    ensures { result ≡ check_numbers (check_journal journal.now end) }
+{
+    numbers(check_journal(journal, end), 0)
+}
+
+// One entry from the end: the next call is asked with `end` at the offset of this one's answer.
+pub fn esk_journal_last(journal: &[u8], end: usize) -> HostEntry
+    ensures { result ≡ entry_numbers (last_entry journal.now end) }
+{
+    match last(journal, end) {
+        Ok(Some(entry)) => HostEntry {
             place: 0,
-            length: narrow(n),
+            offset: entry.at,
+            text: entry.at + 6,
+            length: narrow(entry.length),
             code: 0,
-            text: 0,
+            given: 1,
             spare: 0,
         },
-        Told::Refused(code, place) => answer_of(code, place),
+        Ok(None) => no_entry(0, 0),
+        Err(r) => no_entry(r.code.number(), r.place),
     }
 }
 
@@ -56,76 +75,24 @@ fn no_entry(code: u8, place: usize) -> HostEntry
     }
 }
 
-fn entry_answer(l: Last) -> HostEntry
-    requires { EntryHeld l }
-    ensures { result ≡ entry_numbers l }
-{
-    match l {
-        Last::Nothing => no_entry(0, 0),
-        Last::Fails(place) => no_entry(14, place),
-        Last::Starts(at, n) => HostEntry {
-            place: 0,
-            offset: at,
-            text: at + 6,
-            length: narrow(n),
-            code: 0,
-            given: 1,
-            spare: 0,
-        },
-    }
-}
-
-pub fn esk_journal_check(journal: &[u8], end: usize) -> Answer
-    ensures { result ≡ check_numbers (check_journal journal.now end) }
-{
-    numbers(check_journal(journal, end), 0)
-}
-
-// One entry from the end: the next call is asked with `end` at the offset of this one's answer.
-pub fn esk_journal_last(journal: &[u8], end: usize) -> HostEntry
-    ensures { result ≡ entry_numbers (last_entry journal.now end) }
-{
-    entry_answer(last(journal, end))
-}
-
 pub fn esk_journal_add(journal: &mut [u8], end: usize, designator: &[u8], text: &[u8]) -> Answer
-    ensures { (result ≡ journal_numbers (added journal.old end designator.now text.now))
+    ensures { (result ≡ length_numbers (added journal.old end designator.now text.now))
         × (journal.new ≡ added_over journal.old end designator.now text.now) }
 {
-    let told = add(journal, end, designator, text);
-    journal_answer(told)
+    journal_answer(add(journal, end, designator, text))
 }
 
 pub fn esk_journal_drop(journal: &[u8], end: usize, count: usize) -> Answer
-    ensures { result ≡ journal_numbers (dropped journal.now end count) }
+    ensures { result ≡ length_numbers (dropped journal.now end count) }
 {
     journal_answer(drop_last(journal, end, count))
 }
 
 pub fn esk_journal_print(journal: &[u8], end: usize, out: &mut [u8]) -> Answer
-    ensures { (result ≡ journal_numbers (print_told journal.now end (length out.old)))
+    ensures { (result ≡ length_numbers (print_told journal.now end (length out.old)))
         × (out.new ≡ printed_over journal.now end out.old) }
 {
-    let told = print(journal, end, out);
-    journal_answer(told)
-}
-
-// What the host is told, and the settings that are then stored.
-#[derive(Clone, Copy)]
-pub struct ReplayOutcome {
-    pub answer: Answer,
-    pub settings: Settings,
-}
-
-fn outcome_of_replay(journal: &[u8], end: usize, designator: &[u8]) -> ReplayOutcome
-    ensures { result ≡ replay_outcome (replayed journal.now end designator.now) }
-{
-    let r = replay(journal, end, designator);
-    let settings = r.settings;
-    ReplayOutcome {
-        answer: answer_of(r.code, r.place),
-        settings,
-    }
+    journal_answer(print(journal, end, out))
 }
 
 // In place: a refusal stores nothing.
@@ -138,10 +105,11 @@ pub fn esk_journal_replay(
     ensures { (result ≡ replay_numbers (replayed journal.now end designator.now))
         × (settings.new ≡ kept_replay settings.old (replayed journal.now end designator.now)) }
 {
-    let r = outcome_of_replay(journal, end, designator);
-    let a = r.answer;
-    if a.code == 0 {
-        *settings = r.settings;
+    match replay(journal, end, designator) {
+        Ok(replayed) => {
+            *settings = replayed;
+            accepted(0)
+        }
+        Err(r) => refused(r),
     }
-    a
 }

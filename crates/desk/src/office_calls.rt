@@ -2,31 +2,15 @@
 ghost use Rattle.std.specs.Prelude.{◌≡◌};
 ghost use Rattle.board.specs.Board.{reply_of};
 ghost use Rattle.board.specs.Lent.{on_slots, on_area};
-ghost use Rattle.board.specs.Inner.{done_of};
 ghost use Rattle.offices.specs.Offices.{office_lent};
-ghost use Rattle.offices.specs.Inner.{office_move};
-ghost use Rattle.desk.specs.Waiting.{reply_numbers, served_by};
+ghost use Rattle.desk.specs.Waiting.{reply_numbers};
 
 use crate::Answer;
-use crate::board_calls::{Served, serve_done};
+use crate::board_calls::{store, stored_answer};
+use board::Slot;
 use board::look::wanted;
-use board::scan::{look_over, set_slot};
-use board::{Findings, Slot, Wanted};
+use board::scan::look_over;
 use offices::{Grant, place_for};
-
-fn serve_office(
-    v: Findings,
-    w: Wanted,
-    area: &mut [u8],
-    text: &[u8],
-    own: Grant,
-    other: Grant,
-) -> Served
-    ensures { (result ≡ served_by (done_of v.count w (office_move own other v w area.old text.now)))
-        × (area.new ≡ on_area (office_move own other v w area.old text.now) area.old) }
-{
-    serve_done(place_for(v, w, area, text, own, other))
-}
 
 pub fn esk_office_add(
     slots: &mut [Slot],
@@ -42,7 +26,7 @@ pub fn esk_office_add(
 {
     let w = wanted(designator);
     let v = look_over(slots, area, w);
-    let s = serve_office(v, w, area, text, own, other);
-    set_slot(slots, s.at, s.slot);
-    s.answer
+    let done = place_for(v, w, area, text, own, other);
+    store(slots, done);
+    stored_answer(done)
 }

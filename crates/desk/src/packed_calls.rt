@@ -1,14 +1,14 @@
 // Packed figures for C.
-ghost use Rattle.std.specs.Prelude.{◌≡◌, ◌≤◌, length, pos};
-ghost use Rattle.packed.specs.Packed.{read_packed, place_of};
+ghost use Rattle.std.specs.Prelude.{◌≡◌, ◌≤◌, length};
+ghost use Rattle.packed.specs.Packed.{read_packed};
 ghost use Rattle.caller.specs.Figures.{write_figure_code, figure_over};
 ghost use Rattle.desk.specs.Numbers.{packed_numbers, write_answer};
 
+use crate::answers::{accepted, refused_by};
 use crate::{Answer, PackedAnswer};
 use caller::HostFigure;
 use caller::figure::write_figure;
 use packed::read::read_lone;
-use packed::{Figure, Packed};
 
 // A place in a field is small.
 fn narrow(place: usize) -> u16
@@ -16,53 +16,6 @@ fn narrow(place: usize) -> u16
     ensures { result ≡ place }
 {
     place as u16
-}
-
-fn given_answer(number: i32) -> PackedAnswer
-    ensures { result ≡ record { number = number; place = 0; code = 0; given = 1 } }
-{
-    PackedAnswer {
-        number,
-        place: 0,
-        code: 0,
-        given: 1,
-    }
-}
-
-fn bare_answer(code: u8, place: u16) -> PackedAnswer
-    ensures { result ≡ record { number = pos 0; place = place; code = code; given = 0 } }
-{
-    PackedAnswer {
-        number: 0,
-        place,
-        code,
-        given: 0,
-    }
-}
-
-fn figure_answer(figure: Figure) -> PackedAnswer
-    ensures { result ≡ packed_numbers (Packed.Is figure) }
-{
-    match figure {
-        Figure::Given(x) => given_answer(x),
-        Figure::Missing => bare_answer(0, 0),
-    }
-}
-
-fn packed_answer(p: Packed) -> PackedAnswer
-    requires { place_of p ≤ 5 }
-    ensures { result ≡ packed_numbers p }
-{
-    match p {
-        Packed::Is(figure) => figure_answer(figure),
-        Packed::Refused(code, place) => bare_answer(code, narrow(place)),
-    }
-}
-
-pub fn esk_packed_read(field: &[u8]) -> PackedAnswer
-    ensures { result ≡ packed_numbers (read_packed field.now) }
-{
-    packed_answer(read_lone(field))
 }
 
 // A field's width is small.
@@ -73,25 +26,28 @@ fn wide(width: usize) -> u32
     width as u32
 }
 
-fn write_answer(code: u8, width: usize) -> Answer
-    requires { code ≡ 0 → width ≤ 5 }
-    ensures { result ≡ write_answer code width }
+pub fn esk_packed_read(field: &[u8]) -> PackedAnswer
+    ensures { result ≡ packed_numbers (read_packed field.now) }
 {
-    if code == 0 {
-        return Answer {
+    match read_lone(field) {
+        Ok(Some(number)) => PackedAnswer {
+            number,
             place: 0,
-            length: wide(width),
             code: 0,
-            text: 0,
-            spare: 0,
-        };
-    }
-    Answer {
-        place: 0,
-        length: 0,
-        code,
-        text: 0,
-        spare: 0,
+            given: 1,
+        },
+        Ok(None) => PackedAnswer {
+            number: 0,
+            place: 0,
+            code: 0,
+            given: 0,
+        },
+        Err(r) => PackedAnswer {
+            number: 0,
+            place: narrow(r.place),
+            code: r.code.number(),
+            given: 0,
+        },
     }
 }
 
@@ -99,6 +55,8 @@ pub fn esk_packed_write(figure: HostFigure, width: usize, out: &mut [u8]) -> Ans
     ensures { (result ≡ write_answer (write_figure_code figure width (length out.old)) width)
         × (out.new ≡ figure_over figure width out.old) }
 {
-    let code = write_figure(figure, width, out);
-    write_answer(code, width)
+    match write_figure(figure, width, out) {
+        Ok(()) => accepted(wide(width)),
+        Err(code) => refused_by(code),
+    }
 }

@@ -7,15 +7,14 @@ ghost use Rattle.caller.specs.Forms.{host_seen};
 ghost use Rattle.desk.specs.Numbers.{check_numbers, write_numbers};
 ghost use Rattle.desk.specs.Reports.{report_numbers};
 
-use crate::answers::{answer_of, numbers};
+use crate::answers::{accepted, numbers, refused};
 use crate::{Answer, ReportAnswer};
 use caller::HostReport;
 use caller::records::host_report;
 use caller::write::write_host;
 use packed::table::{digit_table, worth_table};
-use report::Got;
 use report::check::check;
-use report::read::read;
+use report::read::{no_report, read};
 
 pub fn esk_report_check(text: &[u8]) -> Answer
     ensures { result ≡ check_numbers (check_text text.now) }
@@ -24,21 +23,20 @@ pub fn esk_report_check(text: &[u8]) -> Answer
     numbers(check(&t, text), 0)
 }
 
-fn report_answer(g: Got) -> ReportAnswer
-    ensures { result ≡ report_numbers g }
-{
-    let report = g.report;
-    ReportAnswer {
-        answer: answer_of(g.code, g.place),
-        report: host_report(report),
-    }
-}
-
 pub fn esk_report_read(text: &[u8]) -> ReportAnswer
     ensures { result ≡ report_numbers (read_report text.now) }
 {
     let t = worth_table();
-    report_answer(read(&t, text))
+    match read(&t, text) {
+        Ok(report) => ReportAnswer {
+            answer: accepted(0),
+            report: host_report(report),
+        },
+        Err(r) => ReportAnswer {
+            answer: refused(r),
+            report: host_report(no_report()),
+        },
+    }
 }
 
 pub fn esk_report_write(report: HostReport, out: &mut [u8]) -> Answer
@@ -46,6 +44,5 @@ pub fn esk_report_write(report: HostReport, out: &mut [u8]) -> Answer
         × (out.new ≡ left_by (host_seen report (length out.old)) (report_text (record_of report)) out.old) }
 {
     let t = digit_table();
-    let seen = write_host(&t, report, out);
-    numbers(seen, 220)
+    numbers(write_host(&t, report, out), 220)
 }

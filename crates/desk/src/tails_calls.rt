@@ -2,103 +2,70 @@
 ghost use Rattle.std.specs.Prelude.{◌≡◌, length};
 ghost use Rattle.board.specs.Board.{reply_of};
 ghost use Rattle.board.specs.Lent.{on_slots, on_area, on_out};
-ghost use Rattle.board.specs.Inner.{wanted_by, done_of, add_move, take_move};
 ghost use Rattle.tails.specs.Calls.{search_lent, has_list, made_lent, add_listed, take_listed, on_list};
-ghost use Rattle.tails.specs.Inner.{is_list_in, sought_in, has_list_in, made_in, held_to, relisted};
-ghost use Rattle.desk.specs.Waiting.{reply_numbers, board_numbers, served_by};
-ghost use Rattle.desk.specs.Tails.{tail_numbers};
+ghost use Rattle.desk.specs.Waiting.{reply_numbers, board_numbers, relisted_by};
+ghost use Rattle.desk.specs.Tails.{host_tail, tail_numbers};
 
-use crate::board_calls::{Served, serve_add, serve_take};
+use crate::board_calls::{checked, store, stored_answer};
 use crate::{Answer, HostTail};
+use board::hand::hand_over;
 use board::look::wanted;
-use board::scan::{look_over, set_slot};
-use board::{Findings, Slot, Wanted};
+use board::place::place_text;
+use board::scan::look_over;
+use board::{Slot, Stored};
 use tails::keys::{Keys, keys_of};
 use tails::lent::{Sought, held_to, is_list_of, make_list, relist, seek};
+use text::{Code, Refusal};
 
-fn tail_told(s: Sought) -> HostTail
-    ensures { result ≡ tail_numbers s }
+fn host_tail(code: u8, slot: u8, at: u8) -> HostTail
+    ensures { result ≡ host_tail code slot at }
 {
     HostTail {
         place: 0,
-        code: s.code,
-        slot: s.slot,
-        at: s.at,
+        code,
+        slot,
+        at,
         spare: 0,
         rest: 0,
     }
 }
 
-fn serve_find(k: Keys, list: &[u8], designator: &[u8]) -> HostTail
-    ensures { result ≡ tail_numbers (sought_in k list.now (wanted_by designator.now)) }
+// Where no slot waits for the aircraft, how many come before it is told all the same.
+fn tail_answer(found: Result<Sought, Code>) -> HostTail
+    ensures { result ≡ tail_numbers found }
 {
-    let w = wanted(designator);
-    tail_told(seek(k, list, w))
-}
-
-fn serve_make(k: Keys, list: &mut [u8]) -> Answer
-    ensures { (result ≡ board_numbers (has_list_in k list.old))
-        × (list.new ≡ made_in k list.old) }
-{
-    let made = make_list(k, list);
-    Answer {
-        place: 0,
-        length: 0,
-        code: if made { 0 } else { 10 },
-        text: 0,
-        spare: 0,
+    match found {
+        Ok(
+            Sought {
+                slot: Some(slot),
+                at,
+            },
+        ) => host_tail(0, slot, at),
+        Ok(Sought { slot: None, at }) => host_tail(Code::NothingWaits.number(), 0, at),
+        Err(code) => host_tail(code.number(), 0, 0),
     }
 }
 
-fn serve_listed_add(
-    v: Findings,
-    w: Wanted,
-    k: Keys,
-    list: &mut [u8],
-    area: &mut [u8],
-    text: &[u8],
-) -> Served
-    ensures { (result ≡ served_by (done_of v.count w (add_move (held_to v (is_list_in k list.old)) w area.old text.now)))
-        × (list.new ≡ relisted k list.old (is_list_in k list.old) result.at result.slot)
-        × (area.new ≡ on_area (add_move (held_to v (is_list_in k list.old)) w area.old text.now) area.old) }
+// The list after what was done on the board.
+fn relist_by(k: Keys, list: &mut [u8], fits: bool, done: Result<Stored, Refusal>)
+    ensures { list.new ≡ relisted_by k list.old fits done }
 {
-    let fits = is_list_of(k, list);
-    let s = serve_add(held_to(v, fits), w, area, text);
-    relist(k, list, fits, s.at, s.slot);
-    s
-}
-
-fn serve_listed_take(
-    v: Findings,
-    w: Wanted,
-    k: Keys,
-    list: &mut [u8],
-    area: &[u8],
-    out: &mut [u8],
-) -> Served
-    ensures { (result ≡ served_by (done_of v.count w (take_move (held_to v (is_list_in k list.old)) w area.now (length out.old))))
-        × (list.new ≡ relisted k list.old (is_list_in k list.old) result.at result.slot)
-        × (out.new ≡ on_out (take_move (held_to v (is_list_in k list.old)) w area.now (length out.old)) out.old) }
-{
-    let fits = is_list_of(k, list);
-    let s = serve_take(held_to(v, fits), w, area, out);
-    relist(k, list, fits, s.at, s.slot);
-    s
+    if let Ok(stored) = done {
+        relist(k, list, fits, stored.at, stored.slot);
+    }
 }
 
 pub fn esk_tails_find(slots: &[Slot], list: &[u8], designator: &[u8]) -> HostTail
     ensures { result ≡ tail_numbers (search_lent slots.now list.now designator.now) }
 {
-    let k = keys_of(slots);
-    serve_find(k, list, designator)
+    tail_answer(seek(keys_of(slots), list, wanted(designator)))
 }
 
 pub fn esk_tails_make(slots: &[Slot], list: &mut [u8]) -> Answer
     ensures { (result ≡ board_numbers (has_list slots.now list.old))
         × (list.new ≡ made_lent slots.now list.old) }
 {
-    let k = keys_of(slots);
-    serve_make(k, list)
+    checked(make_list(keys_of(slots), list))
 }
 
 pub fn esk_tails_add(
@@ -115,10 +82,12 @@ pub fn esk_tails_add(
 {
     let w = wanted(designator);
     let k = keys_of(slots);
-    let v = look_over(slots, area, w);
-    let s = serve_listed_add(v, w, k, list, area, text);
-    set_slot(slots, s.at, s.slot);
-    s.answer
+    let fits = is_list_of(k, list);
+    let v = held_to(look_over(slots, area, w), fits);
+    let done = place_text(v, w, area, text);
+    relist_by(k, list, fits, done);
+    store(slots, done);
+    stored_answer(done)
 }
 
 pub fn esk_tails_take(
@@ -135,8 +104,10 @@ pub fn esk_tails_take(
 {
     let w = wanted(designator);
     let k = keys_of(slots);
-    let v = look_over(slots, area, w);
-    let s = serve_listed_take(v, w, k, list, area, out);
-    set_slot(slots, s.at, s.slot);
-    s.answer
+    let fits = is_list_of(k, list);
+    let v = held_to(look_over(slots, area, w), fits);
+    let done = hand_over(v, w, area, out);
+    relist_by(k, list, fits, done);
+    store(slots, done);
+    stored_answer(done)
 }

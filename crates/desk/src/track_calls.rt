@@ -1,24 +1,24 @@
 // Tracks for C.
 ghost use Rattle.std.specs.Prelude.{◌≡◌};
-ghost use Rattle.track.specs.Track.{followed};
+ghost use Rattle.track.specs.Track.{no_point, followed};
 ghost use Rattle.desk.specs.Tracks.{track_numbers};
 
 use crate::HostTrack;
-use crate::answers::answer_of;
+use crate::answers::{accepted, refused};
+use caller::figure::host_figure;
 use packed::table::worth_table;
-use track::Followed;
+use track::HostPoint;
 use track::follow::follow;
 
-fn track_answer(f: Followed) -> HostTrack
-    ensures { result ≡ track_numbers f }
+// Behind the last observation, and in a refusal: all zero.
+fn no_point() -> HostPoint
+    ensures { result ≡ no_point }
 {
-    let track = f.track;
-    let points = track.points;
-    HostTrack {
-        answer: answer_of(f.code, f.place),
-        count: track.count,
-        spare: 0,
-        points,
+    let none = host_figure(None);
+    HostPoint {
+        latitude: none,
+        longitude: none,
+        seconds: none,
     }
 }
 
@@ -26,5 +26,24 @@ pub fn esk_report_track(text: &[u8]) -> HostTrack
     ensures { result ≡ track_numbers (followed text.now) }
 {
     let t = worth_table();
-    track_answer(follow(&t, text))
+    match follow(&t, text) {
+        Ok(track) => {
+            let points = track.points;
+            HostTrack {
+                answer: accepted(0),
+                count: track.count,
+                spare: 0,
+                points,
+            }
+        }
+        Err(r) => {
+            let none = no_point();
+            HostTrack {
+                answer: refused(r),
+                count: 0,
+                spare: 0,
+                points: [none; 8],
+            }
+        }
+    }
 }

@@ -3,8 +3,8 @@ ghost use Rattle.std.specs.Prelude.{◌≡◌, length};
 ghost use Rattle.journal.specs.Journal.{last_entry};
 ghost use Rattle.journal.specs.Calls.{check_journal, added, added_over, dropped, replayed};
 ghost use Rattle.journal.specs.Printed.{print_told, printed_over};
-ghost use Rattle.desk.specs.Numbers.{check_numbers};
-ghost use Rattle.desk.specs.Journal.{journal_numbers, entry_numbers, replay_numbers, kept_replay};
+ghost use Rattle.desk.specs.Numbers.{check_numbers, length_numbers};
+ghost use Rattle.desk.specs.Journal.{entry_numbers, replay_numbers, kept_replay};
 
 use desk::{Answer, HostEntry};
 use settings::Settings;
@@ -31,7 +31,7 @@ pub extern "C" fn esk_journal_add(
     designator: &[u8],
     text: &[u8],
 ) -> Answer
-    ensures { (result ≡ journal_numbers (added journal.old end designator.now text.now))
+    ensures { (result ≡ length_numbers (added journal.old end designator.now text.now))
         × (journal.new ≡ added_over journal.old end designator.now text.now) }
 {
     desk::esk_journal_add(journal, end, designator, text)
@@ -39,14 +39,14 @@ pub extern "C" fn esk_journal_add(
 
 #[unsafe(no_mangle)]
 pub extern "C" fn esk_journal_drop(journal: &[u8], end: usize, count: usize) -> Answer
-    ensures { result ≡ journal_numbers (dropped journal.now end count) }
+    ensures { result ≡ length_numbers (dropped journal.now end count) }
 {
     desk::esk_journal_drop(journal, end, count)
 }
 
 #[unsafe(no_mangle)]
 pub extern "C" fn esk_journal_print(journal: &[u8], end: usize, out: &mut [u8]) -> Answer
-    ensures { (result ≡ journal_numbers (print_told journal.now end (length out.old)))
+    ensures { (result ≡ length_numbers (print_told journal.now end (length out.old)))
         × (out.new ≡ printed_over journal.now end out.old) }
 {
     desk::esk_journal_print(journal, end, out)

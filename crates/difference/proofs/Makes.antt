@@ -11,7 +11,6 @@ use lib.ListN.{length, get_or, replicate}
 use borrow.Author.Tests.{eqb-true, eq-eqb, ne_eqb, not-true, not-false}
 use Rattle.text.specs.Parts.{part}
 use Rattle.text.specs.Table.{values}
-use Rattle.text.specs.declared.Seen.TheVariants.{Fine}
 use Rattle.text.proofs.Cases.{by_test, both_left, both_right}
 use Rattle.text.proofs.Table.{agree}
 use Rattle.field.proofs.Local.{part-byte}
@@ -45,10 +44,14 @@ use Rattle.commute.proofs.Numbered.{each_of, numbered, of_number, each_number}
 use Rattle.commute.proofs.Order.{flag-least}
 use Rattle.commute.proofs.Same.{named_some, held_bytes}
 use Rattle.difference.specs.Same.{same_contents}
-use Rattle.difference.specs.Difference.{flag_differs, section_differs, items, by_item, those, differing, set_by, between, difference}
+use Rattle.difference.specs.Difference.{flag_differs, section_differs, items, by_item, those, differing, set_by, between, answered, difference}
 use Rattle.difference.proofs.Equal.{same_contents_lem}
 use Rattle.difference.proofs.List.{each_item, flag_item, section_item, by_flag_lem, by_section, those-none, none_pass, those_fewer}
 use Rattle.difference.proofs.Marks.{flags_to, valid-flag, flag_at, held_back, between-allowed}
+use Rattle.std.specs.Prelude.{Result, Ok, Err}
+use Rattle.text.specs.declared.Code.{Code}
+use Rattle.text.specs.declared.Code.TheVariants.{NoRoom, SettingsInvalid}
+use Rattle.difference.specs.declared.Differing.{Differing}
 
 -- ---- Differing, as a test and as a fact
 
@@ -294,11 +297,11 @@ module _ (a b : Settings) where
             inhibited = three.1;
           }
 
-      text-back : (check_command text ≡ Fine) × (command_of text ≡ between a b)
+      text-back : (check_command text ≡ (Ok tt)) × (command_of text ≡ between a b)
       text-back = write_read (between a b) between-full (between-allowed a b ok)
 
       -- it is accepted
-      pub text-fine : check_command text ≡ Fine
+      pub text-fine : check_command text ≡ (Ok tt)
       text-fine = text-back.0
 
       -- and no longer than the longest
@@ -406,12 +409,15 @@ module _ (a b : Settings) where
         )
 
 -- the length that is answered is no more than the longest command's
-pub answer-short : (a b : Settings) (room : ℕ) → Filled (holding b) → (difference a b room).length ≤ longest
+pub answer-short : (a b : Settings) (room : ℕ) → Filled (holding b) → (d : Differing) → difference a b room ≡ Ok d → d.length ≤ longest
 unfolding difference
-answer-short a b room full =
+answer-short a b room full d e =
     by_test (valid a && valid b)
     (λ ok.
     by_test (leb (length (text a b)) room)
-    (λ t. rw (ok, t) (text-short a b (both_right (valid a) (valid b) ok) full))
-    (λ t. rw (ok, t) (omega arith)))
-    (λ no. rw no (omega arith))
+    (λ t.
+    let same : ◌≡◌ {A = Result Differing Code} (Ok (answered (differing a b) (length (text a b)))) (Ok d) = rw (ok, t) at e in
+    let is : answered (differing a b) (length (text a b)) ≡ d = cc in
+    rw (← is) (text-short a b (both_right (valid a) (valid b) ok) full))
+    (λ t. let z : ◌≡◌ {A = Result Differing Code} (Err NoRoom) (Ok d) = rw (ok, t) at e in cc))
+    (λ no. let z : ◌≡◌ {A = Result Differing Code} (Err SettingsInvalid) (Ok d) = rw no at e in cc)

@@ -9,7 +9,6 @@ use lib.ListN.{get_or}
 use borrow.Author.Tests.{eq-eqb, ne_eqb, lt-ltb, le-ltb, le-leb, leb-true}
 use Rattle.text.specs.Checks.{is_fine}
 use Rattle.text.specs.Table.{values}
-use Rattle.text.specs.declared.Seen.TheVariants.{Fine}
 use Rattle.text.proofs.Cases.{by_lt, both_left, both_right}
 use Rattle.text.proofs.Checks.{fine-is}
 use Rattle.text.proofs.Table.{at}
@@ -29,6 +28,7 @@ use Rattle.commute.specs.Commute.{flag_numbers}
 use Rattle.commute.proofs.Numbered.{of_number, each_number}
 use Rattle.difference.specs.Difference.{flag_differs, section_differs, by_item, those, differing, between}
 use Rattle.difference.specs.Inner.{item_at, set_at, set_items, held_if, marked}
+use Rattle.std.specs.Prelude.{Ok}
 
 -- ---- By flag and by section
 
@@ -75,7 +75,7 @@ items-set test flags named i (suc n) h =
 -- ---- Digits of the head
 
 -- flags that are each allowed
-each-flag : (f : ℕ → ℕ) → ((i : ℕ) → flag_allowed (f i) ≡ true) → (is : List ℕ) (place : ℕ) → flags_allowed place (map f is) ≡ Fine
+each-flag : (f : ℕ → ℕ) → ((i : ℕ) → flag_allowed (f i) ≡ true) → (is : List ℕ) (place : ℕ) → flags_allowed place (map f is) ≡ (Ok tt)
 unfolding flags_allowed
 each-flag f h [] place = refl
 each-flag f h (i ∷ is) place = rw (h i) (each-flag f h is (place + 1))
@@ -94,7 +94,7 @@ own-or true k = rw (eq-eqb k k refl) (or-true (eqb k 0))
 own-or false k = refl
 
 named-fine : (g : ℕ → ℕ) → ((k : ℕ) → is_empty (layout_of k) ≡ false → (eqb (g k) 0 || eqb (g k) k) ≡ true) → (ks : List ℕ) (place : ℕ)
-    → Each (λ k. is_empty (layout_of k) ≡ false) ks → named_allowed ks place (map g ks) ≡ Fine
+    → Each (λ k. is_empty (layout_of k) ≡ false) ks → named_allowed ks place (map g ks) ≡ (Ok tt)
 unfolding named_allowed
 named-fine g h [] place e = refl
 named-fine g h (k ∷ ks) place e = rw (e.0, h k e.0) (named-fine g h ks (place + 1) e.1)
@@ -152,7 +152,7 @@ module _ (a b : Settings) where
   unfolding between
   names_differ k lo hi = marks_differ k lo hi
 
-  marks-fine : named_allowed numbers 13 (between a b).named ≡ Fine
+  marks-fine : named_allowed numbers 13 (between a b).named ≡ (Ok tt)
   unfolding between
   marks-fine = named-fine (λ k. cond (section_differs a b k) k 0) (λ k h. own-or (section_differs a b k) k) numbers 13 sections-there
 
@@ -182,16 +182,16 @@ module _ (a b : Settings) where
 
     -- ---- Within its limits
 
-    flags-fine : flags_allowed 5 (between a b).settings.flags ≡ Fine
+    flags-fine : flags_allowed 5 (between a b).settings.flags ≡ (Ok tt)
     unfolding between settings_from
     flags-fine =
         each-flag (λ (i : ℕ). cond (flag_differs a b i) (get_or b.flags i 0) 9)
         (λ i. or-nine (flag_differs a b i) (get_or b.flags i 0) (valid-flag b.flags flags-ok i)) flag_numbers 5
 
-    section-ok : Each (λ k. (place : ℕ) → contents_allowed (layout_of k) place (contents_of b k) ≡ Fine) numbers
+    section-ok : Each (λ k. (place : ℕ) → contents_allowed (layout_of k) place (contents_of b k) ≡ (Ok tt)) numbers
     section-ok =
         each_with (λ k. (place : ℕ) → is_fine (contents_allowed (layout_of k) place (contents_of b k)) ≡ allowed_section b k)
-        (λ k. allowed_section b k ≡ true) (λ k. (place : ℕ) → contents_allowed (layout_of k) place (contents_of b k) ≡ Fine)
+        (λ k. allowed_section b k ≡ true) (λ k. (place : ℕ) → contents_allowed (layout_of k) place (contents_of b k) ≡ (Ok tt))
         (λ k e t place. fine-is (contents_allowed (layout_of k) place (contents_of b k)) (e place ∙ t)) numbers (sections_are b) (allowed-each b ok)
 
     good : Each (Good (between a b)) numbers
@@ -200,12 +200,12 @@ module _ (a b : Settings) where
         (λ k lo hi.
         let m : names (between a b) k ≡ section_differs a b k = names_differ k lo hi in
         record {
-          allowed = λ n place. rw (of_number (λ j. section_differs a b j ≡ true → contents_of (between a b).settings j ≡ contents_of b j) held_back k lo hi (sym m ∙ n)) (of_number (λ j. (q : ℕ) → contents_allowed (layout_of j) q (contents_of b j) ≡ Fine) section-ok k lo hi place);
+          allowed = λ n place. rw (of_number (λ j. section_differs a b j ≡ true → contents_of (between a b).settings j ≡ contents_of b j) held_back k lo hi (sym m ∙ n)) (of_number (λ j. (q : ℕ) → contents_allowed (layout_of j) q (contents_of b j) ≡ (Ok tt)) section-ok k lo hi place);
           unused = λ n. of_number (λ j. section_differs a b j ≡ false → are_zero (contents_of (between a b).settings j) ≡ true) unset_zero k lo hi (sym m ∙ n);
         })
 
     -- the record is refused nowhere
-    pub between-allowed : command_allowed (between a b) ≡ Fine
+    pub between-allowed : command_allowed (between a b) ≡ (Ok tt)
     unfolding command_allowed between
     between-allowed =
         rw (flags-fine, marks-fine) (sections-fine numbers 22 (between a b) good)

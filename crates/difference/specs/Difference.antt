@@ -1,6 +1,8 @@
 -- Document 02, §5: what differs between two configurations, and the command that makes the first into the second.
-use Rattle.std.specs.Prelude.{Bool, cond, ◌&&◌, not, List, [], ◌∷◌, ◌++◌, map, ℕ, ◌-◌, leb, ltb, eqb, length, get_or, replicate}
+use Rattle.std.specs.Prelude.{Bool, cond, ◌&&◌, not, List, [], ◌∷◌, ◌++◌, map, ℕ, ◌-◌, leb, ltb, eqb, length, get_or, replicate, Result, Ok, Err}
 use Rattle.text.specs.Over.{over}
+use Rattle.text.specs.declared.Code.{Code}
+use Rattle.text.specs.declared.Code.TheVariants.{NoRoom, SettingsInvalid}
 use Rattle.section.specs.Layout.{numbers}
 use Rattle.settings.specs.Settings.{contents_of, settings_from}
 use Rattle.settings.specs.Valid.{valid}
@@ -65,22 +67,20 @@ between a b =
 abbrev pub listing : List ℕ → Listed
 listing js = record { count = length js; items = js ++ replicate (15 - length js) 0 }
 
-abbrev pub refused : ℕ → Differing
-refused code = record { code = code; length = 0; listed = listing [] }
-
 abbrev pub answered : List ℕ → ℕ → Differing
-answered js n = record { code = 0; length = n; listed = listing js }
+answered js n = record { length = n; listed = listing js }
 
--- the refusal's code, 0 where there is none
-abbrev pub refusal : Settings → Settings → ℕ → ℕ
-refusal a b room = cond (valid a && valid b) (cond (leb (length (command_text (between a b))) room) 0 2) 12
-
-unfoldable pub difference : Settings → Settings → ℕ → Differing
+unfoldable pub difference : Settings → Settings → ℕ → Result Differing Code
 difference a b room =
-    cond (eqb (refusal a b room) 0)
-    (answered (differing a b) (length (command_text (between a b))))
-    (refused (refusal a b room))
+    cond (valid a && valid b)
+    (cond (leb (length (command_text (between a b))) room)
+    (Ok (answered (differing a b) (length (command_text (between a b)))))
+    (Err NoRoom))
+    (Err SettingsInvalid)
 
 -- what the buffer holds afterwards
 unfoldable pub left_by : Settings → Settings → List ℕ → List ℕ
-left_by a b out = cond (eqb (refusal a b (length out)) 0) (over out 0 (command_text (between a b))) out
+left_by a b out =
+    cond (valid a && valid b && leb (length (command_text (between a b))) (length out))
+    (over out 0 (command_text (between a b)))
+    out

@@ -22,10 +22,7 @@ use settings::{Airports, Fixed, Regions, Settings};
 fn flag_between(v: u8, w: u8) -> u8
     ensures { result ≡ cond (not (eqb v w)) w 9 }
 {
-    if v != w {
-        return w;
-    }
-    9
+    if v == w { 9 } else { w }
 }
 
 fn flags_between(a: [u8; 7], b: [u8; 7]) -> [u8; 7]
@@ -46,12 +43,10 @@ fn flags_between(a: [u8; 7], b: [u8; 7]) -> [u8; 7]
 fn mark(same: bool, k: u8) -> u8
     ensures { result ≡ cond (not same) k 0 }
 {
-    if same {
-        return 0;
-    }
-    k
+    if same { 0 } else { k }
 }
 
+#[tactic(auto, unfolding(settings::specs::Settings::contents_of))]
 fn marks_between(a: Settings, b: Settings) -> [u8; 8]
     ensures { result ≡ map (λ (k : ℕ). cond (section_differs a b k) k 0) numbers }
 {
@@ -71,31 +66,25 @@ fn marks_between(a: Settings, b: Settings) -> [u8; 8]
 
 // ---- Each section where it is named, else nothing, which is zero
 
+#[tactic(auto, unfolding(settings::specs::Settings::regions_from))]
 fn regions_if(named: bool, x: Regions) -> Regions
     ensures { result ≡ regions_from (held_if named (regions_hold x)) }
 {
-    if named {
-        return x;
-    }
-    no_regions()
+    if named { x } else { no_regions() }
 }
 
+#[tactic(auto, unfolding(settings::specs::Settings::airports_from))]
 fn airports_if(named: bool, x: Airports) -> Airports
     ensures { result ≡ airports_from (held_if named (airports_hold x)) }
 {
-    if named {
-        return x;
-    }
-    no_airports()
+    if named { x } else { no_airports() }
 }
 
+#[tactic(auto, using(settings::proofs::ByNumber::no_bytes), unfolding(section::specs::Inner::numbers_of))]
 fn numbers_if(named: bool, x: Fixed, k: usize) -> [u16; 8]
     ensures { (result ≡ numbers_of (held_if named (fixed_hold x k))) × Held k result }
 {
-    if named {
-        return numbers_of(x, k);
-    }
-    [0; 8]
+    if named { numbers_of(x, k) } else { [0; 8] }
 }
 
 fn fixed_if(named: [u8; 8], x: Fixed) -> Fixed
@@ -112,24 +101,21 @@ fn fixed_if(named: [u8; 8], x: Fixed) -> Fixed
 }
 
 // Flags, and of other settings the sections that are named.
+#[tactic(auto, unfolding(settings::specs::Settings::settings_from, settings::specs::Settings::contents_of))]
 fn settings_if(flags: [u8; 7], named: [u8; 8], x: Settings) -> Settings
     ensures { result ≡ settings_from flags (λ (k : ℕ). held_if (marked named k) (contents_of x k)) }
 {
     let fixed = fixed_if(named, fixed_of(x));
-    let enroute = fixed.enroute;
-    let ascent = fixed.ascent;
-    let descent = fixed.descent;
-    let hours = fixed.hours;
     Settings {
         flags,
         regions: regions_if(named[0] == 2, x.regions),
         airports: airports_if(named[1] == 3, x.airports),
-        enroute,
-        ascent,
-        descent,
+        enroute: fixed.enroute,
+        ascent: fixed.ascent,
+        descent: fixed.descent,
         routine6: fixed.routine6,
         routine8: fixed.routine8,
-        hours,
+        hours: fixed.hours,
     }
 }
 
@@ -139,9 +125,7 @@ pub fn command_between(a: Settings, b: Settings) -> Command
     ensures { result ≡ between a b }
 {
     let named = marks_between(a, b);
-    let old = a.flags;
-    let new = b.flags;
-    let flags = flags_between(old, new);
+    let flags = flags_between(a.flags, b.flags);
     Command {
         settings: settings_if(flags, named, b),
         downlink: 0,

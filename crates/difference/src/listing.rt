@@ -1,27 +1,15 @@
 // The items that a command's flags and indicators set, in their order.
-ghost use Rattle.std.specs.Prelude.{◌≡◌, [], ◌<◌};
+ghost use Rattle.std.specs.Prelude.{◌≡◌, ◌<◌};
 ghost use Rattle.difference.specs.Difference.{listing};
 ghost use Rattle.difference.specs.Inner.{item_at, set_at, set_items};
 
 use crate::Listed;
 
-pub fn no_list() -> Listed
-    ensures { result ≡ listing [] }
-{
-    Listed {
-        count: 0,
-        items: [0u8; 15],
-    }
-}
-
 fn item_at(i: usize) -> u8
     requires { i < 15 }
     ensures { result ≡ item_at i }
 {
-    if i < 7 {
-        return (i + 1) as u8;
-    }
-    (i + 5) as u8
+    if i < 7 { (i + 1) as u8 } else { (i + 5) as u8 }
 }
 
 // A flag that is not 9, a section that is named.
@@ -30,24 +18,23 @@ fn is_set(flags: [u8; 7], named: [u8; 8], i: usize) -> bool
     ensures { result ≡ set_at flags named i }
 {
     if i < 7 {
-        return flags[i] != 9;
+        flags[i] != 9
+    } else {
+        named[i - 7] != 0
     }
-    named[i - 7] != 0
 }
 
 // Each is put at the end of those before it.
 pub fn list_set(flags: [u8; 7], named: [u8; 8]) -> Listed
     ensures { result ≡ listing (set_items flags named 0 15) }
 {
-    let mut items: [u8; 15] = [0; 15];
+    let mut items = [0u8; 15];
     let mut count: usize = 0;
-    let mut i: usize = 0;
-    while i < 15 {
+    for i in 0..15 {
         if is_set(flags, named, i) {
             items[count] = item_at(i);
             count += 1;
         }
-        i += 1;
     }
     Listed {
         count: count as u8,

@@ -8,7 +8,6 @@ use field::{Edge, Region};
 use lists::{Airfields, Boxes};
 use settings::numbers::numbers_of;
 use settings::{Airports, ByPhase, Fixed, Regions};
-use text::same_bytes;
 
 fn same_edge(a: Edge, b: Edge) -> bool
     ensures { result ≡ same_edge a b }
@@ -30,10 +29,8 @@ fn same_regions(a: [Region; 16], b: [Region; 16]) -> bool
     ensures { result ≡ same_regions a b }
 {
     let mut same = true;
-    let mut i: usize = 0;
-    while i < 16 {
-        same = same & same_region(a[i], b[i]);
-        i += 1;
+    for i in 0..16 {
+        same &= same_region(a[i], b[i]);
     }
     same
 }
@@ -41,17 +38,14 @@ fn same_regions(a: [Region; 16], b: [Region; 16]) -> bool
 fn same_boxes(a: Boxes, b: Boxes) -> bool
     ensures { result ≡ same_boxes a b }
 {
-    let first = a.regions;
-    let second = b.regions;
-    (a.count == b.count) & same_regions(first, second)
+    (a.count == b.count) & same_regions(a.regions, b.regions)
 }
 
+#[tactic(auto, using(text::proofs::Equal::pointwise_same))]
 fn same_airfields(a: Airfields, b: Airfields) -> bool
     ensures { result ≡ same_airfields a b }
 {
-    let first = a.names;
-    let second = b.names;
-    (a.count == b.count) & same_bytes(&first, &second)
+    (a.count == b.count) & (a.names == b.names)
 }
 
 fn same_phases(a: ByPhase, b: ByPhase) -> bool
@@ -61,6 +55,7 @@ fn same_phases(a: ByPhase, b: ByPhase) -> bool
 }
 
 // Section 2.
+#[tactic(auto, using(crate::proofs::Equal::two), unfolding(crate::specs::Same::same_contents))]
 pub fn same_section2(a: Regions, b: Regions) -> bool
     ensures { result ≡ same_contents (regions_hold a) (regions_hold b) }
 {
@@ -68,6 +63,7 @@ pub fn same_section2(a: Regions, b: Regions) -> bool
 }
 
 // Section 3.
+#[tactic(auto, using(crate::proofs::Equal::five), unfolding(crate::specs::Same::same_contents))]
 pub fn same_section3(a: Airports, b: Airports) -> bool
     ensures { result ≡ same_contents (airports_hold a) (airports_hold b) }
 {
@@ -76,16 +72,11 @@ pub fn same_section3(a: Airports, b: Airports) -> bool
         & (a.routine == b.routine)
 }
 
+#[tactic(auto, using(text::proofs::Equal::pointwise_same))]
 fn same_numbers(a: [u16; 8], b: [u16; 8]) -> bool
     ensures { result ≡ same_bytes a b }
 {
-    let mut same = true;
-    let mut i: usize = 0;
-    while i < 8 {
-        same = same & (a[i] == b[i]);
-        i += 1;
-    }
-    same
+    a == b
 }
 
 // A section of numbers, 4 to 9.

@@ -8,8 +8,8 @@ use native.Mathlib.Nat.{add-zero, zero-add, pow-suc, pow-zero, pow-le-pow_right,
 use native.Mathlib.Numerals.{add-one}
 use lib.Arith.{digits_lt}
 use lib.Dec.{leb, lit<}
-use lib.ListN.{length, get_or, set, drop, length-drop, drop_of_length-le}
-use lib.Seq.{drop-cons, drop-set-lt, get_or-take, get_or-drop, get_or-set_same, lt-length-set, length-take-le}
+use lib.ListN.{length, get_or, set, take, drop, length-drop, drop_of_length-le}
+use lib.Seq.{drop-cons, drop-set-lt, get_or-set_same, lt-length-set, length-take-le}
 use borrow.Author.Tests.{le-leb, lt-leb, leb-true}
 use Rattle.text.proofs.Cases.{both_left, both_right}
 use Rattle.text.specs.Parts.{part}
@@ -38,48 +38,47 @@ digit-high b e = leb-true b 57 (both_right (leb 48 b) (leb b 57) e)
 pub part-long : (s : List ℕ) (at w : ℕ) → at + w ≤ length s → length (part at w s) ≡ w
 part-long s at w h = length-take-le w (drop at s) (omega (arith, length-drop at s))
 
-part-next : (s : List ℕ) (at w i : ℕ) → at + w ≤ length s → i < w
-    → drop i (part at w s) ≡ get_or s (at + i) 0 ∷ drop (i + 1) (part at w s)
-part-next s at w i h k =
-    rw (add-one, drop-cons (part at w s) i 0 (omega (arith, part-long s at w h)), get_or-take w (drop at s) i 0 k, get_or-drop at s i 0)
+-- the range from at up to at + w is that part
+pub part_cut : (s : List ℕ) (at w : ℕ) → take (at + w - at) (drop at s) ≡ part at w s
+part_cut s at w = let e : at + w - at ≡ w = omega arith in ap (λ (n : ℕ). take n (drop at s)) e
 
-module _ (s : List ℕ) (at w i : ℕ) (h : at + w ≤ length s) (k : i < w) where
+-- ---- A text, digit by digit
+
+module _ (ds : List ℕ) (i : ℕ) (h : i < length ds) where
+  next : drop i ds ≡ get_or ds i 0 ∷ drop (i + 1) ds
+  next = rw (add-one, drop-cons ds i 0)
+
   -- one digit is passed
-  pub digits_step : is_digit (get_or s (at + i) 0) ≡ true → all_digits (drop i (part at w s)) ≡ all_digits (drop (i + 1) (part at w s))
+  pub digits_step : is_digit (get_or ds i 0) ≡ true → all_digits (drop i ds) ≡ all_digits (drop (i + 1) ds)
   unfolding all_digits
-  digits_step e = rw (part-next s at w i h k, e)
+  digits_step e = rw (next, e)
 
   -- where all that is left are digits, the next byte is one, and so are those behind it
-  pub digits-next : all_digits (drop i (part at w s)) ≡ true
-      → (is_digit (get_or s (at + i) 0) ≡ true) × (all_digits (drop (i + 1) (part at w s)) ≡ true)
+  pub digits-next : all_digits (drop i ds) ≡ true → (is_digit (get_or ds i 0) ≡ true) × (all_digits (drop (i + 1) ds) ≡ true)
   unfolding all_digits
   digits-next e =
-      let split : (is_digit (get_or s (at + i) 0) && all_digits (drop (i + 1) (part at w s))) ≡ true = rw (part-next s at w i h k) at e in
-      (both_left (is_digit (get_or s (at + i) 0)) _ split, both_right (is_digit (get_or s (at + i) 0)) _ split)
+      let split : (is_digit (get_or ds i 0) && all_digits (drop (i + 1) ds)) ≡ true = rw next at e in
+      (both_left (is_digit (get_or ds i 0)) _ split, both_right (is_digit (get_or ds i 0)) _ split)
 
   -- a byte that is no digit
-  pub digits_stop : is_digit (get_or s (at + i) 0) ≡ false → all_digits (drop i (part at w s)) ≡ false
+  pub digits_stop : is_digit (get_or ds i 0) ≡ false → all_digits (drop i ds) ≡ false
   unfolding all_digits
-  digits_stop e = rw (part-next s at w i h k, e)
+  digits_stop e = rw (next, e)
 
   -- the digit's worth
-  pub value-step : (n : ℕ)
-      → value_from n (drop i (part at w s)) ≡ value_from (n * 10 + (get_or s (at + i) 0 - 48)) (drop (i + 1) (part at w s))
+  pub value-step : (n : ℕ) → value_from n (drop i ds) ≡ value_from (n * 10 + (get_or ds i 0 - 48)) (drop (i + 1) ds)
   unfolding value_from
-  value-step n = rw (part-next s at w i h k)
+  value-step n = rw next
 
 -- nothing is left
-module _ (s : List ℕ) (at w i : ℕ) (h : at + w ≤ length s) (k : w ≤ i) where
-  end : drop i (part at w s) ≡ []
-  end = drop_of_length-le (part at w s) {i = i} (omega (arith, part-long s at w h))
-
-  pub digits_end : all_digits (drop i (part at w s)) ≡ true
+module _ (ds : List ℕ) (i : ℕ) (h : length ds ≤ i) where
+  pub digits_end : all_digits (drop i ds) ≡ true
   unfolding all_digits
-  digits_end = rw end
+  digits_end = rw (drop_of_length-le ds {i = i})
 
-  pub value_end : (n : ℕ) → value_from n (drop i (part at w s)) ≡ n
+  pub value_end : (n : ℕ) → value_from n (drop i ds) ≡ n
   unfolding value_from
-  value_end n = rw end
+  value_end n = rw (drop_of_length-le ds {i = i})
 
 -- ---- What digits are worth
 

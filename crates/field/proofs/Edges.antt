@@ -7,42 +7,42 @@ use native.Mathlib.Omega.{arith}
 use native.Mathlib.Nat.{add-zero}
 use lib.Dec.{leb, lit≤}
 use lib.ListN.{length, get_or}
-use borrow.Author.Tests.{lt-ltb, le-leb, lt-leb}
+use borrow.Author.Tests.{le-leb, lt-leb}
 use Rattle.text.specs.Parts.{part}
 use Rattle.text.proofs.Cases.{by_test, by_le}
 use Rattle.text.proofs.Parts.{part_bytes}
 use Rattle.field.specs.declared.Circle.{Circle}
-use Rattle.field.specs.declared.Step.{Step}
-use Rattle.field.specs.declared.Step.TheVariants.{Next, Stop}
-use Rattle.field.specs.declared.boxes.Line.{Line}
-use Rattle.field.specs.declared.boxes.Line.TheVariants.{Lies, Wrong}
 use Rattle.field.specs.Decimal.{all_digits, value}
 use Rattle.field.specs.Boxes.{latitude, longitude, is_letter, below_zero, line_of, north_first, edge_at, check_edge, check_pair, check_box}
-use Rattle.field.specs.Fields.{after}
+use Rattle.text.specs.Checks.{after, refuse}
 use Rattle.field.specs.Steps.{number_or, line_or, edge_line, in_order, two_lines}
 use Rattle.field.proofs.Decimal.{part-long, value-small}
+use Rattle.std.specs.Prelude.{Result, Ok, Err}
+use Rattle.text.specs.declared.Refusal.{Refusal}
+use Rattle.text.specs.declared.Code.TheVariants.{NotAllowed, OtherSpelling, OutOfRange, WrongEnd}
+use Rattle.text.specs.declared.Code.{Code}
 
 -- the step that an edge's line makes
-abbrev step_of : Line → ℕ → ℕ → Step
-step_of (Lies x) at end = Next end
-step_of (Wrong code) at end = Stop code at
+abbrev step_of : Result ℕ Code → ℕ → ℕ → Result ℕ Refusal
+step_of (Ok x) at end = Ok end
+step_of (Err code) at end = refuse code at
 
 pushed : (a b d : Bool) (x at end : ℕ)
-    → cond a (cond b (Stop 6 at) (cond d (Next end) (Stop 5 at))) (Stop 4 at)
-    ≡ step_of (cond a (cond b (Wrong 6) (cond d (Lies x) (Wrong 5))) (Wrong 4)) at end
+    → cond a (cond b (refuse OtherSpelling at) (cond d (Ok end) (refuse OutOfRange at))) (refuse NotAllowed at)
+    ≡ step_of (cond a (cond b (Err OtherSpelling) (cond d (Ok x) (Err OutOfRange))) (Err NotAllowed)) at end
 pushed true true d x at end = refl
 pushed true false true x at end = refl
 pushed true false false x at end = refl
 pushed false b d x at end = refl
 
-wrong_lies {ℓ} : {P : Type ℓ} (code x : ℕ) → Wrong code ≡ Lies x → P
+wrong_lies {ℓ} : {P : Type ℓ} (code : Code) (x : ℕ) → Err code ≡ Ok x → P
 wrong_lies code x e = let z : ◌≡◌ {A = ℕ} 0 1 = cc in absurd (omega arith)
 
-lies_is : (a b d : Bool) (y x : ℕ) → cond a (cond b (Wrong 6) (cond d (Lies y) (Wrong 5))) (Wrong 4) ≡ Lies x → y ≡ x
-lies_is true true d y x e = wrong_lies 6 x e
+lies_is : (a b d : Bool) (y x : ℕ) → cond a (cond b (Err OtherSpelling) (cond d (Ok y) (Err OutOfRange))) (Err NotAllowed) ≡ Ok x → y ≡ x
+lies_is true true d y x e = wrong_lies OtherSpelling x e
 lies_is true false true y x e = cc
-lies_is true false false y x e = wrong_lies 5 x e
-lies_is false b d y x e = wrong_lies 4 x e
+lies_is true false false y x e = wrong_lies OutOfRange x e
+lies_is false b d y x e = wrong_lies NotAllowed x e
 
 module _ (c : Circle) (s : List ℕ) (narrow : c.width ≤ 3) where
   -- where the text has the whole edge, and its digits are digits
@@ -60,13 +60,13 @@ module _ (c : Circle) (s : List ℕ) (narrow : c.width ≤ 3) where
       rw (le-leb (at + (c.width + 1)) (length s) h)
       (by_test (all_digits p)
       (λ (d : all_digits p ≡ true).
-      rw (d, lt-ltb (value p) 1000 (small at h d))
+      rw d
       (pushed (is_letter c l) (below_zero c (value p) l) (leb (value p) c.most) (line_of c (record { degrees = value p; letter = l })) at (at + (c.width + 1))))
       (λ (d : all_digits p ≡ false). rw d)))
       (λ h. rw (lt-leb (at + (c.width + 1)) (length s) h))
 
   -- and its line is that of the edge which the text says
-  edge-line : (at x : ℕ) → edge_line c s at ≡ Lies x → line_of c (edge_at c s at) ≡ x
+  edge-line : (at x : ℕ) → edge_line c s at ≡ Ok x → line_of c (edge_at c s at) ≡ x
   unfolding edge_line line_or number_or edge_at
   edge-line at x e =
       let p = part at c.width s in
@@ -77,29 +77,29 @@ module _ (c : Circle) (s : List ℕ) (narrow : c.width ≤ 3) where
       by_test (all_digits p)
       (λ (d : all_digits p ≡ true).
       lies_is (is_letter c l) (below_zero c (value p) l) (leb (value p) c.most) (line_of c (record { degrees = value p; letter = l })) x
-      (rw (d, lt-ltb (value p) 1000 (small at h d)) at f))
-      (λ (d : all_digits p ≡ false). wrong_lies 4 x (rw d at f)))
-      (λ h. wrong_lies 8 x (rw (lt-leb (at + (c.width + 1)) (length s) h) at e))
+      (rw d at f))
+      (λ (d : all_digits p ≡ false). wrong_lies NotAllowed x (rw d at f)))
+      (λ h. wrong_lies WrongEnd x (rw (lt-leb (at + (c.width + 1)) (length s) h) at e))
 
   -- a pair's check goes by its two lines
-  pub pair-lines : (falling : Bool) (at : ℕ)
+  pub pair_lines : (falling : Bool) (at : ℕ)
       → let mid = at + (c.width + 1) in
       check_pair c (in_order falling c) s at ≡ two_lines falling (edge_line c s at) (edge_line c s mid) at mid (mid + (c.width + 1))
   unfolding check_pair
-  pair-lines falling at = first (edge_line c s at) refl
+  pair_lines falling at = first (edge_line c s at) refl
     where
       mid : ℕ
       mid = at + (c.width + 1)
 
-      second : (x : ℕ) → edge_line c s at ≡ Lies x → (r : Line) → edge_line c s mid ≡ r
+      second : (x : ℕ) → edge_line c s at ≡ Ok x → (r : Result ℕ Code) → edge_line c s mid ≡ r
           → check_pair c (in_order falling c) s at ≡ two_lines falling (edge_line c s at) (edge_line c s mid) at mid (mid + (c.width + 1))
-      second x e (Wrong code) f = rw (edge-step at, e, edge-step mid, f)
-      second x e (Lies y) f = rw (edge-step at, e, edge-step mid, f, edge-line at x e, edge-line mid y f)
+      second x e (Err code) f = rw (edge-step at, e, edge-step mid, f)
+      second x e (Ok y) f = rw (edge-step at, e, edge-step mid, f, edge-line at x e, edge-line mid y f)
 
-      first : (r : Line) → edge_line c s at ≡ r
+      first : (r : Result ℕ Code) → edge_line c s at ≡ r
           → check_pair c (in_order falling c) s at ≡ two_lines falling (edge_line c s at) (edge_line c s mid) at mid (mid + (c.width + 1))
-      first (Wrong code) e = rw (edge-step at, e)
-      first (Lies x) e = second x e (edge_line c s mid) refl
+      first (Err code) e = rw (edge-step at, e)
+      first (Ok x) e = second x e (edge_line c s mid) refl
 
 -- a latitude, byte by byte
 pub latitude-bytes : (s : List ℕ) (at : ℕ) → at + 3 ≤ length s
@@ -114,13 +114,13 @@ unfolding edge_line
 longitude-bytes s at h = rw (le-leb (at + 4) (length s) h, part_bytes 3 at s (omega arith), add-zero at)
 
 -- two edges in any order are a pair that nothing is asked of
-plain : (x : Step) → x ≡ after x Next
-plain (Next p) = refl
-plain (Stop code place) = refl
+plain : (x : Result ℕ Refusal) → x ≡ after x Ok
+plain (Ok p) = refl
+plain (Err r) = refl
 
-either_way : (x : Step) (f : ℕ → Step) → after x f ≡ after x (λ p. after (f p) Next)
-either_way (Next p) f = plain (f p)
-either_way (Stop code place) f = refl
+either_way : (x : Result ℕ Refusal) (f : ℕ → Result ℕ Refusal) → after x f ≡ after x (λ p. after (f p) Ok)
+either_way (Ok p) f = plain (f p)
+either_way (Err r) f = refl
 
 pub any_order : (c : Circle) (s : List ℕ) (at : ℕ)
     → after (check_edge c s at) (check_edge c s) ≡ check_pair c (in_order false c) s at
@@ -133,23 +133,23 @@ pub box_pairs : (s : List ℕ) (at : ℕ)
 unfolding check_box
 box_pairs s at = each (check_pair latitude north_first s at)
   where
-    each : (x : Step)
+    each : (x : Result ℕ Refusal)
         → after x (λ west. after (check_edge longitude s west) (check_edge longitude s))
         ≡ after x (check_pair longitude (in_order false longitude) s)
-    each (Next west) = any_order longitude s west
-    each (Stop code place) = refl
+    each (Ok west) = any_order longitude s west
+    each (Err r) = refl
 
 -- the two pairs of a box
 pub latitude-lines : (s : List ℕ) (at : ℕ)
     → check_pair latitude north_first s at ≡ two_lines true (edge_line latitude s at) (edge_line latitude s (at + 3)) at (at + 3) (at + 6)
 latitude-lines s at =
     let end : at + 3 + 3 ≡ at + 6 = omega arith in
-    pair-lines latitude s (lit≤ tt) true at
+    pair_lines latitude s (lit≤ tt) true at
     ∙ ap (λ (n : ℕ). two_lines true (edge_line latitude s at) (edge_line latitude s (at + 3)) at (at + 3) n) end
 
 pub longitude-lines : (s : List ℕ) (at : ℕ)
     → check_pair longitude (in_order false longitude) s at ≡ two_lines false (edge_line longitude s at) (edge_line longitude s (at + 4)) at (at + 4) (at + 8)
 longitude-lines s at =
     let end : at + 4 + 4 ≡ at + 8 = omega arith in
-    pair-lines longitude s (lit≤ tt) false at
+    pair_lines longitude s (lit≤ tt) false at
     ∙ ap (λ (n : ℕ). two_lines false (edge_line longitude s at) (edge_line longitude s (at + 4)) at (at + 4) n) end

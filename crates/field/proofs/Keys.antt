@@ -1,23 +1,22 @@
 -- A box by the keys of its edges: a key grows as its digits' number does, so its tests are those of the edges.
-use mathlib.Core.Path.{◌≡◌, refl, sym, ◌∙◌}
+use mathlib.Core.Path.{◌≡◌, refl, sym, ap, ◌∙◌}
 use mathlib.Core.Bool.{Bool, true, false, ◌&&◌, ◌||◌}
 use mathlib.Core.List.{List, [], ◌∷◌}
 use Prim.Native.Nat.{ℕ, ◌+◌, ◌-◌, ◌*◌, ◌≤◌, ◌<◌}
 use native.Mathlib.Omega.{arith}
 use lib.Dec.{leb, eqb, lit≤}
 use lib.ListN.{length, get_or}
-use borrow.Author.Tests.{lt-ltb, le-leb, leb-true, ne_eqb}
+use borrow.Author.Tests.{le-leb, leb-true, ne_eqb}
 use Rattle.text.proofs.Cases.{by_test, by_lt, both_left, both_right}
 use Rattle.field.specs.declared.Circle.{Circle}
 use Rattle.field.specs.declared.Edge.{Edge}
-use Rattle.field.specs.declared.Step.TheVariants.{Next}
-use Rattle.field.specs.declared.boxes.Line.TheVariants.{Lies}
 use Rattle.field.specs.Decimal.{is_digit}
 use Rattle.field.specs.Boxes.{latitude, longitude, line_of, north_first, check_pair}
 use Rattle.field.specs.Steps.{number_or, line_or, in_order, key_of, least_key, key_line, edge_fine, latitudes_fine, longitude_fine, longitudes_fine}
 use Rattle.field.proofs.Decimal.{digit-is, digit_low, digit-high}
 use Rattle.field.proofs.Number.{two_digits, three_digits}
 use Rattle.field.proofs.Edges.{latitude-bytes, longitude-bytes, latitude-lines, longitude-lines}
+use Rattle.std.specs.Prelude.{Option, Some, Ok}
 
 -- three digits
 record Digits (a b c : ℕ) : Type 0 where
@@ -68,7 +67,7 @@ key-order a b c x y z d e h =
 module _ (c : Circle) (a b z l : ℕ) (d : Digits a b z) where
   -- where the least key is reached, the letter is one of the two and zero is not below zero
   lies : (p q r : ℕ) → Digits p q r → spelt p q r ≡ c.most → c.most ≤ 999 → least_key c l ≤ key_of a b z → key_of a b z ≤ key_of p q r
-      → line_or c (spelt a b z) l ≡ Lies (line_of c (record { degrees = spelt a b z; letter = l }))
+      → line_or c (Some (spelt a b z)) l ≡ Ok (line_of c (record { degrees = spelt a b z; letter = l }))
   unfolding least_key line_or
   lies p q r e m w h k =
       let n = spelt a b z in
@@ -76,10 +75,10 @@ module _ (c : Circle) (a b z l : ℕ) (d : Digits a b z) where
       by_test (eqb l c.below)
       (λ (x : eqb l c.below ≡ true).
       let one : 1 ≤ n = key-order 48 48 49 a b z (digits_of_lem 48 48 49 (lit≤ tt) (lit≤ tt) (lit≤ tt) (lit≤ tt) (lit≤ tt) (lit≤ tt)) d (rw x at h) in
-      rw (lt-ltb n 1000 (omega arith), x, or-true (eqb l c.above), ne_eqb n 0 (λ y. absurd (omega arith)), le-leb n c.most t))
+      rw (x, or-true (eqb l c.above), ne_eqb n 0 (λ y. absurd (omega arith)), le-leb n c.most t))
       (λ (x : eqb l c.below ≡ false).
       by_test (eqb l c.above)
-      (λ (y : eqb l c.above ≡ true). rw (lt-ltb n 1000 (omega arith), x, y, and-false (eqb n 0), le-leb n c.most t))
+      (λ (y : eqb l c.above ≡ true). rw (x, y, and-false (eqb n 0), le-leb n c.most t))
       (λ (y : eqb l c.above ≡ false). absurd (omega (arith, rw (x, y) at h, d.a_high, d.b-high, d.c-high))))
 
 least-low : (c : Circle) (l : ℕ) → key_of 48 48 48 ≤ least_key c l
@@ -109,9 +108,9 @@ module _ (c : Circle) (most k digit l : ℕ) (e : edge_fine c most k digit l ≡
 abbrev edge : ℕ → ℕ → ℕ → ℕ → Edge
 edge a b z l = record { degrees = spelt a b z; letter = l }
 
-record Lying (c : Circle) (n a b z l : ℕ) : Type 0 where
+record Lying (c : Circle) (n : Option ℕ) (a b z l : ℕ) : Type 0 where
   pub digits : Digits a b z
-  pub there : line_or c n l ≡ Lies (line_of c (edge a b z l))
+  pub there : line_or c n l ≡ Ok (line_of c (edge a b z l))
 
 -- a latitude
 north : (a b l : ℕ) → edge_fine latitude (key_of 48 57 48) (key_of 48 a b) b l ≡ true → Lying latitude (number_or (a ∷ b ∷ [])) 48 a b l
@@ -125,7 +124,8 @@ north a b l e =
     let a_low : 48 ≤ a = omega arith in
     let a_high : a ≤ 57 = omega arith in
     let d = digits_of_lem 48 a b (lit≤ tt) (lit≤ tt) a_low a_high low high in
-    let n : number_or (a ∷ b ∷ []) ≡ spelt 48 a b = two_digits a b (digit-is a a_low a_high) z ∙ omega arith in
+    let s : (a - 48) * 10 + (b - 48) ≡ spelt 48 a b = omega arith in
+    let n : number_or (a ∷ b ∷ []) ≡ Some (spelt 48 a b) = two_digits a b (digit-is a a_low a_high) z ∙ ap Some s in
     record {
       digits = d;
       there = rw n (lies latitude 48 a b l d 48 57 48 (digits_of_lem 48 57 48 (lit≤ tt) (lit≤ tt) (lit≤ tt) (lit≤ tt) (lit≤ tt) (lit≤ tt)) refl (lit≤ tt) h k);
@@ -147,7 +147,7 @@ west a b z l e =
     let a_low : 48 ≤ a = omega arith in
     let a_high : a ≤ 57 = omega arith in
     let d = digits_of_lem a b z a_low a_high b-low b-high z-low z-high in
-    let n : number_or (a ∷ b ∷ z ∷ []) ≡ spelt a b z = three_digits a b z (digit-is a a_low a_high) y x in
+    let n : number_or (a ∷ b ∷ z ∷ []) ≡ Some (spelt a b z) = three_digits a b z (digit-is a a_low a_high) y x in
     record {
       digits = d;
       there = rw n (lies longitude a b z l d 49 56 48 (digits_of_lem 49 56 48 (lit≤ tt) (lit≤ tt) (lit≤ tt) (lit≤ tt) (lit≤ tt) (lit≤ tt)) refl (lit≤ tt) h k);
@@ -201,7 +201,7 @@ ordered c a b z l x y w m d e o =
 -- north not below south
 pub latitudes : (s : List ℕ) (at : ℕ) → at + 6 ≤ length s
     → latitudes_fine (get_or s at 0) (get_or s (at + 1) 0) (get_or s (at + 2) 0) (get_or s (at + 3) 0) (get_or s (at + 3 + 1) 0) (get_or s (at + 3 + 2) 0) ≡ true
-    → check_pair latitude north_first s at ≡ Next (at + 6)
+    → check_pair latitude north_first s at ≡ Ok (at + 6)
 latitudes s at room e =
     let a = get_or s at 0 in
     let b = get_or s (at + 1) 0 in
@@ -225,7 +225,7 @@ latitudes s at room e =
 -- longitudes in any order
 pub longitudes : (s : List ℕ) (at : ℕ) → at + 8 ≤ length s
     → longitudes_fine (get_or s at 0) (get_or s (at + 1) 0) (get_or s (at + 2) 0) (get_or s (at + 3) 0) (get_or s (at + 4) 0) (get_or s (at + 4 + 1) 0) (get_or s (at + 4 + 2) 0) (get_or s (at + 4 + 3) 0) ≡ true
-    → check_pair longitude (in_order false longitude) s at ≡ Next (at + 8)
+    → check_pair longitude (in_order false longitude) s at ≡ Ok (at + 8)
 longitudes s at room e =
     let a = get_or s at 0 in
     let b = get_or s (at + 1) 0 in

@@ -2,7 +2,7 @@
 use mathlib.Core.Path.{◌≡◌, refl, sym, ap, ◌∙◌}
 use mathlib.Core.Bool.{Bool, true, false, cond, ◌&&◌}
 use mathlib.Core.List.{List}
-use Prim.Native.Nat.{ℕ, suc, ◌+◌}
+use Prim.Native.Nat.{ℕ, ◌+◌}
 use native.Mathlib.Omega.{arith}
 use native.Mathlib.Nat.{add-zero}
 use lib.Dec.{leb, eqb}
@@ -11,10 +11,9 @@ use lib.Seq.{take-take}
 use Rattle.text.specs.Names.{all_allowed}
 use Rattle.text.specs.Parts.{part}
 use Rattle.field.specs.Decimal.{all_digits, value}
-use Rattle.field.specs.Fields.{after, room, check_digits, check_delimiter, check_airfield}
+use Rattle.field.specs.Fields.{room, check_digits, check_delimiter, check_airfield}
+use Rattle.text.specs.Checks.{after, refuse}
 use Rattle.field.specs.Boxes.{latitude, longitude, is_letter, below_zero, edge_at, check_edge, check_pair, check_box, north_first, region_at}
-use Rattle.field.specs.declared.Step.{Step}
-use Rattle.field.specs.declared.Step.TheVariants.{Next, Stop}
 use Rattle.field.specs.declared.Circle.{Circle}
 use Rattle.field.specs.declared.Edge.{Edge}
 use Rattle.field.specs.declared.Region.{Region}
@@ -22,45 +21,49 @@ use Rattle.field.specs.Steps.{in_order}
 use Rattle.field.proofs.Edges.{any_order}
 use Rattle.field.proofs.Local.{Local, Reads, Sized, outcome, field, field_local, field-reads, field-sized, part-byte, local_same, same_reads, same-sized, reads_fixed, reads_with, reads_same}
 use Rattle.field.proofs.LocalThen.{bound_local, bound-first, bound-second, bound-sized, judged, judged_local, judged-reads, judged-sized}
+use Rattle.std.specs.Prelude.{Option, Some, None, Result, Ok}
+use Rattle.text.specs.declared.Refusal.{Refusal}
+use Rattle.text.specs.declared.Code.TheVariants.{Disagree, NotAllowed, OtherSpelling, OutOfRange, WrongFixed}
+use Rattle.text.specs.declared.Code.{Code}
 
 -- ---- Each field as its bytes and a test of them
 
-abbrev digits_test : ℕ → ℕ → ℕ → List ℕ → ℕ
-digits_test code least most b = cond (all_digits b) (cond (leb least (value b) && leb (value b) most) 0 (suc code)) (suc 4)
+abbrev digits_test : Code → ℕ → ℕ → List ℕ → Option Code
+digits_test code least most b = cond (all_digits b) (cond (leb least (value b) && leb (value b) most) None (Some code)) (Some NotAllowed)
 
-abbrev delimiter_test : List ℕ → ℕ
-delimiter_test b = cond (eqb (get_or b 0 0) 47) 0 (suc 3)
+abbrev delimiter_test : List ℕ → Option Code
+delimiter_test b = cond (eqb (get_or b 0 0) 47) None (Some WrongFixed)
 
-abbrev airfield_test : List ℕ → ℕ
-airfield_test b = cond (all_allowed b) 0 (suc 4)
+abbrev airfield_test : List ℕ → Option Code
+airfield_test b = cond (all_allowed b) None (Some NotAllowed)
 
 abbrev edge_of : Circle → List ℕ → Edge
 edge_of c b = record { degrees = value (take c.width b); letter = get_or b c.width 0 }
 
-abbrev edge_test : Circle → List ℕ → ℕ
+abbrev edge_test : Circle → List ℕ → Option Code
 edge_test c b =
     cond (all_digits (take c.width b) && is_letter c (get_or b c.width 0))
-    (cond (below_zero c (value (take c.width b)) (get_or b c.width 0)) (suc 6) (cond (leb (value (take c.width b)) c.most) 0 (suc 5)))
-    (suc 4)
+    (cond (below_zero c (value (take c.width b)) (get_or b c.width 0)) (Some OtherSpelling) (cond (leb (value (take c.width b)) c.most) None (Some OutOfRange)))
+    (Some NotAllowed)
 
-one_test : (t : Bool) (code at next : ℕ) → outcome (cond t 0 (suc code)) at next ≡ cond t (Next next) (Stop code at)
+one_test : (t : Bool) (code : Code) (at next : ℕ) → outcome (cond t None (Some code)) at next ≡ cond t (Ok next) (refuse code at)
 one_test true code at next = refl
 one_test false code at next = refl
 
-two-tests : (t u : Bool) (code at next : ℕ)
-    → cond t (cond u (Next next) (Stop code at)) (Stop 4 at) ≡ outcome (cond t (cond u 0 (suc code)) (suc 4)) at next
+two-tests : (t u : Bool) (code : Code) (at next : ℕ)
+    → cond t (cond u (Ok next) (refuse code at)) (refuse NotAllowed at) ≡ outcome (cond t (cond u None (Some code)) (Some NotAllowed)) at next
 two-tests true true code at next = refl
 two-tests true false code at next = refl
 two-tests false u code at next = refl
 
 three_tests : (t u w : Bool) (at next : ℕ)
-    → cond t (cond u (Stop 6 at) (cond w (Next next) (Stop 5 at))) (Stop 4 at) ≡ outcome (cond t (cond u (suc 6) (cond w 0 (suc 5))) (suc 4)) at next
+    → cond t (cond u (refuse OtherSpelling at) (cond w (Ok next) (refuse OutOfRange at))) (refuse NotAllowed at) ≡ outcome (cond t (cond u (Some OtherSpelling) (cond w None (Some OutOfRange))) (Some NotAllowed)) at next
 three_tests true true w at next = refl
 three_tests true false true at next = refl
 three_tests true false false at next = refl
 three_tests false u w at next = refl
 
-digits-field : (code w least most : ℕ) (s : List ℕ) (at : ℕ)
+digits-field : (code : Code) (w least most : ℕ) (s : List ℕ) (at : ℕ)
     → check_digits code w least most s at ≡ field w (digits_test code least most) s at
 unfolding check_digits
 digits-field code w least most s at =
@@ -72,11 +75,11 @@ first_byte s at = part-byte 1 s at 0 (omega arith) ∙ rw (add-zero at)
 
 delimiter-field : (s : List ℕ) (at : ℕ) → check_delimiter s at ≡ field 1 delimiter_test s at
 unfolding check_delimiter
-delimiter-field s at = rw (first_byte s at) (ap (room 1 s at) (sym (one_test (eqb (get_or s at 0) 47) 3 at (at + 1))))
+delimiter-field s at = rw (first_byte s at) (ap (room 1 s at) (sym (one_test (eqb (get_or s at 0) 47) WrongFixed at (at + 1))))
 
 airfield-field : (s : List ℕ) (at : ℕ) → check_airfield s at ≡ field 4 airfield_test s at
 unfolding check_airfield
-airfield-field s at = ap (room 4 s at) (sym (one_test (all_allowed (part at 4 s)) 4 at (at + 4)))
+airfield-field s at = ap (room 4 s at) (sym (one_test (all_allowed (part at 4 s)) NotAllowed at (at + 4)))
 
 edge-field : (c : Circle) (s : List ℕ) (at : ℕ) → check_edge c s at ≡ field (c.width + 1) (edge_test c) s at
 unfolding check_edge
@@ -89,11 +92,11 @@ edge-field c s at =
 
 -- ---- Digits, the delimiter, airfields
 
-module _ (code w least most : ℕ) where
-  abbrev check : List ℕ → ℕ → Step
+module _ (code : Code) (w least most : ℕ) where
+  abbrev check : List ℕ → ℕ → Result ℕ Refusal
   check = check_digits code w least most
 
-  abbrev bytes : List ℕ → ℕ → Step
+  abbrev bytes : List ℕ → ℕ → Result ℕ Refusal
   bytes = field w (digits_test code least most)
 
   -- digits are local
@@ -156,15 +159,15 @@ abbrev pair_at : Circle → List ℕ → ℕ → Edge × Edge
 pair_at c s at = (edge_at c s at, edge_at c s (at + (c.width + 1)))
 
 module _ (c : Circle) (in_order : Edge → Edge → Bool) where
-  abbrev second : Edge → List ℕ → ℕ → Step
-  second e = judged (check_edge c) (edge_at c) (in_order e) 7
+  abbrev second : Edge → List ℕ → ℕ → Result ℕ Refusal
+  second e = judged (check_edge c) (edge_at c) (in_order e) Disagree
 
   -- a pair of edges is local
   pub pair_local : Local (check_pair c in_order)
   unfolding check_pair
   pair_local =
       bound_local (check_edge c) (edge_at c) second (edge_local c) (edge-reads c)
-      (λ e. judged_local (check_edge c) (edge_at c) (in_order e) 7 (edge_local c) (edge-reads c))
+      (λ e. judged_local (check_edge c) (edge_at c) (in_order e) Disagree (edge_local c) (edge-reads c))
 
   -- the two edges that are read there
   pub pair_reads : Reads (check_pair c in_order) (pair_at c)
@@ -173,23 +176,23 @@ module _ (c : Circle) (in_order : Edge → Edge → Bool) where
       reads_with (check_pair c in_order) (edge_at c) (λ s at. edge_at c s (at + (c.width + 1))) (λ n m. (n, m))
       (bound-first (check_edge c) (edge_at c) second (edge_at c) (edge-reads c))
       (bound-second (check_edge c) (edge_at c) second (λ s at. c.width + 1) (λ e. edge_at c) (edge-reads c) (edge-sized c)
-      (λ e. judged-reads (check_edge c) (edge_at c) (in_order e) 7 (edge_at c) (edge-reads c)))
+      (λ e. judged-reads (check_edge c) (edge_at c) (in_order e) Disagree (edge_at c) (edge-reads c)))
 
   -- it is as long as both
   pub pair-sized : Sized (check_pair c in_order) (λ s at. c.width + 1 + (c.width + 1))
   unfolding check_pair
   pair-sized =
       bound-sized (check_edge c) (edge_at c) second (λ s at. c.width + 1) (λ e s at. c.width + 1) (edge-reads c) (edge-sized c)
-      (λ e. judged-sized (check_edge c) (edge_at c) (in_order e) 7 (λ s at. c.width + 1) (edge-sized c))
+      (λ e. judged-sized (check_edge c) (edge_at c) (in_order e) Disagree (λ s at. c.width + 1) (edge-sized c))
 
 abbrev no_value : List ℕ → ℕ → ℕ
 no_value s at = 0
 
 -- longitudes are a pair in any order
-abbrev any_pair : List ℕ → ℕ → Step
+abbrev any_pair : List ℕ → ℕ → Result ℕ Refusal
 any_pair = check_pair longitude (in_order false longitude)
 
-abbrev longitudes : ℕ → List ℕ → ℕ → Step
+abbrev longitudes : ℕ → List ℕ → ℕ → Result ℕ Refusal
 longitudes a s at = after (check_edge longitude s at) (check_edge longitude s)
 
 -- a box is local

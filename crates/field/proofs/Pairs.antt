@@ -2,26 +2,27 @@
 use mathlib.Core.Path.{◌≡◌, refl, ap, ◌∙◌}
 use mathlib.Core.Bool.{true, false}
 use Prim.Native.Nat.{ℕ, ◌+◌}
-use Rattle.text.specs.declared.Seen.{Seen}
-use Rattle.text.specs.declared.Seen.TheVariants.{Fine, Bad}
 use Rattle.text.specs.Checks.{must, ◌and_then◌}
 use Rattle.field.specs.declared.Region.{Region}
 use Rattle.field.specs.Boxes.{latitude, longitude, north_first, edge_allowed, region_allowed}
 use Rattle.field.specs.Steps.{pair_allowed}
+use Rattle.std.specs.Prelude.{Result, Ok, Err}
+use Rattle.text.specs.declared.Refusal.{Refusal}
+use Rattle.text.specs.declared.Code.TheVariants.{Disagree}
 
 -- checks in a row may be grouped
-then_assoc : (x y z : Seen) → ((x and_then y) and_then z) ≡ (x and_then (y and_then z))
-then_assoc Fine y z = refl
-then_assoc (Bad code place) y z = refl
+then_assoc : (x y z : Result (Unit {0}) Refusal) → ((x and_then y) and_then z) ≡ (x and_then (y and_then z))
+then_assoc (Ok u) y z = refl
+then_assoc (Err r) y z = refl
 
 -- and nothing may follow them
-nothing-more : (x y : Seen) → (x and_then y and_then Fine) ≡ (x and_then y)
-nothing-more Fine Fine = refl
-nothing-more Fine (Bad code place) = refl
-nothing-more (Bad code place) y = refl
+nothing-more : (x y : Result (Unit {0}) Refusal) → (x and_then y and_then (Ok tt)) ≡ (x and_then y)
+nothing-more (Ok u) (Ok v) = refl
+nothing-more (Ok u) (Err r) = refl
+nothing-more (Err r) y = refl
 
-three : (x y m z : Seen) → ((x and_then y and_then m) and_then z) ≡ (x and_then y and_then m and_then z)
-three x y m z = then_assoc x (y and_then m) z ∙ ap (λ (r : Seen). x and_then r) (then_assoc y m z)
+three : (x y m z : Result (Unit {0}) Refusal) → ((x and_then y and_then m) and_then z) ≡ (x and_then y and_then m and_then z)
+three x y m z = then_assoc x (y and_then m) z ∙ ap (λ (r : Result (Unit {0}) Refusal). x and_then r) (then_assoc y m z)
 
 -- a box is its latitudes and then its longitudes
 pub region_pairs : (at : ℕ) (b : Region)
@@ -29,7 +30,7 @@ pub region_pairs : (at : ℕ) (b : Region)
     ≡ region_allowed at b
 unfolding pair_allowed region_allowed
 region_pairs at b =
-    three (edge_allowed latitude at b.north) (edge_allowed latitude (at + 3) b.south) (must (north_first b.north b.south) 7 (at + 3))
-    (edge_allowed longitude (at + 6) b.west and_then edge_allowed longitude (at + 10) b.east and_then Fine)
-    ∙ ap (λ (r : Seen). edge_allowed latitude at b.north and_then edge_allowed latitude (at + 3) b.south and_then must (north_first b.north b.south) 7 (at + 3) and_then r)
+    three (edge_allowed latitude at b.north) (edge_allowed latitude (at + 3) b.south) (must (north_first b.north b.south) Disagree (at + 3))
+    (edge_allowed longitude (at + 6) b.west and_then edge_allowed longitude (at + 10) b.east and_then (Ok tt))
+    ∙ ap (λ (r : Result (Unit {0}) Refusal). edge_allowed latitude at b.north and_then edge_allowed latitude (at + 3) b.south and_then must (north_first b.north b.south) Disagree (at + 3) and_then r)
     (nothing-more (edge_allowed longitude (at + 6) b.west) (edge_allowed longitude (at + 10) b.east))

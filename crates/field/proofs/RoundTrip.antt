@@ -9,7 +9,6 @@ use lib.Dec.{leb, lit<}
 use lib.ListN.{length, get_or, drop, length-drop}
 use lib.Seq.{take-suc, get_or-drop}
 use borrow.Author.Tests.{le-leb, leb-true, not-true}
-use Rattle.text.specs.declared.Seen.TheVariants.{Fine}
 use Rattle.text.specs.Checks.{must, ◌and_then◌}
 use Rattle.text.specs.Parts.{part}
 use Rattle.text.proofs.Checks.{must-held, both-fine}
@@ -17,7 +16,6 @@ use Rattle.text.proofs.Stands.{Stands, stands-part, stands-byte, stands-left, st
 use Rattle.field.specs.declared.Circle.{Circle}
 use Rattle.field.specs.declared.Edge.{Edge}
 use Rattle.field.specs.declared.Region.{Region}
-use Rattle.field.specs.declared.Step.TheVariants.{Next}
 use Rattle.field.specs.Decimal.{all_digits, value, decimal}
 use Rattle.field.specs.Fields.{check_digits, check_delimiter}
 use Rattle.field.specs.Boxes.{latitude, longitude, is_letter, below_zero, north_first, edge_at, edge_text, edge_allowed, check_edge, region_at, region_text, region_allowed, check_box}
@@ -25,6 +23,9 @@ use Rattle.field.proofs.Decimal.{part-long, decimal-length, decimal-digits, valu
 use Rattle.field.proofs.Number.{digits-fine}
 use Rattle.field.proofs.Accepted.{number, edge, box, box-next}
 use Rattle.field.proofs.Spelling.{edge-length}
+use Rattle.std.specs.Prelude.{Ok}
+use Rattle.text.specs.declared.Code.{Code}
+use Rattle.text.specs.declared.Code.TheVariants.{Disagree, NotAllowed, OtherSpelling, OutOfRange}
 
 -- ---- Digits, delimiters
 
@@ -37,7 +38,7 @@ module _ (w v : ℕ) (s : List ℕ) (at : ℕ) (held : v < 10 ^ w) (stands : Sta
   number-value = ap value digits-there ∙ value-decimal w v held
 
   -- and is accepted, where it fits
-  pub number-stands : (code least most : ℕ) → least ≤ v → v ≤ most → check_digits code w least most s at ≡ Next (at + w)
+  pub number-stands : (code : Code) (least most : ℕ) → least ≤ v → v ≤ most → check_digits code w least most s at ≡ Ok (at + w)
   number-stands code least most low high =
       digits-fine code w least most s at (omega (arith, stands.room, decimal-length w v))
       (ap all_digits digits-there ∙ decimal-digits w v) (omega (arith, number-value)) (omega (arith, number-value))
@@ -48,12 +49,12 @@ digits-read w s at room digits =
     ap (λ (k : ℕ). decimal k (value (part at w s))) (sym (part-long s at w room)) ∙ decimal-value (part at w s) digits
 
 -- an accepted number is written back as the same digits
-pub number_read_lem : (code w least most : ℕ) (s : List ℕ) (at p : ℕ) → check_digits code w least most s at ≡ Next p
+pub number_read_lem : (code : Code) (w least most : ℕ) (s : List ℕ) (at p : ℕ) → check_digits code w least most s at ≡ Ok p
     → decimal w (value (part at w s)) ≡ part at w s
 number_read_lem code w least most s at p e = let n = number code w least most s at p e in digits-read w s at n.room n.digits
 
 -- a delimiter that was written is accepted
-pub delimiter-stands : (s : List ℕ) (at : ℕ) → Stands (47 ∷ []) s at → check_delimiter s at ≡ Next (at + 1)
+pub delimiter-stands : (s : List ℕ) (at : ℕ) → Stands (47 ∷ []) s at → check_delimiter s at ≡ Ok (at + 1)
 unfolding check_delimiter
 delimiter-stands s at stands = rw (le-leb (at + 1) (length s) stands.room, stands-byte 47 s at stands)
 
@@ -65,21 +66,21 @@ pub record Allowed (c : Circle) (e : Edge) : Type 0 where
   pub spelt : below_zero c e.degrees e.letter ≡ false
   pub most : e.degrees ≤ c.most
 
-pub edge-held : (c : Circle) (at : ℕ) (e : Edge) → edge_allowed c at e ≡ Fine → Allowed c e
+pub edge-held : (c : Circle) (at : ℕ) (e : Edge) → edge_allowed c at e ≡ (Ok tt) → Allowed c e
 unfolding edge_allowed
 edge-held c at e fine =
     let zeroed = below_zero c e.degrees e.letter in
-    let second = must (not zeroed) 6 at in
-    let third = must (leb e.degrees c.most) 5 at in
-    let x = both-fine (must (is_letter c e.letter) 4 at) (second and_then third) fine in
-    let y = both-fine second third x.1 in
+    let second = must (not zeroed) OtherSpelling at in
+    let third = must (leb e.degrees c.most) OutOfRange at in
+    let x = both-fine (must (is_letter c e.letter) NotAllowed at) (second and_then third) tt fine in
+    let y = both-fine second third tt x.1 in
     record {
-      letter = must-held (is_letter c e.letter) 4 at x.0;
-      spelt = not-true zeroed (must-held (not zeroed) 6 at y.0);
-      most = leb-true e.degrees c.most (must-held (leb e.degrees c.most) 5 at y.1);
+      letter = must-held (is_letter c e.letter) NotAllowed at x.0;
+      spelt = not-true zeroed (must-held (not zeroed) OtherSpelling at y.0);
+      most = leb-true e.degrees c.most (must-held (leb e.degrees c.most) OutOfRange at y.1);
     }
 
-pub edge-fine : (c : Circle) (at : ℕ) (e : Edge) → Allowed c e → edge_allowed c at e ≡ Fine
+pub edge-fine : (c : Circle) (at : ℕ) (e : Edge) → Allowed c e → edge_allowed c at e ≡ (Ok tt)
 unfolding edge_allowed
 edge-fine c at e a = rw (a.letter, a.spelt, le-leb e.degrees c.most a.most)
 
@@ -107,7 +108,7 @@ module _ (c : Circle) (wide : c.most < 10 ^ c.width) (e : Edge) (a : Allowed c e
   edge-back = rw (degrees-there, letter-there)
 
   -- and is accepted
-  pub edge-stands : check_edge c s at ≡ Next (at + (c.width + 1))
+  pub edge-stands : check_edge c s at ≡ Ok (at + (c.width + 1))
   unfolding check_edge
   edge-stands =
       rw (
@@ -122,12 +123,12 @@ module _ (c : Circle) (wide : c.most < 10 ^ c.width) (e : Edge) (a : Allowed c e
       )
 
 -- an accepted edge is allowed in a record
-pub edge-allowed : (c : Circle) (s : List ℕ) (at p : ℕ) → check_edge c s at ≡ Next p → Allowed c (edge_at c s at)
+pub edge-allowed : (c : Circle) (s : List ℕ) (at p : ℕ) → check_edge c s at ≡ Ok p → Allowed c (edge_at c s at)
 unfolding edge_at
 edge-allowed c s at p e = let r = edge c s at p e in record { letter = r.letter; spelt = r.spelt; most = r.most }
 
 -- and is written back as the same bytes
-pub edge-read : (c : Circle) (s : List ℕ) (at p : ℕ) → check_edge c s at ≡ Next p → edge_text c (edge_at c s at) ≡ part at (c.width + 1) s
+pub edge-read : (c : Circle) (s : List ℕ) (at p : ℕ) → check_edge c s at ≡ Ok p → edge_text c (edge_at c s at) ≡ part at (c.width + 1) s
 unfolding edge_at edge_text
 edge-read c s at p e =
     let r = edge c s at p e in
@@ -145,26 +146,26 @@ pub record AllowedBox (b : Region) : Type 0 where
   pub west : Allowed longitude b.west
   pub east : Allowed longitude b.east
 
-pub region_held : (at : ℕ) (b : Region) → region_allowed at b ≡ Fine → AllowedBox b
+pub region_held : (at : ℕ) (b : Region) → region_allowed at b ≡ (Ok tt) → AllowedBox b
 unfolding region_allowed
 region_held at b fine =
     let s2 = edge_allowed latitude (at + 3) b.south in
-    let s3 = must (north_first b.north b.south) 7 (at + 3) in
+    let s3 = must (north_first b.north b.south) Disagree (at + 3) in
     let s4 = edge_allowed longitude (at + 6) b.west in
     let s5 = edge_allowed longitude (at + 10) b.east in
-    let f1 = both-fine (edge_allowed latitude at b.north) (s2 and_then s3 and_then s4 and_then s5) fine in
-    let f2 = both-fine s2 (s3 and_then s4 and_then s5) f1.1 in
-    let f3 = both-fine s3 (s4 and_then s5) f2.1 in
-    let f4 = both-fine s4 s5 f3.1 in
+    let f1 = both-fine (edge_allowed latitude at b.north) (s2 and_then s3 and_then s4 and_then s5) tt fine in
+    let f2 = both-fine s2 (s3 and_then s4 and_then s5) tt f1.1 in
+    let f3 = both-fine s3 (s4 and_then s5) tt f2.1 in
+    let f4 = both-fine s4 s5 tt f3.1 in
     record {
       north = edge-held latitude at b.north f1.0;
       south = edge-held latitude (at + 3) b.south f2.0;
-      falling = must-held (north_first b.north b.south) 7 (at + 3) f3.0;
+      falling = must-held (north_first b.north b.south) Disagree (at + 3) f3.0;
       west = edge-held longitude (at + 6) b.west f4.0;
       east = edge-held longitude (at + 10) b.east f4.1;
     }
 
-pub region_fine : (at : ℕ) (b : Region) → AllowedBox b → region_allowed at b ≡ Fine
+pub region_fine : (at : ℕ) (b : Region) → AllowedBox b → region_allowed at b ≡ (Ok tt)
 unfolding region_allowed
 region_fine at b a =
     rw (
@@ -214,7 +215,7 @@ module _ (b : Region) (a : AllowedBox b) (s : List ℕ) (at : ℕ) (stands : Sta
       )
 
   -- and is accepted
-  pub box-stands : check_box s at ≡ Next (at + 14)
+  pub box-stands : check_box s at ≡ Ok (at + 14)
   box-stands =
       let m : at + 3 + 3 ≡ at + 6 = omega arith in
       let w : at + 6 + 4 ≡ at + 10 = omega arith in
@@ -222,16 +223,16 @@ module _ (b : Region) (a : AllowedBox b) (s : List ℕ) (at : ℕ) (stands : Sta
       box-next s at
       (record {
         north = edge-stands latitude (lit< tt) b.north a.north s at edges_stand.0;
-        south = edge-stands latitude (lit< tt) b.south a.south s (at + 3) edges_stand.1 ∙ ap Next m;
+        south = edge-stands latitude (lit< tt) b.south a.south s (at + 3) edges_stand.1 ∙ ap Ok m;
         falling =
             rw (edge-back latitude (lit< tt) b.north a.north s at edges_stand.0, edge-back latitude (lit< tt) b.south a.south s (at + 3) edges_stand.1)
             a.falling;
-        west = edge-stands longitude (lit< tt) b.west a.west s (at + 6) edges_stand.2 ∙ ap Next w;
-        east = edge-stands longitude (lit< tt) b.east a.east s (at + 10) edges_stand.3 ∙ ap Next e;
+        west = edge-stands longitude (lit< tt) b.west a.west s (at + 6) edges_stand.2 ∙ ap Ok w;
+        east = edge-stands longitude (lit< tt) b.east a.east s (at + 10) edges_stand.3 ∙ ap Ok e;
       })
 
 -- an accepted box is allowed in a record
-pub region_allowed_lem : (s : List ℕ) (at p : ℕ) → check_box s at ≡ Next p → AllowedBox (region_at s at)
+pub region_allowed_lem : (s : List ℕ) (at p : ℕ) → check_box s at ≡ Ok p → AllowedBox (region_at s at)
 unfolding region_at
 region_allowed_lem s at p e =
     let r = (box s at p e).1 in
@@ -244,7 +245,7 @@ region_allowed_lem s at p e =
     }
 
 -- and is written back as the same bytes
-pub region_read : (s : List ℕ) (at p : ℕ) → check_box s at ≡ Next p → region_text (region_at s at) ≡ part at 14 s
+pub region_read : (s : List ℕ) (at p : ℕ) → check_box s at ≡ Ok p → region_text (region_at s at) ≡ part at 14 s
 unfolding region_at region_text
 region_read s at p e =
     let r = (box s at p e).1 in

@@ -3,7 +3,6 @@ use mathlib.Core.Path.{◌≡◌, sym, ap, ◌∙◌}
 use mathlib.Core.Bool.{Bool, true, false, not, ◌&&◌, and_assoc, and-true}
 use Prim.Native.Nat.{ℕ, ◌+◌}
 use lib.Dec.{leb}
-use Rattle.text.specs.declared.Seen.{Seen}
 use Rattle.text.specs.Checks.{must, ◌and_then◌, is_fine}
 use Rattle.text.proofs.Checks.{fine-must, fine_then}
 use Rattle.field.specs.declared.Circle.{Circle}
@@ -11,6 +10,9 @@ use Rattle.field.specs.declared.Edge.{Edge}
 use Rattle.field.specs.declared.Region.{Region}
 use Rattle.field.specs.Boxes.{latitude, longitude, is_letter, below_zero, edge_allowed, region_allowed}
 use Rattle.field.specs.Steps.{edge_is, pair_is, region_is, in_order}
+use Rattle.std.specs.Prelude.{Result}
+use Rattle.text.specs.declared.Refusal.{Refusal}
+use Rattle.text.specs.declared.Code.TheVariants.{Disagree, NotAllowed, OtherSpelling, OutOfRange}
 
 edge-is : (c : Circle) (at : ℕ) (e : Edge) → is_fine (edge_allowed c at e) ≡ edge_is c e
 unfolding edge_allowed
@@ -18,18 +20,18 @@ edge-is c at e =
     let few = leb e.degrees c.most in
     let spelt = not (below_zero c e.degrees e.letter) in
     let letter = is_letter c e.letter in
-    rw (fine_then (must letter 4 at) (must spelt 6 at and_then must few 5 at), fine-must letter 4 at)
-    (rw (fine_then (must spelt 6 at) (must few 5 at), fine-must spelt 6 at, fine-must few 5 at) (sym (and_assoc letter spelt few)))
+    rw (fine_then (must letter NotAllowed at) (must spelt OtherSpelling at and_then must few OutOfRange at), fine-must letter NotAllowed at)
+    (rw (fine_then (must spelt OtherSpelling at) (must few OutOfRange at), fine-must spelt OtherSpelling at, fine-must few OutOfRange at) (sym (and_assoc letter spelt few)))
 
 -- a pair of edges, at two places, and what follows them
-pair_is_lem : (falling : Bool) (c : Circle) (a b : Edge) (at mid : ℕ) (more : Seen)
-    → is_fine (edge_allowed c at a and_then edge_allowed c mid b and_then must (in_order falling c a b) 7 mid and_then more)
+pair_is_lem : (falling : Bool) (c : Circle) (a b : Edge) (at mid : ℕ) (more : Result (Unit {0}) Refusal)
+    → is_fine (edge_allowed c at a and_then edge_allowed c mid b and_then must (in_order falling c a b) Disagree mid and_then more)
     ≡ (pair_is falling c a b && is_fine more)
 pair_is_lem falling c a b at mid more =
     let order = in_order falling c a b in
-    let last = must order 7 mid and_then more in
+    let last = must order Disagree mid and_then more in
     fine_then (edge_allowed c at a) (edge_allowed c mid b and_then last)
-    ∙ rw (edge-is c at a, fine_then (edge_allowed c mid b) last, edge-is c mid b, fine_then (must order 7 mid) more, fine-must order 7 mid)
+    ∙ rw (edge-is c at a, fine_then (edge_allowed c mid b) last, edge-is c mid b, fine_then (must order Disagree mid) more, fine-must order Disagree mid)
     (simp and_assoc)
 
 pub region_is_lem : (b : Region) (at : ℕ) → is_fine (region_allowed at b) ≡ region_is b

@@ -12,75 +12,78 @@ use Rattle.text.proofs.Cases.{by_le}
 use borrow.Author.Tests.{le-leb, lt-leb}
 use Rattle.field.specs.declared.Circle.{Circle}
 use Rattle.field.specs.declared.Edge.{Edge}
-use Rattle.field.specs.declared.Step.{Step}
-use Rattle.field.specs.declared.Step.TheVariants.{Next, Stop}
 use Rattle.field.specs.Decimal.{all_digits, value}
-use Rattle.field.specs.Fields.{after, room, check_digits, check_delimiter, check_airfield, repeat}
+use Rattle.field.specs.Fields.{room, check_digits, check_delimiter, check_airfield, repeat}
+use Rattle.text.specs.Checks.{after, refuse}
 use Rattle.field.specs.Boxes.{latitude, longitude, is_letter, below_zero, edge_at, check_edge, check_pair, check_box, north_first}
+use Rattle.std.specs.Prelude.{Result, Ok, Err}
+use Rattle.text.specs.declared.Refusal.{Refusal}
+use Rattle.text.specs.declared.Code.{Code}
+use Rattle.text.specs.declared.Code.TheVariants.{Disagree, NotAllowed, OtherSpelling, OutOfRange, WrongFixed}
 
-abbrev pub Within : List ℕ → ℕ → Step → Type 0
-Within s at (Next p) = (at ≤ p) × (p ≤ length s)
-Within s at (Stop code place) = place ≤ length s
+abbrev pub Within : List ℕ → ℕ → Result ℕ Refusal → Type 0
+Within s at (Ok p) = (at ≤ p) × (p ≤ length s)
+Within s at (Err r) = r.place ≤ length s
 
 module _ (s : List ℕ) where
-  either : (at : ℕ) (t : Bool) (x y : Step) → Within s at x → Within s at y → Within s at (cond t x y)
+  either : (at : ℕ) (t : Bool) (x y : Result ℕ Refusal) → Within s at x → Within s at y → Within s at (cond t x y)
   either at true x y h k = h
   either at false x y h k = k
 
-  further : (at p : ℕ) (x : Step) → at ≤ p → Within s p x → Within s at x
-  further at p (Next q) h k = (omega arith, k.1)
-  further at p (Stop code place) h k = k
+  further : (at p : ℕ) (x : Result ℕ Refusal) → at ≤ p → Within s p x → Within s at x
+  further at p (Ok q) h k = (omega arith, k.1)
+  further at p (Err r) h k = k
 
   -- a field of n bytes
-  room_within : (n at : ℕ) (seen : Step) → at ≤ length s → (at + n ≤ length s → Within s at seen) → Within s at (room n s at seen)
+  room_within : (n at : ℕ) (seen : Result ℕ Refusal) → at ≤ length s → (at + n ≤ length s → Within s at seen) → Within s at (room n s at seen)
   room_within n at seen h k =
       by_le (at + n) (length s)
       (λ (l : at + n ≤ length s). rw (le-leb (at + n) (length s) l) (k l))
       (λ l. rw (lt-leb (at + n) (length s) l) h)
 
   -- one check and then another
-  pub after-within : (at : ℕ) (x : Step) (more : ℕ → Step) → Within s at x
-      → ((p : ℕ) → x ≡ Next p → p ≤ length s → Within s p (more p)) → Within s at (after x more)
-  after-within at (Next p) more h k = further at p (more p) h.0 (k p refl h.1)
-  after-within at (Stop code place) more h k = h
+  pub after-within : (at : ℕ) (x : Result ℕ Refusal) (more : ℕ → Result ℕ Refusal) → Within s at x
+      → ((p : ℕ) → x ≡ Ok p → p ≤ length s → Within s p (more p)) → Within s at (after x more)
+  after-within at (Ok p) more h k = further at p (more p) h.0 (k p refl h.1)
+  after-within at (Err r) more h k = h
 
-  pub digits-within : (code w least most at : ℕ) → at ≤ length s → Within s at (check_digits code w least most s at)
+  pub digits-within : (code : Code) (w least most at : ℕ) → at ≤ length s → Within s at (check_digits code w least most s at)
   unfolding check_digits
   digits-within code w least most at h =
       let p = part at w s in
       let fits = leb least (value p) && leb (value p) most in
-      room_within w at (cond (all_digits p) (cond fits (Next (at + w)) (Stop code at)) (Stop 4 at)) h
+      room_within w at (cond (all_digits p) (cond fits (Ok (at + w)) (refuse code at)) (refuse NotAllowed at)) h
       (λ l.
-      either at (all_digits p) (cond fits (Next (at + w)) (Stop code at)) (Stop 4 at)
-      (either at fits (Next (at + w)) (Stop code at) (omega arith, l) h) h)
+      either at (all_digits p) (cond fits (Ok (at + w)) (refuse code at)) (refuse NotAllowed at)
+      (either at fits (Ok (at + w)) (refuse code at) (omega arith, l) h) h)
 
   pub delimiter-within : (at : ℕ) → at ≤ length s → Within s at (check_delimiter s at)
   unfolding check_delimiter
   delimiter-within at h =
       let t = eqb (get_or s at 0) 47 in
-      room_within 1 at (cond t (Next (at + 1)) (Stop 3 at)) h
-      (λ l. either at t (Next (at + 1)) (Stop 3 at) (omega arith, l) h)
+      room_within 1 at (cond t (Ok (at + 1)) (refuse WrongFixed at)) h
+      (λ l. either at t (Ok (at + 1)) (refuse WrongFixed at) (omega arith, l) h)
 
   pub airfield-within : (at : ℕ) → at ≤ length s → Within s at (check_airfield s at)
   unfolding check_airfield
   airfield-within at h =
       let t = all_allowed (part at 4 s) in
-      room_within 4 at (cond t (Next (at + 4)) (Stop 4 at)) h
-      (λ l. either at t (Next (at + 4)) (Stop 4 at) (omega arith, l) h)
+      room_within 4 at (cond t (Ok (at + 4)) (refuse NotAllowed at)) h
+      (λ l. either at t (Ok (at + 4)) (refuse NotAllowed at) (omega arith, l) h)
 
   pub edge-within : (c : Circle) (at : ℕ) → at ≤ length s → Within s at (check_edge c s at)
   unfolding check_edge
   edge-within c at h =
       let d = value (part at c.width s) in
       let l = get_or s (at + c.width) 0 in
-      let end = Next (at + (c.width + 1)) in
-      let most = cond (leb d c.most) end (Stop 5 at) in
-      let zero-last = cond (below_zero c d l) (Stop 6 at) most in
+      let end = Ok (at + (c.width + 1)) in
+      let most = cond (leb d c.most) end (refuse OutOfRange at) in
+      let zero-last = cond (below_zero c d l) (refuse OtherSpelling at) most in
       let fine = all_digits (part at c.width s) && is_letter c l in
-      room_within (c.width + 1) at (cond fine zero-last (Stop 4 at)) h
+      room_within (c.width + 1) at (cond fine zero-last (refuse NotAllowed at)) h
       (λ k.
-      either at fine zero-last (Stop 4 at)
-      (either at (below_zero c d l) (Stop 6 at) most h (either at (leb d c.most) end (Stop 5 at) (omega arith, k) h)) h)
+      either at fine zero-last (refuse NotAllowed at)
+      (either at (below_zero c d l) (refuse OtherSpelling at) most h (either at (leb d c.most) end (refuse OutOfRange at) (omega arith, k) h)) h)
 
   pub pair-within : (c : Circle) (o : Edge → Edge → Bool) (at : ℕ) → at ≤ length s → Within s at (check_pair c o s at)
   unfolding check_pair
@@ -88,10 +91,10 @@ module _ (s : List ℕ) where
       after-within at (check_edge c s at) (λ second. after (check_edge c s second) (last second)) (edge-within c at h)
       (λ second e k.
       after-within second (check_edge c s second) (last second) (edge-within c second k)
-      (λ end f l. either end (o (edge_at c s at) (edge_at c s second)) (Next end) (Stop 7 second) (omega arith, l) k))
+      (λ end f l. either end (o (edge_at c s at) (edge_at c s second)) (Ok end) (refuse Disagree second) (omega arith, l) k))
     where
-      last : ℕ → ℕ → Step
-      last second end = cond (o (edge_at c s at) (edge_at c s second)) (Next end) (Stop 7 second)
+      last : ℕ → ℕ → Result ℕ Refusal
+      last second end = cond (o (edge_at c s at) (edge_at c s second)) (Ok end) (refuse Disagree second)
 
   pub box-within : (at : ℕ) → at ≤ length s → Within s at (check_box s at)
   unfolding check_box
@@ -102,7 +105,7 @@ module _ (s : List ℕ) where
       (λ east f l. edge-within longitude east l))
 
   -- n fields of one kind, where each stays in the text
-  pub repeat-within : (check : ℕ → Step) → ((p : ℕ) → p ≤ length s → Within s p (check p))
+  pub repeat-within : (check : ℕ → Result ℕ Refusal) → ((p : ℕ) → p ≤ length s → Within s p (check p))
       → (n at : ℕ) → at ≤ length s → Within s at (repeat check n at)
   unfolding repeat
   repeat-within check each zero at h = (omega arith, h)

@@ -1,17 +1,16 @@
 -- "A box is 14 bytes: two latitudes, north edge first (00-90, N or S), two longitudes, west first (000-180, E or W);
 -- north not below south (else 7). Zero is spelt only 00N and 000E (else 6)." Document 02, §2: "code 7 is no longer given for
 -- longitudes", in which an area runs eastward from its first and may wrap.
-use Rattle.std.specs.Prelude.{Bool, cond, ◌&&◌, ◌||◌, not, List, [], ◌∷◌, ◌++◌, ℕ, ◌+◌, ◌-◌, leb, eqb, get_or}
+use Rattle.std.specs.Prelude.{Bool, cond, ◌&&◌, ◌||◌, not, List, [], ◌∷◌, ◌++◌, ℕ, ◌+◌, ◌-◌, leb, eqb, get_or, Result, Ok}
 use Rattle.text.specs.Parts.{part}
-use Rattle.text.specs.Checks.{must, ◌and_then◌}
-use Rattle.text.specs.declared.Seen.{Seen}
+use Rattle.text.specs.Checks.{must, ◌and_then◌, refuse, after}
 use Rattle.field.specs.Decimal.{all_digits, value, decimal}
-use Rattle.field.specs.Fields.{after, room}
-use Rattle.field.specs.declared.Step.{Step}
-use Rattle.field.specs.declared.Step.TheVariants.{Next, Stop}
+use Rattle.field.specs.Fields.{room}
 use Rattle.field.specs.declared.Circle.{Circle}
 use Rattle.field.specs.declared.Edge.{Edge}
 use Rattle.field.specs.declared.Region.{Region}
+use Rattle.text.specs.declared.Refusal.{Refusal}
+use Rattle.text.specs.declared.Code.TheVariants.{Disagree, NotAllowed, OtherSpelling, OutOfRange}
 
 -- ---- Edges
 
@@ -33,21 +32,21 @@ unfoldable pub edge_at : Circle → List ℕ → ℕ → Edge
 edge_at c s at = record { degrees = value (part at c.width s); letter = get_or s (at + c.width) 0 }
 
 -- each latitude or longitude with its letter is one field
-unfoldable pub check_edge : Circle → List ℕ → ℕ → Step
+unfoldable pub check_edge : Circle → List ℕ → ℕ → Result ℕ Refusal
 check_edge c s at =
     room (c.width + 1) s at
     (cond (all_digits (part at c.width s) && is_letter c (get_or s (at + c.width) 0))
-    (cond (below_zero c (value (part at c.width s)) (get_or s (at + c.width) 0)) (Stop 6 at)
-    (cond (leb (value (part at c.width s)) c.most) (Next (at + (c.width + 1)))
-    (Stop 5 at)))
-    (Stop 4 at))
+    (cond (below_zero c (value (part at c.width s)) (get_or s (at + c.width) 0)) (refuse OtherSpelling at)
+    (cond (leb (value (part at c.width s)) c.most) (Ok (at + (c.width + 1)))
+    (refuse OutOfRange at)))
+    (refuse NotAllowed at))
 
 -- a record's edge, with the place where it would stand
-unfoldable pub edge_allowed : Circle → ℕ → Edge → Seen
+unfoldable pub edge_allowed : Circle → ℕ → Edge → Result (Unit {0}) Refusal
 edge_allowed c at e =
-    must (is_letter c e.letter) 4 at
-    and_then must (not (below_zero c e.degrees e.letter)) 6 at
-    and_then must (leb e.degrees c.most) 5 at
+    must (is_letter c e.letter) NotAllowed at
+    and_then must (not (below_zero c e.degrees e.letter)) OtherSpelling at
+    and_then must (leb e.degrees c.most) OutOfRange at
 
 unfoldable pub edge_text : Circle → Edge → List ℕ
 edge_text c e = decimal c.width e.degrees ++ e.letter ∷ []
@@ -72,23 +71,23 @@ region_at s at =
     }
 
 -- code 7 comes at the second edge of its pair, after that edge's own checks
-unfoldable pub check_pair : Circle → (Edge → Edge → Bool) → List ℕ → ℕ → Step
+unfoldable pub check_pair : Circle → (Edge → Edge → Bool) → List ℕ → ℕ → Result ℕ Refusal
 check_pair c in_order s at =
     after (check_edge c s at)
     (λ second.
     after (check_edge c s second)
-    (λ end. cond (in_order (edge_at c s at) (edge_at c s second)) (Next end) (Stop 7 second)))
+    (λ end. cond (in_order (edge_at c s at) (edge_at c s second)) (Ok end) (refuse Disagree second)))
 
 -- longitudes come in any order
-unfoldable pub check_box : List ℕ → ℕ → Step
+unfoldable pub check_box : List ℕ → ℕ → Result ℕ Refusal
 check_box s at =
     after (check_pair latitude north_first s at) (λ west. after (check_edge longitude s west) (check_edge longitude s))
 
-unfoldable pub region_allowed : ℕ → Region → Seen
+unfoldable pub region_allowed : ℕ → Region → Result (Unit {0}) Refusal
 region_allowed at b =
     edge_allowed latitude at b.north
     and_then edge_allowed latitude (at + 3) b.south
-    and_then must (north_first b.north b.south) 7 (at + 3)
+    and_then must (north_first b.north b.south) Disagree (at + 3)
     and_then edge_allowed longitude (at + 6) b.west
     and_then edge_allowed longitude (at + 10) b.east
 

@@ -1,35 +1,34 @@
 -- What the inner functions answer. No promise to a caller rests on these names.
-use Rattle.std.specs.Prelude.{Bool, true, false, cond, not, ◌&&◌, ◌||◌, List, [], ◌∷◌, ◌++◌, ℕ, ◌+◌, ◌-◌, ◌*◌, leb, ltb, eqb, length, get_or}
+use Rattle.std.specs.Prelude.{Bool, true, false, cond, not, ◌&&◌, ◌||◌, List, [], ◌∷◌, ◌++◌, ℕ, ◌+◌, ◌-◌, ◌*◌, leb, eqb, length, get_or, Option, Some, None, Result, Ok, Err}
 use Rattle.text.specs.Parts.{part}
-use Rattle.text.specs.Checks.{must, ◌and_then◌}
-use Rattle.text.specs.declared.Seen.{Seen}
+use Rattle.text.specs.Checks.{must, ◌and_then◌, refuse}
 use Rattle.field.specs.Decimal.{is_digit, all_digits, value, decimal}
 use Rattle.field.specs.Boxes.{latitude, longitude, is_letter, below_zero, line_of, edge_allowed}
 use Rattle.field.specs.declared.Circle.{Circle}
 use Rattle.field.specs.declared.Edge.{Edge}
 use Rattle.field.specs.declared.Region.{Region}
-use Rattle.field.specs.declared.Step.{Step}
-use Rattle.field.specs.declared.Step.TheVariants.{Next, Stop}
-use Rattle.field.specs.declared.boxes.Line.{Line}
-use Rattle.field.specs.declared.boxes.Line.TheVariants.{Lies, Wrong}
+use Rattle.text.specs.declared.Refusal.{Refusal}
+use Rattle.text.specs.declared.Code.{Code}
+use Rattle.text.specs.declared.Code.TheVariants.{NotAllowed, OutOfRange, OtherSpelling, Disagree, WrongEnd}
 
--- the number that three digits at the most spell, or 1000 where a byte is no digit
-unfoldable pub number_or : List ℕ → ℕ
-number_or ds = cond (all_digits ds) (value ds) 1000
+-- the number that digits spell, where each byte is one
+unfoldable pub number_or : List ℕ → Option ℕ
+number_or ds = cond (all_digits ds) (Some (value ds)) None
 
 -- where an edge of n degrees and a letter lies, or the code of its refusal
-unfoldable pub line_or : Circle → ℕ → ℕ → Line
-line_or c n l =
-    cond (ltb n 1000 && is_letter c l)
-    (cond (below_zero c n l) (Wrong 6)
-    (cond (leb n c.most) (Lies (line_of c (record { degrees = n; letter = l })))
-    (Wrong 5)))
-    (Wrong 4)
+unfoldable pub line_or : Circle → Option ℕ → ℕ → Result ℕ Code
+line_or c None l = Err NotAllowed
+line_or c (Some n) l =
+    cond (is_letter c l)
+    (cond (below_zero c n l) (Err OtherSpelling)
+    (cond (leb n c.most) (Ok (line_of c (record { degrees = n; letter = l })))
+    (Err OutOfRange)))
+    (Err NotAllowed)
 
 -- the same for the edge that stands at a place of a text
-unfoldable pub edge_line : Circle → List ℕ → ℕ → Line
+unfoldable pub edge_line : Circle → List ℕ → ℕ → Result ℕ Code
 edge_line c s at =
-    cond (leb (at + (c.width + 1)) (length s)) (line_or c (number_or (part at c.width s)) (get_or s (at + c.width) 0)) (Wrong 8)
+    cond (leb (at + (c.width + 1)) (length s)) (line_or c (number_or (part at c.width s)) (get_or s (at + c.width) 0)) (Err WrongEnd)
 
 -- falling: the second does not lie above the first; else they come in any order
 abbrev pub orderly : Bool → ℕ → ℕ → Bool
@@ -39,10 +38,10 @@ abbrev pub in_order : Bool → Circle → Edge → Edge → Bool
 in_order falling c a b = orderly falling (line_of c a) (line_of c b)
 
 -- a pair of edges, at two places: the first refusal, then 7 where they are not in order
-abbrev pub two_lines : Bool → Line → Line → ℕ → ℕ → ℕ → Step
-two_lines falling (Wrong code) second at mid end = Stop code at
-two_lines falling (Lies x) (Wrong code) at mid end = Stop code mid
-two_lines falling (Lies x) (Lies y) at mid end = cond (orderly falling x y) (Next end) (Stop 7 mid)
+abbrev pub two_lines : Bool → Result ℕ Code → Result ℕ Code → ℕ → ℕ → ℕ → Result ℕ Refusal
+two_lines falling (Err code) second at mid end = refuse code at
+two_lines falling (Ok x) (Err code) at mid end = refuse code mid
+two_lines falling (Ok x) (Ok y) at mid end = cond (orderly falling x y) (Ok end) (refuse Disagree mid)
 
 -- ---- A box by the keys of its edges
 
@@ -73,9 +72,9 @@ abbrev pub longitudes_fine : ℕ → ℕ → ℕ → ℕ → ℕ → ℕ → ℕ
 longitudes_fine a b d l e f g m = longitude_fine (key_of a b d) b d l && longitude_fine (key_of e f g) f g m
 
 -- a record's pair of edges, which would stand at two places
-unfoldable pub pair_allowed : Bool → Circle → Edge → Edge → ℕ → ℕ → Seen
+unfoldable pub pair_allowed : Bool → Circle → Edge → Edge → ℕ → ℕ → Result (Unit {0}) Refusal
 pair_allowed falling c first second at mid =
-    edge_allowed c at first and_then edge_allowed c mid second and_then must (in_order falling c first second) 7 mid
+    edge_allowed c at first and_then edge_allowed c mid second and_then must (in_order falling c first second) Disagree mid
 
 -- whether it is refused nowhere: an edge, a pair of edges, a box
 abbrev pub edge_is : Circle → Edge → Bool

@@ -1,18 +1,12 @@
 // A box: two latitudes, north edge first, then two longitudes, from the first eastward to the second.
 ghost use Rattle.std.specs.Prelude.{◌≡◌, ◌+◌, ◌≤◌, length};
 ghost use Rattle.field.specs.Boxes.{latitude, longitude, check_pair, check_box};
-ghost use Rattle.field.specs.Steps.{line_or, edge_line, orderly, in_order, two_lines};
+ghost use Rattle.field.specs.Steps.{edge_line, orderly, in_order};
 
+use crate::Circle;
 use crate::digits::number_at;
 use crate::fine::is_fine;
-use crate::{Circle, Step};
-
-// Where an edge lies, in degrees from 1000 below zero, or the code of its refusal.
-#[derive(Clone, Copy)]
-enum Line {
-    Lies(usize),
-    Wrong(u8),
-}
+use text::{Code, Refusal};
 
 // 00-90, N or S.
 pub fn latitudes() -> Circle
@@ -38,40 +32,29 @@ pub fn longitudes() -> Circle
     }
 }
 
-// An edge of n degrees and a letter: a non-digit, which makes n 1000, or a letter that isn't one of the two is 4; then 6, then 5.
-fn line_or(c: Circle, n: usize, l: u8) -> Line
-    ensures { result ≡ line_or c n l }
-{
-    if 1000 <= n {
-        return Line::Wrong(4);
-    }
-    if !((l == c.above) | (l == c.below)) {
-        return Line::Wrong(4);
-    }
-    if (n == 0) & (l == c.below) {
-        return Line::Wrong(6);
-    }
-    if c.most < n {
-        return Line::Wrong(5);
-    }
-    if l == c.below {
-        Line::Lies(1000 - n)
-    } else {
-        Line::Lies(1000 + n)
-    }
-}
-
-// The edge that stands at a place; 8 where the text ends inside it.
-fn edge_line(c: Circle, s: &[u8], at: usize) -> Line
+// Where the edge that stands at a place lies, in degrees from 1000 below zero: 8 where the text ends inside it; a non-digit, or a
+// letter that isn't one of the two, is 4; then 6, then 5.
+#[tactic(auto, unfolding(crate::specs::Steps::edge_line, crate::specs::Steps::line_or, crate::specs::Steps::number_or, crate::specs::Boxes::line_of))]
+fn edge_line(c: Circle, s: &[u8], at: usize) -> Result<usize, Code>
     requires { (at ≤ length s.now + 4) × (c.width ≤ 3) }
     ensures { result ≡ edge_line c s.now at }
 {
-    let w = c.width;
-    let last = at + w;
+    let last = at + c.width;
     if s.len() <= last {
-        return Line::Wrong(8);
+        return Err(Code::WrongEnd);
     }
-    line_or(c, number_at(s, at, w), s[last])
+    let n = number_at(s, at, c.width).ok_or(Code::NotAllowed)?;
+    let l = s[last];
+    if l != c.above && l != c.below {
+        return Err(Code::NotAllowed);
+    }
+    if n == 0 && l == c.below {
+        return Err(Code::OtherSpelling);
+    }
+    if c.most < n {
+        return Err(Code::OutOfRange);
+    }
+    Ok(if l == c.below { 1000 - n } else { 1000 + n })
 }
 
 // Latitudes fall, from north to south; longitudes come in any order, since an area may wrap.
@@ -81,65 +64,43 @@ pub fn in_order(falling: bool, x: usize, y: usize) -> bool
     !falling | (y <= x)
 }
 
-// Two edges, at `at` and `mid`: each one's own refusal, then 7 at the second where they should fall and do not.
-fn two_lines(falling: bool, first: Line, second: Line, at: usize, mid: usize, end: usize) -> Step
-    ensures { result ≡ two_lines falling first second at mid end }
-{
-    match first {
-        Line::Wrong(code) => Step::Stop(code, at),
-        Line::Lies(x) => match second {
-            Line::Wrong(code) => Step::Stop(code, mid),
-            Line::Lies(y) => {
-                if in_order(falling, x, y) {
-                    Step::Next(end)
-                } else {
-                    Step::Stop(7, mid)
-                }
-            }
-        },
-    }
-}
-
-// A pair of edges, one after the other, in a text that may end inside them.
-fn pair(falling: bool, c: Circle, s: &[u8], at: usize) -> Step
+// A pair of edges, one after the other, in a text that may end inside them: each one's own refusal, then 7 at the second where they
+// should fall and do not.
+#[tactic(auto, using(crate::proofs::Edges::pair_lines))]
+fn pair(falling: bool, c: Circle, s: &[u8], at: usize) -> Result<usize, Refusal>
     requires { (at ≤ length s.now) × (c.width ≤ 3) }
     ensures { result ≡ check_pair c (in_order falling c) s.now at }
 {
     let w = c.width + 1;
     let mid = at + w;
-    let end = mid + w;
-    two_lines(
-        falling,
-        edge_line(c, s, at),
-        edge_line(c, s, mid),
-        at,
-        mid,
-        end,
-    )
-}
-
-// A box edge by edge, up to the first refusal.
-fn by_edges(s: &[u8], at: usize) -> Step
-    requires { at ≤ length s.now }
-    ensures { result ≡ check_box s.now at }
-{
-    let latitudes = pair(true, latitudes(), s, at);
-    match latitudes {
-        Step::Stop(code, place) => Step::Stop(code, place),
-        Step::Next(west) => pair(false, longitudes(), s, west),
+    let x = edge_line(c, s, at).map_err(|code| code.at(at))?;
+    let y = edge_line(c, s, mid).map_err(|code| code.at(mid))?;
+    if in_order(falling, x, y) {
+        Ok(mid + w)
+    } else {
+        Err(Code::Disagree.at(mid))
     }
 }
 
+// A box edge by edge, up to the first refusal. Few boxes come here: not inlined, it leaves the others fewer steps.
+#[cold]
+#[tactic(auto, using(crate::proofs::Edges::box_pairs))]
+fn by_edges(s: &[u8], at: usize) -> Result<usize, Refusal>
+    requires { at ≤ length s.now }
+    ensures { result ≡ check_box s.now at }
+{
+    let west = pair(true, latitudes(), s, at)?;
+    pair(false, longitudes(), s, west)
+}
+
 // North not below south; longitudes in any order. A box that is fine is passed whole, any other one edge by edge.
-pub fn a_box(s: &[u8], at: usize) -> Step
+pub fn a_box(s: &[u8], at: usize) -> Result<usize, Refusal>
     requires { at ≤ length s.now }
     ensures { result ≡ check_box s.now at }
 {
     let end = at + 14;
-    if end <= s.len() {
-        if is_fine(s, at) {
-            return Step::Next(end);
-        }
+    if end <= s.len() && is_fine(s, at) {
+        return Ok(end);
     }
     by_edges(s, at)
 }

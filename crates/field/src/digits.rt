@@ -7,10 +7,7 @@ ghost use Rattle.field.specs.Steps.{number_or};
 pub fn is_digit(b: u8) -> bool
     ensures { result ≡ is_digit b }
 {
-    match b {
-        b'0'..=b'9' => true,
-        _ => false,
-    }
+    matches!(b, b'0'..=b'9')
 }
 
 // What a digit is worth.
@@ -18,26 +15,23 @@ fn worth(b: u8) -> usize
     requires { 48 ≤ b }
     ensures { result ≡ b - 48 }
 {
-    (b as usize) - 48
+    b as usize - 48
 }
 
-// The number that w digits from a place on spell, or 1000 where one of the bytes is no digit.
-pub fn number_at(s: &[u8], at: usize, w: usize) -> usize
+// The number that w digits from a place on spell; None where one of the bytes is no digit.
+pub fn number_at(s: &[u8], at: usize, w: usize) -> Option<usize>
     requires w_in_bounds { at + w ≤ length s.now }
     requires w_bound { w ≤ 3 }
     ensures { result ≡ number_or (part at w s.now) }
 {
-    let mut n: usize = 0;
-    let mut i = 0;
-    while i < w {
-        let b = s[at + i];
+    let mut n = 0;
+    for &b in &s[at..at + w] {
         if !is_digit(b) {
-            return 1000;
+            return None;
         }
         n = n * 10 + worth(b);
-        i += 1;
     }
-    n
+    Some(n)
 }
 
 // What w digits spell, where they are known to be digits: none is tested again.
@@ -47,11 +41,9 @@ pub fn value_at(s: &[u8], at: usize, w: usize) -> usize
     requires s_value { all_digits (part at w s.now) ≡ true }
     ensures { result ≡ value (part at w s.now) }
 {
-    let mut n: usize = 0;
-    let mut i = 0;
-    while i < w {
-        n = n * 10 + worth(s[at + i]);
-        i += 1;
+    let mut n = 0;
+    for &b in &s[at..at + w] {
+        n = n * 10 + worth(b);
     }
     n
 }
@@ -64,13 +56,11 @@ pub fn small_at(s: &[u8], at: usize, w: usize) -> u8
     requires s_bound { value (part at w s.now) < 256 }
     ensures { result ≡ value (part at w s.now) }
 {
-    let mut bytes: usize = 0;
-    let mut zeros: usize = 0;
-    let mut i = 0;
-    while i < w {
-        bytes = bytes * 10 + (s[at + i] as usize);
+    let mut bytes = 0;
+    let mut zeros = 0;
+    for &b in &s[at..at + w] {
+        bytes = bytes * 10 + b as usize;
         zeros = zeros * 10 + 48;
-        i += 1;
     }
     (bytes - zeros) as u8
 }

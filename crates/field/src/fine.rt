@@ -1,7 +1,6 @@
 // Whether a box is accepted, and nothing else: the tests are gathered, with no place and no number. What they say no to
 // is gone through edge by edge.
-ghost use Rattle.std.specs.Prelude.{◌≡◌, true, false, ◌+◌, ◌≤◌, length};
-ghost use Rattle.field.specs.declared.Step.TheVariants.{Next};
+ghost use Rattle.std.specs.Prelude.{◌≡◌, true, false, ◌+◌, ◌≤◌, length, Ok};
 ghost use Rattle.field.specs.Boxes.{latitude, longitude, north_first, check_pair, check_box};
 ghost use Rattle.field.specs.Steps.{in_order, key_of, least_key, key_line, edge_fine, latitudes_fine, longitude_fine, longitudes_fine};
 
@@ -17,27 +16,30 @@ fn key(a: u8, b: u8, c: u8) -> usize
 }
 
 // The least that may stand before a letter: 000, below zero 001; before another letter nothing may.
+#[tactic(auto, unfolding(crate::specs::Steps::least_key))]
 fn least(c: Circle, l: u8) -> usize
     ensures { result ≡ least_key c l }
 {
     if l == c.below {
-        return 3158065;
+        3158065
+    } else if l == c.above {
+        3158064
+    } else {
+        16777216
     }
-    if l == c.above {
-        return 3158064;
-    }
-    16777216
 }
 
 // Where an edge lies, by its key.
+#[tactic(auto, unfolding(crate::specs::Steps::key_line))]
 fn line(c: Circle, l: u8, k: usize) -> usize
     requires { k ≤ 16777215 }
     ensures { result ≡ key_line c l k }
 {
     if l == c.below {
-        return 16777216 - k;
+        16777216 - k
+    } else {
+        16777216 + k
     }
-    16777216 + k
 }
 
 // An edge with its last digit and its letter, the most degrees being spelt by `most`.
@@ -77,9 +79,10 @@ fn longitudes_fine(a: u8, b: u8, d: u8, l: u8, e: u8, f: u8, g: u8, m: u8) -> bo
 }
 
 // The two that stand at a place.
+#[tactic(auto, using(crate::proofs::Keys::latitudes))]
 fn north_south_fine(s: &[u8], at: usize) -> bool
     requires { at + 6 ≤ length s.now }
-    ensures { result ≡ true → check_pair latitude north_first s.now at ≡ Next (at + 6) }
+    ensures { result ≡ true → check_pair latitude north_first s.now at ≡ Ok (at + 6) }
 {
     let south = at + 3;
     latitudes_fine(
@@ -92,9 +95,10 @@ fn north_south_fine(s: &[u8], at: usize) -> bool
     )
 }
 
+#[tactic(auto, using(crate::proofs::Keys::longitudes))]
 fn west_east_fine(s: &[u8], at: usize) -> bool
     requires { at + 8 ≤ length s.now }
-    ensures { result ≡ true → check_pair longitude (in_order false longitude) s.now at ≡ Next (at + 8) }
+    ensures { result ≡ true → check_pair longitude (in_order false longitude) s.now at ≡ Ok (at + 8) }
 {
     let east = at + 4;
     longitudes_fine(
@@ -110,9 +114,10 @@ fn west_east_fine(s: &[u8], at: usize) -> bool
 }
 
 // Whether the box that stands at a place is accepted, for certain where it says so.
+#[tactic(auto, using(crate::proofs::Edges::box_pairs))]
 pub fn is_fine(s: &[u8], at: usize) -> bool
     requires { at + 14 ≤ length s.now }
-    ensures { result ≡ true → check_box s.now at ≡ Next (at + 14) }
+    ensures { result ≡ true → check_box s.now at ≡ Ok (at + 14) }
 {
     let west = at + 6;
     north_south_fine(s, at) & west_east_fine(s, west)

@@ -9,15 +9,8 @@ pub mod read;
 pub mod record;
 pub mod write;
 
-// Where a check of a text has come to: the place behind what was checked, or the refusal's code and place.
-#[derive(Clone, Copy)]
-pub enum Step {
-    Next(usize),
-    Stop(u8, usize),
-}
-
 // How an edge is spelt: its digits, the most degrees, the letter at and above zero, the letter below it.
-#[derive(Clone, Copy)]
+#[derive(Clone, Copy, Debug, PartialEq, Eq)]
 pub struct Circle {
     pub width: usize,
     pub most: usize,
@@ -27,14 +20,14 @@ pub struct Circle {
 
 // An edge of a box: whole degrees, and on which side of zero they lie, as its letter.
 #[repr(C)]
-#[derive(Clone, Copy)]
+#[derive(Clone, Copy, Debug, PartialEq, Eq)]
 pub struct Edge {
     pub degrees: u8,
     pub letter: u8,
 }
 
 #[repr(C)]
-#[derive(Clone, Copy)]
+#[derive(Clone, Copy, Debug, PartialEq, Eq)]
 pub struct Region {
     pub north: Edge,
     pub south: Edge,

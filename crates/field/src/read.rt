@@ -1,7 +1,6 @@
 // Boxes as records, from a text whose check went on.
-ghost use Rattle.std.specs.Prelude.{◌≡◌, true, ◌+◌, ◌≤◌, ◌<◌, length};
+ghost use Rattle.std.specs.Prelude.{◌≡◌, true, ◌+◌, ◌≤◌, ◌<◌, length, Ok};
 ghost use Rattle.text.specs.Parts.{part};
-ghost use Rattle.field.specs.declared.Step.TheVariants.{Next};
 ghost use Rattle.field.specs.Boxes.{region_at, check_box, no_region};
 ghost use Rattle.field.specs.Decimal.{all_digits, value};
 ghost use Rattle.field.specs.Steps.{edge_from};
@@ -25,7 +24,7 @@ fn edge_at(w: usize, s: &[u8], at: usize) -> Edge
 
 // The box that stands at a place.
 pub fn region_at(s: &[u8], at: usize) -> Region
-    requires { check_box s.now at ≡ Next (at + 14) }
+    requires { check_box s.now at ≡ Ok (at + 14) }
     ensures { result ≡ region_at s.now at }
 {
     let south = at + 3;

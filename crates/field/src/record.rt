@@ -5,7 +5,7 @@ ghost use Rattle.field.specs.Steps.{pair_allowed, edge_is, pair_is, region_is};
 
 use crate::boxes::{in_order, latitudes, longitudes};
 use crate::{Circle, Edge, Region};
-use text::Seen;
+use text::{Code, Refusal};
 
 pub fn wide(b: u8) -> usize
     ensures { result ≡ b }
@@ -20,6 +20,7 @@ pub fn middle(n: u16) -> usize
 }
 
 // Where an edge lies, in degrees from 1000 below zero.
+#[tactic(auto, unfolding(crate::specs::Boxes::line_of))]
 pub fn line_of(c: Circle, e: Edge) -> usize
     ensures { result ≡ line_of c e }
 {
@@ -32,39 +33,42 @@ pub fn line_of(c: Circle, e: Edge) -> usize
 }
 
 // A letter that isn't one of the two is 4, zero below zero 6, too many degrees 5.
-pub fn edge_allowed(c: Circle, at: usize, e: Edge) -> Seen
+#[tactic(auto, unfolding(crate::specs::Boxes::edge_allowed))]
+pub fn edge_allowed(c: Circle, at: usize, e: Edge) -> Result<(), Refusal>
     ensures { result ≡ edge_allowed c at e }
 {
     let l = e.letter;
     let n = wide(e.degrees);
-    if !((l == c.above) | (l == c.below)) {
-        return Seen::Bad(4, at);
+    if l != c.above && l != c.below {
+        return Err(Code::NotAllowed.at(at));
     }
-    if (n == 0) & (l == c.below) {
-        return Seen::Bad(6, at);
+    if n == 0 && l == c.below {
+        return Err(Code::OtherSpelling.at(at));
     }
     if c.most < n {
-        return Seen::Bad(5, at);
+        return Err(Code::OutOfRange.at(at));
     }
-    Seen::Fine
+    Ok(())
 }
 
 // Two edges, and 7 at the second where they should fall and do not.
-fn pair_allowed(falling: bool, c: Circle, first: Edge, second: Edge, at: usize, mid: usize) -> Seen
+#[tactic(auto, unfolding(crate::specs::Steps::pair_allowed))]
+fn pair_allowed(
+    falling: bool,
+    c: Circle,
+    first: Edge,
+    second: Edge,
+    at: usize,
+    mid: usize,
+) -> Result<(), Refusal>
     ensures { result ≡ pair_allowed falling c first second at mid }
 {
-    match edge_allowed(c, at, first) {
-        Seen::Bad(code, place) => Seen::Bad(code, place),
-        Seen::Fine => match edge_allowed(c, mid, second) {
-            Seen::Bad(code, place) => Seen::Bad(code, place),
-            Seen::Fine => {
-                if in_order(falling, line_of(c, first), line_of(c, second)) {
-                    Seen::Fine
-                } else {
-                    Seen::Bad(7, mid)
-                }
-            }
-        },
+    edge_allowed(c, at, first)?;
+    edge_allowed(c, mid, second)?;
+    if in_order(falling, line_of(c, first), line_of(c, second)) {
+        Ok(())
+    } else {
+        Err(Code::Disagree.at(mid))
     }
 }
 
@@ -77,6 +81,7 @@ pub fn short(b: u8) -> u16
 }
 
 // As `line_of`, in 16 bits: boxes that are looked at together take fewer steps by it.
+#[tactic(auto, unfolding(crate::specs::Boxes::line_of))]
 fn short_line(c: Circle, e: Edge) -> u16
     ensures { result ≡ line_of c e }
 {
@@ -106,28 +111,20 @@ fn pair_is(falling: bool, c: Circle, first: Edge, second: Edge) -> bool
 }
 
 // Whether a box would be taken, wherever it stands.
+#[tactic(auto, unfolding(crate::specs::Steps::region_is))]
 pub fn region_is(b: Region) -> bool
     ensures { result ≡ region_is b }
 {
-    let north = b.north;
-    let south = b.south;
-    let west = b.west;
-    let east = b.east;
-    pair_is(true, latitudes(), north, south) & pair_is(false, longitudes(), west, east)
+    pair_is(true, latitudes(), b.north, b.south) & pair_is(false, longitudes(), b.west, b.east)
 }
 
 // ---- A box, with the place where it would stand
 
-pub fn region_allowed(at: usize, b: Region) -> Seen
+#[tactic(auto, using(crate::proofs::Pairs::region_pairs))]
+pub fn region_allowed(at: usize, b: Region) -> Result<(), Refusal>
     requires { at ≤ 4096 }
     ensures { result ≡ region_allowed at b }
 {
-    let north = b.north;
-    let south = b.south;
-    let west = b.west;
-    let east = b.east;
-    match pair_allowed(true, latitudes(), north, south, at, at + 3) {
-        Seen::Bad(code, place) => Seen::Bad(code, place),
-        Seen::Fine => pair_allowed(false, longitudes(), west, east, at + 6, at + 10),
-    }
+    pair_allowed(true, latitudes(), b.north, b.south, at, at + 3)?;
+    pair_allowed(false, longitudes(), b.west, b.east, at + 6, at + 10)
 }

@@ -24,7 +24,7 @@ pub fn put_decimal(d: &mut [u8], v: usize)
     while 0 < i {
         i -= 1;
         d[i] = figure(n % 10);
-        n = n / 10;
+        n /= 10;
     }
 }
 
@@ -33,7 +33,7 @@ fn put_edge(w: usize, e: Edge, d: &mut [u8])
     requires { w + 1 ≤ length d.old }
     ensures { d.new ≡ over d.old 0 (edge_bytes w e) }
 {
-    put_decimal(&mut d[0..w], wide(e.degrees));
+    put_decimal(&mut d[..w], wide(e.degrees));
     d[w] = e.letter;
 }
 
@@ -44,7 +44,7 @@ fn put_pair(w: usize, first: Edge, second: Edge, d: &mut [u8])
 {
     let mid = w + 1;
     let end = mid + mid;
-    put_edge(w, first, &mut d[0..mid]);
+    put_edge(w, first, &mut d[..mid]);
     put_edge(w, second, &mut d[mid..end]);
 }
 
@@ -53,10 +53,6 @@ pub fn put_region(b: Region, d: &mut [u8])
     requires { 14 ≤ length d.old }
     ensures { d.new ≡ over d.old 0 (region_text b) }
 {
-    let north = b.north;
-    let south = b.south;
-    let west = b.west;
-    let east = b.east;
-    put_pair(2, north, south, &mut d[0..6]);
-    put_pair(3, west, east, &mut d[6..14]);
+    put_pair(2, b.north, b.south, &mut d[..6]);
+    put_pair(3, b.west, b.east, &mut d[6..14]);
 }

@@ -9,10 +9,7 @@ use lib.Dec.{leb, eqb}
 use lib.ListN.{length, get_or, drop}
 use borrow.Author.Tests.{le-leb, eq-eqb, leb-true}
 use Rattle.text.specs.Names.{between}
-use Rattle.text.specs.declared.Seen.TheVariants.{Fine}
 use Rattle.text.proofs.Cases.{by_test, both_left, both_right}
-use Rattle.field.specs.declared.Step.{Step}
-use Rattle.field.specs.declared.Step.TheVariants.{Next, Stop}
 use Rattle.field.proofs.Accepted.{delimiter}
 use Rattle.field.proofs.Local.{after-cases}
 use Rattle.section.specs.Layout.{Item, numbers, layout_of, check_item, check_items, items_size, Accepted}
@@ -22,11 +19,15 @@ use Rattle.command.proofs.Head.{head-passes}
 use Rattle.command.proofs.Accepted.{accepted}
 use Rattle.command.proofs.Checking.{numbers-next}
 use Rattle.command.proofs.Standing.{accepted-place}
-use Rattle.finder.specs.declared.Found.{Found}
-use Rattle.finder.specs.declared.Found.TheVariants.{Part, Refused}
-use Rattle.finder.specs.Finding.{pass_section, reach, found_at, standing, find_in, find_section, part_of}
+use Rattle.finder.specs.declared.Part.{Part}
+use Rattle.finder.specs.Finding.{pass_section, reach, part_at, standing, find_in, find_section, part_of}
 use Rattle.finder.proofs.Passing.{items-inside, items-accepted}
 use Rattle.finder.proofs.Reaching.{reach-accepted}
+use Rattle.std.specs.Prelude.{Result, Ok, Err}
+use Rattle.text.specs.declared.Refusal.{Refusal}
+use Rattle.text.specs.declared.Code.TheVariants.{OutOfRange, WrongLength}
+use Rattle.text.specs.Checks.{after, refuse}
+use Rattle.text.proofs.Checks.{err_ok}
 
 -- ---- Section numbers
 
@@ -53,15 +54,15 @@ is_number k b =
 -- ---- In an accepted text
 
 -- a section that was accepted where it stands is found there
-standing-accepted : (k : ℕ) (s : List ℕ) (at : ℕ) → Accepted k s at → standing k s at ≡ Part at (items_size (layout_of k) s at)
+standing-accepted : (k : ℕ) (s : List ℕ) (at : ℕ) → Accepted k s at → standing k s at ≡ Ok (part_at at (items_size (layout_of k) s at))
 standing-accepted k s at e =
     let n = items_size (layout_of k) s at in
     let d : at + n - at ≡ n = omega arith in
     rw (items-accepted (layout_of k) s at at (at + n) e, d)
 
 -- the answer: where the section stands and how long it is, or nothing where it isn't named
-pub found-accepted : (k : ℕ) (s : List ℕ) → between 2 9 k ≡ true → check_command s ≡ Fine
-    → find_section k s ≡ cond (is_named s k) (Part (place_of s k) (items_size (layout_of k) s (place_of s k))) (Part 0 0)
+pub found-accepted : (k : ℕ) (s : List ℕ) → between 2 9 k ≡ true → check_command s ≡ (Ok tt)
+    → find_section k s ≡ cond (is_named s k) (Ok (part_at (place_of s k) (items_size (layout_of k) s (place_of s k)))) (Ok (part_at 0 0))
 unfolding find_section
 found-accepted k s b f =
     let a = accepted s f in
@@ -72,7 +73,7 @@ found-accepted k s b f =
     (λ (n : is_named s k ≡ false). rw n))
 
 -- a whole section, its delimiter included
-items-last : (is : List Item) (s : List ℕ) (at p : ℕ) → check_items is s at ≡ Next p → get_or s (p - 1) 0 ≡ 47
+items-last : (is : List Item) (s : List ℕ) (at p : ℕ) → check_items is s at ≡ Ok p → get_or s (p - 1) 0 ≡ 47
 unfolding check_items
 items-last [] s at p e =
     let d = delimiter s at p e in
@@ -80,9 +81,9 @@ items-last [] s at p e =
     rw z d.1
 items-last (i ∷ is) s at p e =
     after-cases (check_item i s at) (check_items is s) p e
-    (λ q (c : check_item i s at ≡ Next q) (d : check_items is s q ≡ Next p). items-last is s q p d)
+    (λ q (c : check_item i s at ≡ Ok q) (d : check_items is s q ≡ Ok p). items-last is s q p d)
 
-module _ (k : ℕ) (s : List ℕ) (b : between 2 9 k ≡ true) (f : check_command s ≡ Fine) (n : is_named s k ≡ true) where
+module _ (k : ℕ) (s : List ℕ) (b : between 2 9 k ≡ true) (f : check_command s ≡ (Ok tt)) (n : is_named s k ≡ true) where
   -- it was accepted where it stands
   pub place-accepted : Accepted k s (place_of s k)
   place-accepted = accepted-place numbers s 22 k (length s) (is_number k b) n (accepted s f).walk
@@ -92,7 +93,7 @@ module _ (k : ℕ) (s : List ℕ) (b : between 2 9 k ≡ true) (f : check_comman
   last-accepted = items-last (layout_of k) s (place_of s k) _ place-accepted
 
 -- its bytes: the same that a join copies
-pub bytes-accepted : (k : ℕ) (s : List ℕ) → between 2 9 k ≡ true → check_command s ≡ Fine → part_of s (find_section k s) ≡ bytes_of s k
+pub bytes-accepted : (k : ℕ) (s : List ℕ) → between 2 9 k ≡ true → check_command s ≡ (Ok tt) → part_of s (find_section k s) ≡ bytes_of s k
 bytes-accepted k s b f =
     rw (found-accepted k s b f)
     (by_test (is_named s k)
@@ -101,49 +102,45 @@ bytes-accepted k s b f =
 
 -- ---- A part that is found lies in the text
 
-abbrev pub Inside : List ℕ → Found → Type 0
-Inside s (Part at n) = at + n ≤ length s
-Inside s (Refused code place) = Unit
+abbrev pub Inside : List ℕ → Result Part Refusal → Type 0
+Inside s (Ok p) = p.at + p.length ≤ length s
+Inside s (Err r) = Unit
 
-either : (s : List ℕ) (t : Bool) (x y : Found) → Inside s x → Inside s y → Inside s (cond t x y)
+either : (s : List ℕ) (t : Bool) (x y : Result Part Refusal) → Inside s x → Inside s y → Inside s (cond t x y)
 either s true x y a b = a
 either s false x y a b = b
 
-then : (s : List ℕ) (x : Step) (more : ℕ → Found) → ((at : ℕ) → x ≡ Next at → Inside s (more at)) → Inside s (found_at x more)
-then s (Next at) more h = h at refl
-then s (Stop code place) more h = tt
+then : (s : List ℕ) (x : Result ℕ Refusal) (more : ℕ → Result Part Refusal) → ((at : ℕ) → x ≡ Ok at → Inside s (more at)) → Inside s (after x more)
+then s (Ok at) more h = h at refl
+then s (Err r) more h = tt
 
 standing-inside : (k : ℕ) (s : List ℕ) (at : ℕ) → Inside s (standing k s at)
 standing-inside k s at =
-    then s (pass_section k s at) (λ end. Part at (end - at)) (λ end e. omega (arith, items-inside (layout_of k) s at at end e))
+    then s (pass_section k s at) (λ end. Ok (part_at at (end - at))) (λ end e. omega (arith, items-inside (layout_of k) s at at end e))
 
 pub finds_inside : (k : ℕ) (s : List ℕ) → Inside s (find_section k s)
 unfolding find_section
 finds_inside k s =
-    either s (between 2 9 k) _ (Refused 5 0)
-    (either s (leb (length s) longest) _ (Refused 1 0)
+    either s (between 2 9 k) _ (refuse OutOfRange 0)
+    (either s (leb (length s) longest) _ (refuse WrongLength 0)
     (then s (check_head s) (find_in k s)
     (λ at e.
-    either s (is_named s k) _ (Part 0 0) (then s (reach numbers s at k) (standing k s) (λ p d. standing-inside k s p)) (omega arith)))
+    either s (is_named s k) _ (Ok (part_at 0 0)) (then s (reach numbers s at k) (standing k s) (λ p d. standing-inside k s p)) (omega arith)))
     tt)
     tt
 
--- a refusal is no part
-pub part-refused {ℓ} : {P : Type ℓ} {at n code place : ℕ} → Refused code place ≡ Part at n → P
-part-refused e = let z : ◌≡◌ {A = ℕ} 0 1 = cc in absurd (omega arith)
-
 -- the part's bounds
-pub part-inside : (k : ℕ) (s : List ℕ) (at n : ℕ) → find_section k s ≡ Part at n → at + n ≤ length s
-part-inside k s at n e = rw e at (finds_inside k s)
+pub part-inside : (k : ℕ) (s : List ℕ) (p : Part) → find_section k s ≡ Ok p → p.at + p.length ≤ length s
+part-inside k s p e = rw e at (finds_inside k s)
 
 -- no longer than the longest command
-pub part-short : (k : ℕ) (s : List ℕ) (at n : ℕ) → find_section k s ≡ Part at n → n ≤ longest
+pub part-short : (k : ℕ) (s : List ℕ) (p : Part) → find_section k s ≡ Ok p → p.length ≤ longest
 unfolding find_section
-part-short k s at n e =
-    let i = part-inside k s at n e in
+part-short k s p e =
+    let i = part-inside k s p e in
     by_test (between 2 9 k)
     (λ (b : between 2 9 k ≡ true).
     by_test (leb (length s) longest)
-    (λ (l : leb (length s) longest ≡ true). le_trans (le_trans (le-add_left n at) i) (leb-true (length s) longest l))
-    (λ (l : leb (length s) longest ≡ false). part-refused (rw (b, l) at e)))
-    (λ (b : between 2 9 k ≡ false). part-refused (rw b at e))
+    (λ (l : leb (length s) longest ≡ true). le_trans (le_trans (le-add_left p.length p.at) i) (leb-true (length s) longest l))
+    (λ (l : leb (length s) longest ≡ false). err_ok _ p (rw (b, l) at e)))
+    (λ (b : between 2 9 k ≡ false). err_ok _ p (rw b at e))

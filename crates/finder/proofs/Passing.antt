@@ -9,9 +9,8 @@ use lib.Dec.{leb}
 use lib.ListN.{length}
 use borrow.Author.Tests.{le-leb, lt-leb}
 use Rattle.text.proofs.Cases.{by_test, by_le}
-use Rattle.field.specs.declared.Step.{Step}
-use Rattle.field.specs.declared.Step.TheVariants.{Next, Stop}
-use Rattle.field.specs.Fields.{after, check_number, check_airfield, repeat}
+use Rattle.field.specs.Fields.{check_number, check_airfield, repeat}
+use Rattle.text.specs.Checks.{after, refuse}
 use Rattle.field.specs.Boxes.{check_box}
 use Rattle.field.proofs.Accepted.{Number, number, stop_next, next-same, delimiter}
 use Rattle.field.proofs.Number.{digits-fine}
@@ -21,22 +20,25 @@ use Rattle.lists.proofs.Accepted.{counted}
 use Rattle.section.specs.Layout.{Item, Digits, AirfieldList, BoxList, several, check_item, check_items}
 use Rattle.section.proofs.Local.{item_sized}
 use Rattle.finder.specs.Finding.{pass_list, pass_item, pass_items}
+use Rattle.std.specs.Prelude.{Result, Ok, Err}
+use Rattle.text.specs.declared.Refusal.{Refusal}
+use Rattle.text.specs.declared.Code.TheVariants.{OutOfRange, WrongEnd}
 
 -- ---- One list
 
 module _ (most w : ℕ) (s : List ℕ) (start at : ℕ) where
   -- it would begin past the end
-  pub list-past : length s < at → pass_list most w s start at ≡ Stop 8 start
+  pub list-past : length s < at → pass_list most w s start at ≡ refuse WrongEnd start
   unfolding pass_list
   list-past h = rw (lt-leb at (length s) h)
 
   -- its count is refused
-  pub list_stop : (code place : ℕ) → at ≤ length s → check_number 2 0 most s at ≡ Stop code place → pass_list most w s start at ≡ Stop code place
+  pub list_stop : (r : Refusal) → at ≤ length s → check_number 2 0 most s at ≡ Err r → pass_list most w s start at ≡ Err r
   unfolding pass_list
-  list_stop code place h e = rw (le-leb at (length s) h, e)
+  list_stop r h e = rw (le-leb at (length s) h, e)
 
   -- its count is accepted
-  pub list-next : (p : ℕ) → at ≤ length s → check_number 2 0 most s at ≡ Next p → pass_list most w s start at ≡ Next (p + w * count_at s at)
+  pub list-next : (p : ℕ) → at ≤ length s → check_number 2 0 most s at ≡ Ok p → pass_list most w s start at ≡ Ok (p + w * count_at s at)
   unfolding pass_list
   list-next p h e = rw (le-leb at (length s) h, e)
 
@@ -45,20 +47,20 @@ pub record Counted (most w : ℕ) (s : List ℕ) (at p : ℕ) : Type 0 where
   pub count : Number 2 0 most s at (at + 2)
   pub ends : p ≡ at + 2 + w * count_at s at
 
-pub list_counted : (most w : ℕ) (s : List ℕ) (start at p : ℕ) → pass_list most w s start at ≡ Next p → Counted most w s at p
+pub list_counted : (most w : ℕ) (s : List ℕ) (start at p : ℕ) → pass_list most w s start at ≡ Ok p → Counted most w s at p
 unfolding pass_list
 list_counted most w s start at p e =
     by_test (leb at (length s))
     (λ (l : leb at (length s) ≡ true).
-    after-cases (check_number 2 0 most s at) (λ first. Next (first + w * count_at s at)) p (rw l at e)
-    (λ q (c : check_number 2 0 most s at ≡ Next q) (d : Next (q + w * count_at s at) ≡ Next p).
-    let n = number 5 2 0 most s at q c in
+    after-cases (check_number 2 0 most s at) (λ first. Ok (first + w * count_at s at)) p (rw l at e)
+    (λ q (c : check_number 2 0 most s at ≡ Ok q) (d : Ok (q + w * count_at s at) ≡ Ok p).
+    let n = number OutOfRange 2 0 most s at q c in
     let m : q ≡ at + 2 = sym n.next in
     record { count = rw m at n; ends = sym (next-same d) ∙ ap (λ (r : ℕ). r + w * count_at s at) m }))
-    (λ (l : leb at (length s) ≡ false). stop_next 8 start p (rw l at e))
+    (λ (l : leb at (length s) ≡ false). stop_next WrongEnd start p (rw l at e))
 
 -- no further than the entries of a full list behind the end
-pub list_reaches : (most w : ℕ) (s : List ℕ) (start at p : ℕ) → most ≤ 20 → w ≤ 14 → pass_list most w s start at ≡ Next p → p ≤ length s + 280
+pub list_reaches : (most w : ℕ) (s : List ℕ) (start at p : ℕ) → most ≤ 20 → w ≤ 14 → pass_list most w s start at ≡ Ok p → p ≤ length s + 280
 list_reaches most w s start at p few short e =
     let c = list_counted most w s start at p e in
     let high : count_at s at ≤ 20 = omega (arith, c.count.high) in
@@ -66,35 +68,35 @@ list_reaches most w s start at p few short e =
 
 -- ---- What the check accepts is passed over whole
 
-list-accepted : (most w : ℕ) (entry : List ℕ → ℕ → Step) (s : List ℕ) (start at p : ℕ)
-    → check_list most entry s at ≡ Next p → p ≡ at + (2 + w * count_at s at) → pass_list most w s start at ≡ Next p
+list-accepted : (most w : ℕ) (entry : List ℕ → ℕ → Result ℕ Refusal) (s : List ℕ) (start at p : ℕ)
+    → check_list most entry s at ≡ Ok p → p ≡ at + (2 + w * count_at s at) → pass_list most w s start at ≡ Ok p
 list-accepted most w entry s start at p e d =
     let n = (counted most entry s at p e).count in
-    list-next most w s start at (at + 2) (omega (arith, n.room)) (digits-fine 5 2 0 most s at n.room n.digits n.low n.high)
-    ∙ ap Next (omega arith)
+    list-next most w s start at (at + 2) (omega (arith, n.room)) (digits-fine OutOfRange 2 0 most s at n.room n.digits n.low n.high)
+    ∙ ap Ok (omega arith)
 
 -- an item
-pub item_accepted : (i : Item) (s : List ℕ) (start at p : ℕ) → check_item i s at ≡ Next p → pass_item i s start at ≡ Next p
-item_accepted (Digits r) s start at p e = ap Next (sym ((item_sized (Digits r)).passes s at p e))
+pub item_accepted : (i : Item) (s : List ℕ) (start at p : ℕ) → check_item i s at ≡ Ok p → pass_item i s start at ≡ Ok p
+item_accepted (Digits r) s start at p e = ap Ok (sym ((item_sized (Digits r)).passes s at p e))
 item_accepted AirfieldList s start at p e = list-accepted 20 4 check_airfield s start at p e ((item_sized AirfieldList).passes s at p e)
 item_accepted BoxList s start at p e = list-accepted 16 14 check_box s start at p e ((item_sized BoxList).passes s at p e)
 
 -- and a section
-pub items-accepted : (is : List Item) (s : List ℕ) (start at p : ℕ) → check_items is s at ≡ Next p → pass_items is s start at ≡ Next p
+pub items-accepted : (is : List Item) (s : List ℕ) (start at p : ℕ) → check_items is s at ≡ Ok p → pass_items is s start at ≡ Ok p
 unfolding check_items pass_items
 items-accepted [] s start at p e =
     let d = delimiter s at p e in
-    rw (le-leb (at + 1) (length s) d.0) (ap Next d.2)
+    rw (le-leb (at + 1) (length s) d.0) (ap Ok d.2)
 items-accepted (i ∷ is) s start at p e =
     after-cases (check_item i s at) (check_items is s) p e
-    (λ q (c : check_item i s at ≡ Next q) (d : check_items is s q ≡ Next p).
+    (λ q (c : check_item i s at ≡ Ok q) (d : check_items is s q ≡ Ok p).
     rw (item_accepted i s start at q c) (items-accepted is s start q p d))
 
 -- ---- Lists of one kind, one after the other
 
-grouped : (x : Step) (f g h : ℕ → Step) → ((p : ℕ) → f p ≡ after (g p) h) → after x f ≡ after (after x g) h
-grouped (Next p) f g h e = e p
-grouped (Stop code place) f g h e = refl
+grouped : (x : Result ℕ Refusal) (f g h : ℕ → Result ℕ Refusal) → ((p : ℕ) → f p ≡ after (g p) h) → after x f ≡ after (after x g) h
+grouped (Ok p) f g h e = e p
+grouped (Err r) f g h e = refl
 
 -- they are passed over first
 pub lists-first : (i : Item) (n : ℕ) (js : List Item) (s : List ℕ) (start at : ℕ)
@@ -107,43 +109,43 @@ lists-first i (suc n) js s start at =
 
 module _ (i : Item) (n : ℕ) (js : List Item) (s : List ℕ) (start at : ℕ) where
   -- one of them refused
-  pub lists_stop : {code place : ℕ} → repeat (pass_item i s start) n at ≡ Stop code place → Stop code place ≡ pass_items (several i n js) s start at
+  pub lists_stop : {r : Refusal} → repeat (pass_item i s start) n at ≡ Err r → Err r ≡ pass_items (several i n js) s start at
   lists_stop e = sym (lists-first i n js s start at ∙ rw e)
 
   -- all of them passed: the rest decides
-  pub lists-on : {p : ℕ} {r : Step} → repeat (pass_item i s start) n at ≡ Next p → r ≡ pass_items js s start p
+  pub lists-on : {p : ℕ} {r : Result ℕ Refusal} → repeat (pass_item i s start) n at ≡ Ok p → r ≡ pass_items js s start p
       → r ≡ pass_items (several i n js) s start at
   lists-on e d = d ∙ sym (lists-first i n js s start at ∙ rw e)
 
 module _ (most w : ℕ) (s : List ℕ) (start : ℕ) (few : most ≤ 20) (short : w ≤ 14) where
   -- n lists come no further than one
-  pub lists-reach : (n at p : ℕ) → at ≤ length s + 280 → repeat (pass_list most w s start) n at ≡ Next p → p ≤ length s + 280
+  pub lists-reach : (n at p : ℕ) → at ≤ length s + 280 → repeat (pass_list most w s start) n at ≡ Ok p → p ≤ length s + 280
   unfolding repeat
   lists-reach zero at p h e = rw (← next-same e) h
   lists-reach (suc n) at p h e =
       after-cases (pass_list most w s start at) (repeat (pass_list most w s start) n) p e
-      (λ q (c : pass_list most w s start at ≡ Next q) (d : repeat (pass_list most w s start) n q ≡ Next p).
+      (λ q (c : pass_list most w s start at ≡ Ok q) (d : repeat (pass_list most w s start) n q ≡ Ok p).
       lists-reach n q p (list_reaches most w s start at q few short c) d)
 
 -- ---- A section
 
 -- it ends in the text, behind where it began
-pub items-inside : (is : List Item) (s : List ℕ) (start at p : ℕ) → pass_items is s start at ≡ Next p → (at < p) × (p ≤ length s)
+pub items-inside : (is : List Item) (s : List ℕ) (start at p : ℕ) → pass_items is s start at ≡ Ok p → (at < p) × (p ≤ length s)
 unfolding pass_items
 items-inside [] s start at p e =
     by_le (at + 1) (length s)
     (λ (l : at + 1 ≤ length s).
     let d : at + 1 ≡ p = next-same (rw (le-leb (at + 1) (length s) l) at e) in
     omega arith)
-    (λ (l : length s < at + 1). stop_next 8 start p (rw (lt-leb (at + 1) (length s) l) at e))
+    (λ (l : length s < at + 1). stop_next WrongEnd start p (rw (lt-leb (at + 1) (length s) l) at e))
 items-inside (i ∷ is) s start at p e =
     after-cases (pass_item i s start at) (pass_items is s start) p e
-    (λ q (c : pass_item i s start at ≡ Next q) (d : pass_items is s start q ≡ Next p).
+    (λ q (c : pass_item i s start at ≡ Ok q) (d : pass_items is s start q ≡ Ok p).
     let o = onward i s start at q c in
     let r = items-inside is s start q p d in
     omega arith)
   where
-    onward : (i : Item) (s : List ℕ) (start at q : ℕ) → pass_item i s start at ≡ Next q → at ≤ q
+    onward : (i : Item) (s : List ℕ) (start at q : ℕ) → pass_item i s start at ≡ Ok q → at ≤ q
     onward (Digits r) s start at q c = let d : at + r.width ≡ q = next-same c in omega arith
     onward AirfieldList s start at q c = omega (arith, (list_counted 20 4 s start at q c).ends)
     onward BoxList s start at q c = omega (arith, (list_counted 16 14 s start at q c).ends)

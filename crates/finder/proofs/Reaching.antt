@@ -8,10 +8,9 @@ use lib.Dec.{eqb}
 use lib.ListN.{length, drop}
 use borrow.Author.Tests.{eq-eqb, ne_eqb}
 use Rattle.text.proofs.Cases.{by_test}
-use Rattle.field.specs.declared.Step.{Step}
-use Rattle.field.specs.declared.Step.TheVariants.{Next, Stop}
-use Rattle.field.specs.Fields.{after}
-use Rattle.field.proofs.Accepted.{stop_next, next-same}
+use Rattle.text.specs.Checks.{after}
+use Rattle.text.proofs.Checks.{err_ok}
+use Rattle.field.proofs.Accepted.{next-same}
 use Rattle.field.proofs.Local.{after-cases}
 use Rattle.section.specs.Layout.{numbers, layout_of, check_section}
 use Rattle.section.proofs.Own.{cut_end}
@@ -21,11 +20,13 @@ use Rattle.command.proofs.Checking.{numbers-next}
 use Rattle.finder.specs.Finding.{pass_section, reach}
 use Rattle.finder.specs.Inner.{section_passed}
 use Rattle.finder.proofs.Passing.{items-inside, items-accepted}
+use Rattle.std.specs.Prelude.{Result, Ok, Err}
+use Rattle.text.specs.declared.Refusal.{Refusal}
 
 -- ---- In an accepted text
 
 -- it comes to where the section stands
-pub reach-accepted : (ks s : List ℕ) (at j p : ℕ) → check_from ks s at ≡ Next p → reach ks s at j ≡ Next (place_from ks s at j)
+pub reach-accepted : (ks s : List ℕ) (at j p : ℕ) → check_from ks s at ≡ Ok p → reach ks s at j ≡ Ok (place_from ks s at j)
 unfolding reach check_from place_from
 reach-accepted [] s at j p e = refl
 reach-accepted (k ∷ ks) s at j p e =
@@ -35,7 +36,7 @@ reach-accepted (k ∷ ks) s at j p e =
     by_test (is_named s k)
     (λ (m : is_named s k ≡ true).
     after-cases (check_section k s at) (check_from ks s) p (rw m at e)
-    (λ q (c : check_section k s at ≡ Next q) (d : check_from ks s q ≡ Next p).
+    (λ q (c : check_section k s at ≡ Ok q) (d : check_from ks s q ≡ Ok p).
     let end = cut_end (layout_of k) s at q c in
     rw (y, m, items-accepted (layout_of k) s at at q c, ← end) (reach-accepted ks s q j p d)))
     (λ (m : is_named s k ≡ false). rw (y, m) (reach-accepted ks s at j p (rw m at e))))
@@ -43,15 +44,15 @@ reach-accepted (k ∷ ks) s at j p e =
 -- ---- In any text
 
 -- what is passed over ends in the text
-pub passed-inside : (s : List ℕ) (k p q : ℕ) → p ≤ length s → section_passed s k p ≡ Next q → q ≤ length s
+pub passed-inside : (s : List ℕ) (k p q : ℕ) → p ≤ length s → section_passed s k p ≡ Ok q → q ≤ length s
 passed-inside s k p q h e = go (is_named s k) e
   where
-    go : (t : Bool) → cond t (pass_section k s p) (Next p) ≡ Next q → q ≤ length s
+    go : (t : Bool) → cond t (pass_section k s p) (Ok p) ≡ Ok q → q ≤ length s
     go true w = (items-inside (layout_of k) s p p q w).1
     go false w = let z : p ≡ q = next-same w in rw (← z) h
 
 module _ (s : List ℕ) (k p j : ℕ) (lo : 2 ≤ k) (hi : k < j) (most : j ≤ 9) where
-  abbrev later : ℕ → Step
+  abbrev later : ℕ → Result ℕ Refusal
   later q = reach (drop (k + 1 - 2) numbers) s q j
 
   -- a turn of the walk
@@ -60,30 +61,30 @@ module _ (s : List ℕ) (k p j : ℕ) (lo : 2 ≤ k) (hi : k < j) (most : j ≤ 
   turn = rw (numbers-next k lo (omega arith), ne_eqb j k (λ (z : j ≡ k). omega arith))
 
   -- a section that is refused ends it
-  pub reach_stop : (c q : ℕ) → section_passed s k p ≡ Stop c q → reach (drop (k - 2) numbers) s p j ≡ Stop c q
-  reach_stop c q e = turn ∙ go (is_named s k) (pass_section k s p) e
+  pub reach_stop : (f : Refusal) → section_passed s k p ≡ Err f → reach (drop (k - 2) numbers) s p j ≡ Err f
+  reach_stop f e = turn ∙ go (is_named s k) (pass_section k s p) e
     where
-      go : (t : Bool) (x : Step) → cond t x (Next p) ≡ Stop c q → cond t (after x later) (later p) ≡ Stop c q
-      go true (Stop d r) w = w
-      go true (Next r) w = stop_next c q r (sym w)
-      go false x w = stop_next c q p (sym w)
+      go : (t : Bool) (x : Result ℕ Refusal) → cond t x (Ok p) ≡ Err f → cond t (after x later) (later p) ≡ Err f
+      go true (Err r) w = w
+      go true (Ok q) w = err_ok f q (sym w)
+      go false x w = err_ok f p (sym w)
 
   -- behind any other it goes on
-  pub reach-on : (q : ℕ) → section_passed s k p ≡ Next q → reach (drop (k - 2) numbers) s p j ≡ later q
+  pub reach-on : (q : ℕ) → section_passed s k p ≡ Ok q → reach (drop (k - 2) numbers) s p j ≡ later q
   reach-on q e = turn ∙ go (is_named s k) (pass_section k s p) e
     where
-      go : (t : Bool) (x : Step) → cond t x (Next p) ≡ Next q → cond t (after x later) (later p) ≡ later q
-      go true (Stop d r) w = stop_next d r q w
-      go true (Next r) w = ap later (next-same w)
+      go : (t : Bool) (x : Result ℕ Refusal) → cond t x (Ok p) ≡ Ok q → cond t (after x later) (later p) ≡ later q
+      go true (Err r) w = err_ok r q w
+      go true (Ok r) w = ap later (next-same w)
       go false x w = ap later (next-same w)
 
 -- the section itself
-pub reach_here : (s : List ℕ) (k p j : ℕ) → 2 ≤ k → k ≤ j → j ≤ k → j ≤ 9 → reach (drop (k - 2) numbers) s p j ≡ Next p
+pub reach_here : (s : List ℕ) (k p j : ℕ) → 2 ≤ k → k ≤ j → j ≤ k → j ≤ 9 → reach (drop (k - 2) numbers) s p j ≡ Ok p
 unfolding reach
 reach_here s k p j lo le ge most = let z : j ≡ k = omega arith in rw (numbers-next k lo (omega arith), eq-eqb j k z)
 
 -- it ends in the text
-pub reach-inside : (ks s : List ℕ) (at j p : ℕ) → at ≤ length s → reach ks s at j ≡ Next p → p ≤ length s
+pub reach-inside : (ks s : List ℕ) (at j p : ℕ) → at ≤ length s → reach ks s at j ≡ Ok p → p ≤ length s
 unfolding reach
 reach-inside [] s at j p h e = rw (← next-same e) h
 reach-inside (k ∷ ks) s at j p h e =
@@ -93,6 +94,6 @@ reach-inside (k ∷ ks) s at j p h e =
     by_test (is_named s k)
     (λ (m : is_named s k ≡ true).
     after-cases (pass_section k s at) (λ q. reach ks s q j) p (rw (y, m) at e)
-    (λ q (c : pass_section k s at ≡ Next q) (d : reach ks s q j ≡ Next p).
+    (λ q (c : pass_section k s at ≡ Ok q) (d : reach ks s q j ≡ Ok p).
     reach-inside ks s q j p (items-inside (layout_of k) s at at q c).1 d))
     (λ (m : is_named s k ≡ false). reach-inside ks s at j p h (rw (y, m) at e)))

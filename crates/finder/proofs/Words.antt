@@ -8,31 +8,34 @@ use lib.Dec.{eqb}
 use lib.ListN.{length}
 use borrow.Author.Tests.{le-leb, lt-leb, eq-eqb, ne_eqb, eqb-true}
 use Rattle.text.proofs.Cases.{by_test, by_eq, by_lt}
-use Rattle.field.specs.declared.Step.TheVariants.{Next, Stop}
 use Rattle.field.specs.Fields.{check_number}
-use Rattle.field.proofs.Accepted.{number, stop_next}
+use Rattle.field.proofs.Accepted.{number}
 use Rattle.lists.specs.Lists.{count_at}
 use Rattle.section.specs.Layout.{Item, Digits, AirfieldList, BoxList, numbers, layout_of, item_size, items_size}
 use Rattle.command.specs.Text.{is_named, longest}
 use Rattle.command.specs.Sections.{is_one_of, place_from, place_of}
 use Rattle.command.proofs.Each.{Rising}
 use Rattle.command.proofs.Accepted.{rising}
-use Rattle.finder.specs.declared.Found.TheVariants.{Part, Refused}
-use Rattle.finder.specs.Finding.{pass_list, pass_item, pass_items, pass_section, reach, find_section}
+use Rattle.finder.specs.Finding.{pass_list, pass_item, pass_items, pass_section, reach, part_at, find_section}
 use Rattle.finder.specs.Words.{count_seen, behind, CountsFine, Whole, WholeBefore, Names, OnTheWay}
 use Rattle.finder.proofs.Passing.{list-past, list_stop, list-next}
 use Rattle.finder.proofs.Finds.{is_number, number-between}
+use Rattle.std.specs.Prelude.{Ok, Err}
+use Rattle.text.specs.Checks.{refuse}
+use Rattle.text.specs.declared.Refusal.{Refusal}
+use Rattle.text.specs.declared.Code.TheVariants.{OutOfRange, WrongEnd}
+use Rattle.text.proofs.Checks.{err_ok}
 
 -- ---- Items passed over
 
-list-fine : (most w : ℕ) (s : List ℕ) (start at n : ℕ) → check_number 2 0 most s at ≡ Next (at + 2) → n ≡ count_at s at
-    → pass_list most w s start at ≡ Next (at + (2 + w * n))
+list-fine : (most w : ℕ) (s : List ℕ) (start at n : ℕ) → check_number 2 0 most s at ≡ Ok (at + 2) → n ≡ count_at s at
+    → pass_list most w s start at ≡ Ok (at + (2 + w * n))
 list-fine most w s start at n e d =
     let same : at + 2 + w * count_at s at ≡ at + (2 + w * count_at s at) = omega arith in
-    rw d (list-next most w s start at (at + 2) (omega (arith, (number 5 2 0 most s at (at + 2) e).room)) e ∙ ap Next same)
+    rw d (list-next most w s start at (at + 2) (omega (arith, (number OutOfRange 2 0 most s at (at + 2) e).room)) e ∙ ap Ok same)
 
 -- an item whose count is accepted
-item_fine : (i : Item) (s : List ℕ) (start at : ℕ) → count_seen i s at ≡ Next (at + 2) → pass_item i s start at ≡ Next (at + item_size i s at)
+item_fine : (i : Item) (s : List ℕ) (start at : ℕ) → count_seen i s at ≡ Ok (at + 2) → pass_item i s start at ≡ Ok (at + item_size i s at)
 item_fine (Digits r) s start at e = refl
 item_fine AirfieldList s start at e = list-fine 20 4 s start at (count_at s at) e refl
 item_fine BoxList s start at e = list-fine 16 14 s start at (count_at s at) e refl
@@ -46,14 +49,14 @@ items-fine (i ∷ is) js s start at f =
     rw (item_fine i s start at f.0) (items-fine is js s start (at + item_size i s at) f.1)
 
 -- an item whose count is refused
-item_refused : (i : Item) (s : List ℕ) (start at code place : ℕ) → at ≤ length s → count_seen i s at ≡ Stop code place
-    → pass_item i s start at ≡ Stop code place
-item_refused (Digits r) s start at code place h e = stop_next code place (at + 2) (sym e)
-item_refused AirfieldList s start at code place h e = list_stop 20 4 s start at code place h e
-item_refused BoxList s start at code place h e = list_stop 16 14 s start at code place h e
+item_refused : (i : Item) (s : List ℕ) (start at : ℕ) (f : Refusal) → at ≤ length s → count_seen i s at ≡ Err f
+    → pass_item i s start at ≡ Err f
+item_refused (Digits r) s start at f h e = err_ok f (at + 2) (sym e)
+item_refused AirfieldList s start at f h e = list_stop 20 4 s start at f h e
+item_refused BoxList s start at f h e = list_stop 16 14 s start at f h e
 
 -- items that begin past the end
-pub items-past : (is : List Item) (s : List ℕ) (start at : ℕ) → length s < at → pass_items is s start at ≡ Stop 8 start
+pub items-past : (is : List Item) (s : List ℕ) (start at : ℕ) → length s < at → pass_items is s start at ≡ refuse WrongEnd start
 unfolding pass_items
 items-past [] s start at h = rw (lt-leb (at + 1) (length s) (omega arith))
 items-past (Digits r ∷ is) s start at h = items-past is s start (at + r.width) (omega arith)
@@ -75,7 +78,7 @@ module _ (k : ℕ) (s : List ℕ) (at : ℕ) where
   all = layout_of k
 
   -- a whole one
-  pub whole-passed : Whole k s at → pass_section k s at ≡ Next (at + items_size all s at)
+  pub whole-passed : Whole k s at → pass_section k s at ≡ Ok (at + items_size all s at)
   unfolding pass_items
   whole-passed w =
       ap (λ (is : List Item). pass_items is s at at) (sym (append-nil all))
@@ -84,21 +87,21 @@ module _ (k : ℕ) (s : List ℕ) (at : ℕ) where
 
   module _ (is js : List Item) (split : all ≡ is ++ js) (fine : CountsFine is s at) where
     -- a count that is refused
-    pub count-passed : (i : Item) (rest : List Item) (code place : ℕ) → js ≡ i ∷ rest → behind is s at ≤ length s
-        → count_seen i s (behind is s at) ≡ Stop code place → pass_section k s at ≡ Stop code place
+    pub count-passed : (i : Item) (rest : List Item) (f : Refusal) → js ≡ i ∷ rest → behind is s at ≤ length s
+        → count_seen i s (behind is s at) ≡ Err f → pass_section k s at ≡ Err f
     unfolding pass_items
-    count-passed i rest code place first h e =
+    count-passed i rest f first h e =
         ap (λ (is : List Item). pass_items is s at at) split
         ∙ items-fine is js s at at fine
-        ∙ rw (first, item_refused i s at (behind is s at) code place h e)
+        ∙ rw (first, item_refused i s at (behind is s at) f h e)
 
     -- what follows would begin past the end
-    pub past-passed : length s < behind is s at → pass_section k s at ≡ Stop 8 at
+    pub past-passed : length s < behind is s at → pass_section k s at ≡ refuse WrongEnd at
     past-passed h =
         ap (λ (is : List Item). pass_items is s at at) split ∙ items-fine is js s at at fine ∙ items-past js s at (behind is s at) h
 
   -- all but the delimiter
-  pub bare-passed : CountsFine all s at → behind all s at ≡ length s → pass_section k s at ≡ Stop 8 at
+  pub bare-passed : CountsFine all s at → behind all s at ≡ length s → pass_section k s at ≡ refuse WrongEnd at
   unfolding pass_items
   bare-passed fine e =
       ap (λ (is : List Item). pass_items is s at at) (sym (append-nil all))
@@ -151,7 +154,7 @@ module _ (k : ℕ) (ks s : List ℕ) (at i : ℕ) (l : suc k ≤ i) where
 
 -- all before it are whole: it stands where the counts say
 reach-whole : (lo : ℕ) (ks s : List ℕ) (at j : ℕ) → Rising lo ks → is_one_of ks j ≡ true → Wholes ks s at j
-    → reach ks s at j ≡ Next (place_from ks s at j)
+    → reach ks s at j ≡ Ok (place_from ks s at j)
 unfolding reach
 reach-whole lo [] s at j r o w = let z : ◌≡◌ {A = ℕ} 0 1 = cc in absurd (omega arith)
 reach-whole lo (k ∷ ks) s at j r o w =
@@ -170,11 +173,11 @@ reach-whole lo (k ∷ ks) s at j r o w =
     (reach-whole (suc k) ks s at j r.1 o' (later-whole lo k ks s at j r w at (λ i m. place-unnamed k ks s at i m n)))))
 
 -- one before it is refused, and those before that are whole
-reach-refused : (lo : ℕ) (ks s : List ℕ) (at h j code place : ℕ) → Rising lo ks → is_one_of ks h ≡ true → h < j → Wholes ks s at h
-    → is_named s h ≡ true → pass_section h s (place_from ks s at h) ≡ Stop code place → reach ks s at j ≡ Stop code place
+reach-refused : (lo : ℕ) (ks s : List ℕ) (at h j : ℕ) (f : Refusal) → Rising lo ks → is_one_of ks h ≡ true → h < j → Wholes ks s at h
+    → is_named s h ≡ true → pass_section h s (place_from ks s at h) ≡ Err f → reach ks s at j ≡ Err f
 unfolding reach
-reach-refused lo [] s at h j code place r o b w n e = let z : ◌≡◌ {A = ℕ} 0 1 = cc in absurd (omega arith)
-reach-refused lo (k ∷ ks) s at h j code place r o b w n e =
+reach-refused lo [] s at h j f r o b w n e = let z : ◌≡◌ {A = ℕ} 0 1 = cc in absurd (omega arith)
+reach-refused lo (k ∷ ks) s at h j f r o b w n e =
     by_test (eqb h k)
     (λ (y : eqb h k ≡ true).
     let z : h ≡ k = eqb-true h k y in
@@ -186,12 +189,12 @@ reach-refused lo (k ∷ ks) s at h j code place r o b w n e =
     by_test (is_named s k)
     (λ (m : is_named s k ≡ true).
     rw (far, m, whole-passed k s at (first-whole lo k ks s at h r w l m))
-    (reach-refused (suc k) ks s (at + items_size (layout_of k) s at) h j code place r.1 o' b
+    (reach-refused (suc k) ks s (at + items_size (layout_of k) s at) h j f r.1 o' b
     (later-whole lo k ks s at h r w (at + items_size (layout_of k) s at) (λ i q. place-named k ks s at i q m)) n
     (rw (place-named k ks s at h l m) at e)))
     (λ (m : is_named s k ≡ false).
     rw (far, m)
-    (reach-refused (suc k) ks s at h j code place r.1 o' b
+    (reach-refused (suc k) ks s at h j f r.1 o' b
     (later-whole lo k ks s at h r w at (λ i q. place-unnamed k ks s at i q m)) n (rw (place-unnamed k ks s at h l m) at e))))
 
 -- ---- The answer
@@ -201,7 +204,7 @@ all_whole k s w i o l n = w i (least 2 numbers i rising o) l n
 
 -- a section that is whole, with all before it, is found
 pub whole-found : (k : ℕ) (s : List ℕ) → Names k s → WholeBefore k s → Whole k s (place_of s k)
-    → find_section k s ≡ Part (place_of s k) (items_size (layout_of k) s (place_of s k))
+    → find_section k s ≡ Ok (part_at (place_of s k) (items_size (layout_of k) s (place_of s k)))
 unfolding find_section
 whole-found k s a b w =
     let at = place_of s k in
@@ -219,10 +222,9 @@ whole-found k s a b w =
     )
 
 -- the first that is refused on the way decides
-pub way_refused : (h k : ℕ) (s : List ℕ) (code place : ℕ) → OnTheWay h k s → pass_section h s (place_of s h) ≡ Stop code place
-    → find_section k s ≡ Refused code place
+pub way_refused : (h k : ℕ) (s : List ℕ) (f : Refusal) → OnTheWay h k s → pass_section h s (place_of s h) ≡ Err f → find_section k s ≡ Err f
 unfolding find_section
-way_refused h k s code place o e =
+way_refused h k s f o e =
     let a = o.asked in
     rw (le-leb 2 k a.low, le-leb k 9 a.high, le-leb (length s) longest a.short, a.head, a.named)
     (by_eq h k
@@ -232,7 +234,7 @@ way_refused h k s code place o e =
       rw z at e,
     ))
     (λ (z : h ≡ k → ⊥).
-    rw (reach-refused 2 numbers s 22 h k code place rising (is_number h (number-between h o.low (omega (arith, o.most, a.high))))
+    rw (reach-refused 2 numbers s 22 h k f rising (is_number h (number-between h o.low (omega (arith, o.most, a.high))))
     (below h k o.most z) (all_whole h s o.before) o.named e)))
   where
     below : (h k : ℕ) → h ≤ k → (h ≡ k → ⊥) → h < k

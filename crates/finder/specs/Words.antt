@@ -1,17 +1,16 @@
 -- Document 02, §7, of texts that need not be accepted: which section is whole, which count is on the way. A section stands where the
 -- counts of those before it say, in an accepted text and in any other.
-use Rattle.std.specs.Prelude.{◌≡◌, true, List, [], ◌∷◌, ℕ, ◌+◌, ◌≤◌, ◌<◌, length}
+use Rattle.std.specs.Prelude.{◌≡◌, true, List, [], ◌∷◌, ℕ, ◌+◌, ◌≤◌, ◌<◌, length, Result, Ok}
 use Rattle.field.specs.Fields.{check_number}
-use Rattle.field.specs.declared.Step.{Step}
-use Rattle.field.specs.declared.Step.TheVariants.{Next}
 use Rattle.lists.specs.Lists.{most_boxes, most_airfields}
 use Rattle.section.specs.Layout.{Item, Digits, AirfieldList, BoxList, layout_of, item_size, items_size}
 use Rattle.command.specs.Text.{check_head, is_named, longest}
 use Rattle.command.specs.Sections.{place_of}
+use Rattle.text.specs.declared.Refusal.{Refusal}
 
 -- a count as document 01 checks it; digits have none
-abbrev pub count_seen : Item → List ℕ → ℕ → Step
-count_seen (Digits r) s at = Next (at + 2)
+abbrev pub count_seen : Item → List ℕ → ℕ → Result ℕ Refusal
+count_seen (Digits r) s at = Ok (at + 2)
 count_seen AirfieldList s at = check_number 2 0 most_airfields s at
 count_seen BoxList s at = check_number 2 0 most_boxes s at
 
@@ -23,7 +22,7 @@ behind (i ∷ is) s at = behind is s (at + item_size i s at)
 -- each of their counts is accepted
 abbrev pub CountsFine : List Item → List ℕ → ℕ → Type 0
 CountsFine [] s at = Unit
-CountsFine (i ∷ is) s at = (count_seen i s at ≡ Next (at + 2)) × CountsFine is s (at + item_size i s at)
+CountsFine (i ∷ is) s at = (count_seen i s at ≡ Ok (at + 2)) × CountsFine is s (at + item_size i s at)
 
 -- section k, which begins at a place, ends in the text
 pub record Whole (k : ℕ) (s : List ℕ) (at : ℕ) : Type 0 where
@@ -39,7 +38,7 @@ pub record Names (k : ℕ) (s : List ℕ) : Type 0 where
   pub low : 2 ≤ k
   pub high : k ≤ 9
   pub short : length s ≤ longest
-  pub head : check_head s ≡ Next 22
+  pub head : check_head s ≡ Ok 22
   pub named : is_named s k ≡ true
 
 -- section h is passed over or asked for on the way to section k, and those before it are whole

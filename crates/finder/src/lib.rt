@@ -4,9 +4,9 @@
 pub mod find;
 mod pass;
 
-// Where a section stands in a text and how long it is, both 0 where the text doesn't name it; or the refusal's code and place.
-#[derive(Clone, Copy)]
-pub enum Found {
-    Part(usize, usize),
-    Refused(u8, usize),
+// Where a section stands in a text and how long it is, both 0 where the text doesn't name it.
+#[derive(Clone, Copy, Debug, PartialEq, Eq)]
+pub struct Part {
+    pub at: usize,
+    pub length: usize,
 }

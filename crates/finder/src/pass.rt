@@ -5,45 +5,42 @@ ghost use Rattle.section.specs.Layout.{table_of, digits_of, lists_and_digits};
 ghost use Rattle.finder.specs.Finding.{pass_list, pass_items, pass_section};
 ghost use Rattle.finder.specs.Inner.{width_of};
 
-use field::Step;
 use field::check::digits;
 use field::record::wide;
 use lists::{MOST_AIRFIELDS, MOST_BOXES};
 use section::table::layout_of;
 use settings::places::list_end;
+use text::{Code, Refusal};
 
 // A count, and behind it w bytes for each entry. A list that would begin past the end belongs to a section that ends there.
-fn list(s: &[u8], start: usize, at: usize, most: usize, w: usize) -> Step
+fn list(s: &[u8], start: usize, at: usize, most: usize, w: usize) -> Result<usize, Refusal>
     requires { (most ≤ 20) × (w ≤ 14) }
     ensures { result ≡ pass_list most w s.now start at }
 {
     if s.len() < at {
-        return Step::Stop(8, start);
+        return Err(Code::WrongEnd.at(start));
     }
-    match digits(s, at, 2, 0, most, 5) {
-        Step::Stop(code, place) => Step::Stop(code, place),
-        Step::Next(_) => Step::Next(list_end(s, at, w)),
-    }
+    digits(s, at, 2, 0, most, Code::OutOfRange)?;
+    Ok(list_end(s, at, w))
 }
 
 // n lists of one kind.
-fn several(s: &[u8], start: usize, at: usize, n: usize, most: usize, w: usize) -> Step
+fn several(
+    s: &[u8],
+    start: usize,
+    at: usize,
+    n: usize,
+    most: usize,
+    w: usize,
+) -> Result<usize, Refusal>
     requires { (most ≤ 20) × (w ≤ 14) }
     ensures { result ≡ repeat (pass_list most w s.now start) n at }
 {
     let mut p = at;
-    let mut i: usize = 0;
-    while i < n {
-        let q = match list(s, start, p, most, w) {
-            Step::Stop(code, place) => {
-                return Step::Stop(code, place);
-            }
-            Step::Next(q) => q,
-        };
-        p = q;
-        i += 1;
+    for _ in 0..n {
+        p = list(s, start, p, most, w)?;
     }
-    Step::Next(p)
+    Ok(p)
 }
 
 // How many bytes the digits of a section are.
@@ -51,48 +48,39 @@ fn digits_size(k: usize) -> usize
     ensures { (result ≡ width_of (table_of k).rows) × (result ≤ 24) }
 {
     let l = layout_of(k);
-    let n = l.count;
-    let rows = l.rows;
     let mut size: usize = 0;
-    let mut i: usize = 0;
-    while i < n {
-        let row = rows[i];
-        size += wide(row.width);
-        i += 1;
+    for i in 0..l.count {
+        size += wide(l.rows[i].width);
     }
     size
 }
 
 // The digits and the delimiter. A section that runs past the end is 8 at its start.
-fn to_end(s: &[u8], start: usize, at: usize, k: usize) -> Step
+fn to_end(s: &[u8], start: usize, at: usize, k: usize) -> Result<usize, Refusal>
     requires { at ≤ length s.now + 280 }
     ensures { result ≡ pass_items (digits_of (table_of k)) s.now start at }
 {
     let end = at + digits_size(k) + 1;
     if s.len() < end {
-        return Step::Stop(8, start);
+        return Err(Code::WrongEnd.at(start));
     }
-    Step::Next(end)
+    Ok(end)
 }
 
 // Lists of airfields, and then digits.
-fn behind_boxes(s: &[u8], start: usize, at: usize, k: usize) -> Step
+fn behind_boxes(s: &[u8], start: usize, at: usize, k: usize) -> Result<usize, Refusal>
     requires { at ≤ length s.now + 280 }
     ensures { result ≡ pass_items (lists_and_digits (table_of k)) s.now start at }
 {
-    match several(s, start, at, layout_of(k).airfields, MOST_AIRFIELDS, 4) {
-        Step::Stop(code, place) => Step::Stop(code, place),
-        Step::Next(p) => to_end(s, start, p, k),
-    }
+    let p = several(s, start, at, layout_of(k).airfields, MOST_AIRFIELDS, 4)?;
+    to_end(s, start, p, k)
 }
 
 // Where the text goes on behind section k, which starts at a place.
-pub fn pass_section(s: &[u8], at: usize, k: usize) -> Step
+pub fn pass_section(s: &[u8], at: usize, k: usize) -> Result<usize, Refusal>
     requires { at ≤ length s.now }
     ensures { result ≡ pass_section k s.now at }
 {
-    match several(s, at, at, layout_of(k).boxes, MOST_BOXES, 14) {
-        Step::Stop(code, place) => Step::Stop(code, place),
-        Step::Next(p) => behind_boxes(s, at, p, k),
-    }
+    let p = several(s, at, at, layout_of(k).boxes, MOST_BOXES, 14)?;
+    behind_boxes(s, at, p, k)
 }

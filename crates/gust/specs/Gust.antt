@@ -1,12 +1,12 @@
 -- Document 02, §10: the derived equivalent gust.
-use Rattle.std.specs.Prelude.{ℕ, Bool, cond, ◌&&◌, leb, ltb, ℤ, pos, neg_ℤ, ◌+ℤ◌, ◌-ℤ◌, ◌*ℤ◌, length, get_or}
+use Rattle.std.specs.Prelude.{ℕ, Bool, cond, ◌&&◌, leb, ltb, ℤ, pos, neg_ℤ, ◌+ℤ◌, ◌-ℤ◌, ◌*ℤ◌, length, get_or, Result, Ok, Err}
 use Rattle.std.specs.Int.Signed.{le_z}
 use Rattle.text.specs.Names.{between}
 use Rattle.gust.specs.Floor.{◌over◌}
 use Rattle.gust.specs.Rows.{row, rows}
 use Rattle.gust.specs.declared.Row.{Row}
-use Rattle.gust.specs.declared.Derived.{Derived}
-use Rattle.gust.specs.declared.Derived.TheVariants.{Gust, Refused}
+use Rattle.text.specs.declared.Code.{Code}
+use Rattle.text.specs.declared.Code.TheVariants.{OutOfRange}
 
 -- "Ā in thousandths is 1000·c1 plus 1,000,000·c2 divided by (1000·c3 + H)"
 unfoldable pub mean_a : Row → ℤ → ℤ
@@ -30,14 +30,14 @@ unfoldable pub in_range : ℤ → ℕ → ℕ → ℕ → Bool
 in_range h m n v = height_in h && (between 1 500000 m && (leb n 5000 && between 1 500 v))
 
 -- "5 at 0 for .. a gust below 0 or above 799"
-unfoldable pub of_gust : ℤ → Derived
-of_gust g = cond (le_z (pos 0) g && le_z g (pos 799)) (Gust g) (Refused 5)
+unfoldable pub of_gust : ℤ → Result ℤ Code
+of_gust g = cond (le_z (pos 0) g && le_z g (pos 799)) (Ok g) (Err OutOfRange)
 
 -- the row of a number that has one
 unfoldable pub row_at : ℕ → Row
 row_at k = get_or rows k (row (pos 0) 0 0 0 0 0)
 
 -- "5 at 0 for a row that doesn't exist, an input outside its range"
-unfoldable pub derived : ℕ → ℤ → ℕ → ℕ → ℕ → Derived
+unfoldable pub derived : ℕ → ℤ → ℕ → ℕ → ℕ → Result ℤ Code
 derived k h m n v =
-    cond (ltb k (length rows) && in_range h m n v) (of_gust (gust_of (row_at k) h (pos m) (pos n) (pos v))) (Refused 5)
+    cond (ltb k (length rows) && in_range h m n v) (of_gust (gust_of (row_at k) h (pos m) (pos n) (pos v))) (Err OutOfRange)

@@ -8,8 +8,5 @@ pub fn floor(x: i64, d: i64) -> i64
     requires { lt_z (pos 0) d ≡ true }
     ensures { result ≡ x over d }
 {
-    if x < 0 {
-        return -1 - (-1 - x) / d;
-    }
-    x / d
+    if x < 0 { -1 - (-1 - x) / d } else { x / d }
 }

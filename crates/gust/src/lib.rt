@@ -8,7 +8,7 @@ mod rows;
 
 // A type of aircraft: its constants as whole numbers, 1000·c1, 1,000,000·c2, 1000·c3, 100·c4 and 1000·c5, and its
 // reference mass in kilograms.
-#[derive(Clone, Copy)]
+#[derive(Clone, Copy, Debug, PartialEq, Eq)]
 pub struct Row {
     pub c1: i64,
     pub c2: i64,
@@ -16,11 +16,4 @@ pub struct Row {
     pub c4: i64,
     pub c5: i64,
     pub reference: i64,
-}
-
-// A gust, or the refusal's code. The place is always 0.
-#[derive(Clone, Copy)]
-pub enum Derived {
-    Gust(i32),
-    Refused(u8),
 }

@@ -9,7 +9,6 @@ use lib.ListN.{length, get_or, replicate}
 use borrow.Author.Tests.{leb-true}
 use Rattle.text.specs.Parts.{part}
 use Rattle.text.specs.Equal.{same_bytes}
-use Rattle.text.specs.declared.Seen.TheVariants.{Fine}
 use Rattle.text.proofs.Cases.{both_left}
 use Rattle.field.specs.Fields.{check_delimiter}
 use Rattle.section.specs.Layout.{layout_of, table_of, items_most, numbers}
@@ -26,13 +25,14 @@ use Rattle.config.proofs.Apply.{set_by, settings-same, apply-own, section-own, f
 use Rattle.join.specs.Join.{choose, join_text, no_change_text}
 use Rattle.join.proofs.Places.{choose_assoc, choose-none, none-choose, choose_self, new_flags_lem, later, later_assoc, none-later, later_self, set-later}
 use Rattle.join.proofs.Parts.{Alike, text-alike, join_parts, join-alike, join-text, join-accepted, join-parts}
+use Rattle.std.specs.Prelude.{Ok}
 
-module _ (a b : List ℕ) (x : check_command a ≡ Fine) (y : check_command b ≡ Fine) where
+module _ (a b : List ℕ) (x : check_command a ≡ (Ok tt)) (y : check_command b ≡ (Ok tt)) where
   abbrev ok : Accepted (join_text a b)
   ok = join-accepted a b (accepted a x) (accepted b y)
 
   -- two accepted commands join into one accepted command
-  pub join-fine : check_command (join_text a b) ≡ Fine
+  pub join-fine : check_command (join_text a b) ≡ (Ok tt)
   join-fine = accepts (join_text a b) ok
 
   -- in no more bytes than the longest command
@@ -82,7 +82,7 @@ alike_self : (p : Parts) → Alike p p
 alike_self p = record { flags = refl; downlink = refl; sections = each_all (λ k. p.sections k ≡ p.sections k) (λ k. refl) numbers }
 
 -- grouping of three never alters a byte
-pub join_groups : (a b c : List ℕ) → check_command a ≡ Fine → check_command b ≡ Fine → check_command c ≡ Fine
+pub join_groups : (a b c : List ℕ) → check_command a ≡ (Ok tt) → check_command b ≡ (Ok tt) → check_command c ≡ (Ok tt)
     → join_text (join_text a b) c ≡ join_text a (join_text b c)
 join_groups a b c x y z =
     let A = accepted a x in
@@ -103,7 +103,7 @@ join_groups a b c x y z =
 -- ---- The no-change command
 
 -- it is accepted
-pub no-change-fine : check_command no_change_text ≡ Fine
+pub no-change-fine : check_command no_change_text ≡ (Ok tt)
 unfolding no_change_text check_command sections_most layout_of table_of items_most check_head check_awr04 same_bytes check_each check_delimiter check_from
 no-change-fine = refl
 
@@ -122,7 +122,7 @@ no-change-bodies : (k : ℕ) → body_of no_change_text k ≡ []
 unfolding no_change_text body_from
 no-change-bodies k = refl
 
-module _ (a : List ℕ) (x : check_command a ≡ Fine) where
+module _ (a : List ℕ) (x : check_command a ≡ (Ok tt)) where
   abbrev A : Accepted a
   A = accepted a x
 

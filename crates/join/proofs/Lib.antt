@@ -4,3 +4,4 @@ pub mod Parts
 pub mod Laws
 pub mod Printed
 pub mod Side
+pub mod Faults

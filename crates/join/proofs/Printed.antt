@@ -3,13 +3,13 @@ use mathlib.Core.Path.{◌≡◌, refl}
 use mathlib.Core.List.{List, [], ◌∷◌}
 use Prim.Native.Nat.{ℕ}
 use Rattle.text.specs.Equal.{same_bytes}
-use Rattle.text.specs.declared.Seen.TheVariants.{Fine}
 use Rattle.field.specs.Decimal.{all_digits, value_from}
 use Rattle.field.specs.Fields.{check_digits, check_delimiter}
 use Rattle.section.specs.Layout.{layout_of, table_of, check_items, items_size, items_most}
 use Rattle.command.specs.Text.{check_each, check_awr04, check_head, check_from, sections_most, check_command}
 use Rattle.command.specs.Sections.{place_from}
 use Rattle.join.specs.Join.{choose, join_sections, join_text}
+use Rattle.std.specs.Prelude.{Ok}
 
 -- `AWR041999999000400000/151/`
 unfoldable pub first : List ℕ
@@ -24,11 +24,11 @@ unfoldable pub both : List ℕ
 both = 65 ∷ 87 ∷ 82 ∷ 48 ∷ 52 ∷ 49 ∷ 49 ∷ 57 ∷ 57 ∷ 57 ∷ 57 ∷ 57 ∷ 49 ∷ 48 ∷ 48 ∷ 52 ∷ 48 ∷ 48 ∷ 48 ∷ 48 ∷ 57 ∷ 47 ∷ 51 ∷ 48 ∷ 48 ∷ 47 ∷ 50 ∷ 51 ∷ 48 ∷ 49 ∷ 47 ∷ []
 
 -- the two are accepted
-pub first_fine : check_command first ≡ Fine
+pub first_fine : check_command first ≡ (Ok tt)
 unfolding first check_command sections_most layout_of table_of items_most check_head check_awr04 same_bytes check_each check_delimiter check_from check_items check_digits all_digits value_from
 first_fine = refl
 
-pub second-fine : check_command second ≡ Fine
+pub second-fine : check_command second ≡ (Ok tt)
 unfolding second check_command sections_most layout_of table_of items_most check_head check_awr04 same_bytes check_each check_delimiter check_from check_items check_digits all_digits value_from
 second-fine = refl
 

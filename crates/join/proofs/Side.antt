@@ -11,9 +11,7 @@ use lib.Seq.{length-take-le, drop-cons}
 use borrow.Author.Tests.{le-leb}
 use Rattle.text.specs.Over.{over}
 use Rattle.text.specs.Parts.{part}
-use Rattle.text.specs.declared.Seen.TheVariants.{Fine}
 use Rattle.text.proofs.Cases.{by_test}
-use Rattle.field.specs.declared.Step.TheVariants.{Next}
 use Rattle.field.proofs.Local.{after-cases}
 use Rattle.section.specs.Layout.{numbers, layout_of, check_section, items_size}
 use Rattle.section.proofs.Own.{cut_end, cut_inside}
@@ -22,8 +20,10 @@ use Rattle.command.specs.Sections.{past, place_from, place_of, bytes_of}
 use Rattle.command.proofs.Accepted.{accepted}
 use Rattle.command.proofs.Checking.{numbers-next}
 use Rattle.join.specs.Join.{choose, join_section, join_sections, join_text}
-use Rattle.join.specs.Inner.{Walked, join_front, join_back, join_head}
+use Rattle.join.specs.declared.walked.Walked.{Walked}
+use Rattle.join.specs.Inner.{IsWalked, join_front, join_back, join_head}
 use Rattle.join.proofs.Laws.{join-short}
+use Rattle.std.specs.Prelude.{Ok}
 
 -- a text that `copy` wrote, where it has room
 pub copied : (d zs t u : List ℕ) → zs ≡ cond (leb (length u) (length d)) (over d 0 u) d → u ≡ t → length t ≤ length d → zs ≡ over d 0 t
@@ -47,7 +47,7 @@ place-next s (suc (suc (suc (suc (suc (suc (suc (suc (suc zero))))))))) lo hi = 
 place-next s (suc (suc (suc (suc (suc (suc (suc (suc (suc (suc k)))))))))) lo hi = absurd (omega arith)
 
 -- every place lies in the text
-place_inside : (ks s : List ℕ) (at p j : ℕ) → at ≤ length s → check_from ks s at ≡ Next p → place_from ks s at j ≤ length s
+place_inside : (ks s : List ℕ) (at p j : ℕ) → at ≤ length s → check_from ks s at ≡ Ok p → place_from ks s at j ≤ length s
 unfolding place_from check_from
 place_inside [] s at p j h e = h
 place_inside (k ∷ ks) s at p j h e =
@@ -57,7 +57,7 @@ place_inside (k ∷ ks) s at p j h e =
     by_test (is_named s k)
     (λ (n : is_named s k ≡ true).
     after-cases (check_section k s at) (check_from ks s) p (rw n at e)
-    (λ q (c : check_section k s at ≡ Next q) (d : check_from ks s q ≡ Next p).
+    (λ q (c : check_section k s at ≡ Ok q) (d : check_from ks s q ≡ Ok p).
     rw (y, n)
     (place_inside ks s (at + items_size (layout_of k) s at) p j (cut_inside (layout_of k) s at q c) (rw (cut_end (layout_of k) s at q c) at d))))
     (λ (n : is_named s k ≡ false). rw (y, n) (place_inside ks s at p j h (rw n at e))))
@@ -70,8 +70,10 @@ pub record Between (s places : List ℕ) (k : ℕ) : Type 0 where
   pub size : get_or places (k + 1) 0 - get_or places k 0 ≡ length (bytes_of s k)
   pub head : 22 ≤ length s
 
-pub between : (s places : List ℕ) (k : ℕ) → Walked s places → 2 ≤ k → k ≤ 9 → Between s places k
-between s places k w lo hi =
+pub between : (w : Walked) (k : ℕ) → IsWalked w → 2 ≤ k → k ≤ 9 → Between w.text.now w.places k
+between x k w lo hi =
+    let s = x.text.now in
+    let places = x.places in
     let a = accepted s w.fine in
     let here = w.noted.under k lo (omega arith) in
     let there = w.noted.under (k + 1) (omega arith) (omega arith) in
@@ -159,7 +161,7 @@ module _ (a b : List ℕ) (g : 22 ≤ length a) (h : 22 ≤ length b) where
   head-length = length-append (join_front a b) (join_back a b) ∙ rw (front_length, back-length)
 
 -- how long the sections are
-module _ (a b : List ℕ) (x : check_command a ≡ Fine) (y : check_command b ≡ Fine) where
+module _ (a b : List ℕ) (x : check_command a ≡ (Ok tt)) (y : check_command b ≡ (Ok tt)) where
   pub sides_length : length (join_text a b) ≡ 22 + length (join_sections numbers a b)
   sides_length =
       ap length (join_sides a b)

@@ -1,15 +1,15 @@
 -- What the inner functions of the join ask for and answer. No promise to a caller rests on these names.
-use Rattle.std.specs.Prelude.{◌≡◌, List, [], ◌∷◌, ◌++◌, ℕ, max, get_or}
+use Rattle.std.specs.Prelude.{◌≡◌, List, [], ◌∷◌, ◌++◌, ℕ, max, get_or, Ok}
 use Rattle.text.specs.Parts.{part}
-use Rattle.text.specs.declared.Seen.TheVariants.{Fine}
 use Rattle.command.specs.Text.{awr04, check_command}
 use Rattle.command.specs.Inner.{Noted}
+use Rattle.join.specs.declared.walked.Walked.{Walked}
 use Rattle.join.specs.Join.{choose}
 
 -- a text that was accepted, with the places of its sections
-pub record Walked (s places : List ℕ) : Type 0 where
-  pub fine : check_command s ≡ Fine
-  pub noted : Noted s places
+pub record IsWalked (w : Walked) : Type 0 where
+  pub fine : check_command w.text.now ≡ Ok tt
+  pub noted : Noted w.text.now w.places
 
 -- the first 22 bytes: `AWR04` and the flags; the downlink digit, the indicators and `/`
 unfoldable pub join_front : List ℕ → List ℕ → List ℕ

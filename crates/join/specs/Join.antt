@@ -1,15 +1,14 @@
 -- Document 01, "Joining takes each flag and section from the second text where it sets one, else from the first; the
 -- larger downlink digit is kept."
-use Rattle.std.specs.Prelude.{cond, List, [], ◌∷◌, ◌++◌, ℕ, max, leb, eqb, length, get_or, replicate}
+use Rattle.std.specs.Prelude.{cond, List, [], ◌∷◌, ◌++◌, ℕ, max, leb, eqb, length, get_or, replicate, Result, Ok, Err}
 use Rattle.text.specs.Parts.{part}
 use Rattle.text.specs.Over.{over}
-use Rattle.text.specs.declared.Seen.{Seen}
-use Rattle.text.specs.declared.Seen.TheVariants.{Fine, Bad}
 use Rattle.section.specs.Layout.{numbers}
 use Rattle.command.specs.Text.{awr04, is_named, check_command}
 use Rattle.command.specs.Sections.{bytes_of}
-use Rattle.join.specs.declared.Told.{Told}
-use Rattle.join.specs.declared.Told.TheVariants.{Text, Refused}
+use Rattle.join.specs.declared.Fault.{Fault}
+use Rattle.join.specs.declared.Fault.TheVariants.{First, Second, Room}
+use Rattle.text.specs.declared.Refusal.{Refusal}
 
 -- ---- The join
 
@@ -39,24 +38,24 @@ no_change_text = awr04 ++ (replicate 7 57 ++ (48 ∷ (replicate 8 48 ++ 47 ∷ [
 
 -- ---- The answer: the first text's refusals, the second's, then room
 
-pub data Joined : Type 0 where
-  Joins : List ℕ → Joined  -- the text
-  Refuses : ℕ → ℕ → ℕ → Joined  -- code, place, which text
+-- the joined text, or why there is none
+abbrev pub Joined : Type 0
+Joined = Result (List ℕ) Fault
 
-abbrev pub by_seen : Seen → Seen → List ℕ → ℕ → Joined
-by_seen (Bad c p) y t room = Refuses c p 1
-by_seen Fine (Bad c p) t room = Refuses c p 2
-by_seen Fine Fine t room = cond (leb (length t) room) (Joins t) (Refuses 2 0 0)
+abbrev pub by_seen : Result (Unit {0}) Refusal → Result (Unit {0}) Refusal → List ℕ → ℕ → Joined
+by_seen (Err r) y t room = Err (First r)
+by_seen (Ok u) (Err r) t room = Err (Second r)
+by_seen (Ok u) (Ok v) t room = cond (leb (length t) room) (Ok t) (Err Room)
 
 unfoldable pub join : List ℕ → List ℕ → ℕ → Joined
 join a b room = by_seen (check_command a) (check_command b) (join_text a b) room
 
 -- what is told of it
-abbrev pub told : Joined → Told
-told (Joins t) = Text (length t)
-told (Refuses c p n) = Refused c p n
+abbrev pub told : Joined → Result ℕ Fault
+told (Ok t) = Ok (length t)
+told (Err f) = Err f
 
 -- what the buffer holds afterwards
 abbrev pub joined_over : Joined → List ℕ → List ℕ
-joined_over (Joins t) out = over out 0 t
-joined_over (Refuses c p n) out = out
+joined_over (Ok t) out = over out 0 t
+joined_over (Err f) out = out

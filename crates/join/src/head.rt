@@ -11,30 +11,22 @@ use text::copy;
 fn larger(m: u8, n: u8) -> u8
     ensures { result ≡ max m n }
 {
-    if m < n {
-        return n;
-    }
-    m
+    if m < n { n } else { m }
 }
 
 // The second's byte, or the first's where the second's is `none`.
 fn chosen(none: u8, first: u8, second: u8) -> u8
     ensures { result ≡ cond (eqb second none) first second }
 {
-    if second == none {
-        return first;
-    }
-    second
+    if second == none { first } else { second }
 }
 
 fn put_chosen(none: u8, first: &[u8], second: &[u8], d: &mut [u8])
     requires { (length first.now ≡ length d.old) × (length second.now ≡ length d.old) }
     ensures { d.new ≡ choose none first.now second.now }
 {
-    let mut i = 0;
-    while i < first.len() {
+    for i in 0..first.len() {
         d[i] = chosen(none, first[i], second[i]);
-        i += 1;
     }
 }
 

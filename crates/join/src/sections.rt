@@ -1,74 +1,57 @@
-// The sections of the joined text, copied as bytes from the two texts. The places of a text's sections are those that its check noted.
+// The sections of the joined text, copied as bytes from the two texts.
 ghost use Rattle.std.specs.Prelude.{◌≡◌, ◌≤◌, length};
 ghost use Rattle.text.specs.Over.{over};
 ghost use Rattle.section.specs.Layout.{numbers};
 ghost use Rattle.join.specs.Join.{join_section, join_sections};
-ghost use Rattle.join.specs.Inner.{Walked};
+ghost use Rattle.join.specs.Inner.{IsWalked};
 
-use command::check::is_named;
+use crate::walked::Walked;
 use text::copy;
 
-// How long section k of the joined text is: the second's where it names one, else the first's.
-fn section_size(k: usize, a: &[u8], pa: [usize; 11], b: &[u8], pb: [usize; 11]) -> usize
-    requires { (2 ≤ k) × (k ≤ 9) × Walked a.now pa × Walked b.now pb }
-    ensures { result ≡ length (join_section a.now b.now k) }
+// Section k of the joined text: the second's where it names one, else the first's.
+fn section<'a>(k: usize, a: &Walked<'a>, b: &Walked<'a>) -> &'a [u8]
+    requires { (2 ≤ k) × (k ≤ 9) × IsWalked a.now × IsWalked b.now }
+    ensures { result.now ≡ join_section a.now.text.now b.now.text.now k }
 {
-    if is_named(b, k) {
-        return pb[k + 1] - pb[k];
+    if b.is_named(k) {
+        b.section(k)
+    } else {
+        a.section(k)
     }
-    pa[k + 1] - pa[k]
 }
 
 // How long the sections of the joined text are.
-pub fn sections_size(a: &[u8], pa: [usize; 11], b: &[u8], pb: [usize; 11]) -> usize
-    requires { Walked a.now pa × Walked b.now pb }
-    ensures { result ≡ length (join_sections numbers a.now b.now) }
+pub fn sections_size<'a>(a: &Walked<'a>, b: &Walked<'a>) -> usize
+    requires { IsWalked a.now × IsWalked b.now }
+    ensures { result ≡ length (join_sections numbers a.now.text.now b.now.text.now) }
 {
-    let mut k: usize = 2;
     let mut total = 0;
-    while k < 10 {
-        total += section_size(k, a, pa, b, pb);
-        k += 1;
+    for k in 2..10 {
+        total += section(k, a, b).len();
     }
     total
 }
 
-// Section k of the second text where it names one, else of the first, over the start of `d`; the answer is how many bytes that is.
-fn put_section(
-    k: usize,
-    a: &[u8],
-    pa: [usize; 11],
-    b: &[u8],
-    pb: [usize; 11],
-    d: &mut [u8],
-) -> usize
-    requires le_k { (2 ≤ k) × (k ≤ 9) × Walked a.now pa × Walked b.now pb }
-    requires k_in_bounds { length (join_section a.now b.now k) ≤ length d.old }
-    ensures { (result ≡ length (join_section a.now b.now k))
-        × (d.new ≡ over d.old 0 (join_section a.now b.now k)) }
+// Section k of the joined text over the start of `d`; the answer is how many bytes that is.
+fn put_section<'a>(k: usize, a: &Walked<'a>, b: &Walked<'a>, d: &mut [u8]) -> usize
+    requires le_k { (2 ≤ k) × (k ≤ 9) × IsWalked a.now × IsWalked b.now }
+    requires k_in_bounds { length (join_section a.now.text.now b.now.text.now k) ≤ length d.old }
+    ensures { (result ≡ length (join_section a.now.text.now b.now.text.now k))
+        × (d.new ≡ over d.old 0 (join_section a.now.text.now b.now.text.now k)) }
 {
-    if is_named(b, k) {
-        let at = pb[k];
-        let end = pb[k + 1];
-        copy(d, &b[at..end]);
-        return end - at;
-    }
-    let at = pa[k];
-    let end = pa[k + 1];
-    copy(d, &a[at..end]);
-    end - at
+    let s = section(k, a, b);
+    copy(d, s);
+    s.len()
 }
 
 // The sections of the joined text, in rising order, over the start of `d`.
-pub fn put_sections(a: &[u8], pa: [usize; 11], b: &[u8], pb: [usize; 11], d: &mut [u8])
-    requires walked { Walked a.now pa × Walked b.now pb }
-    requires b_in_bounds { length (join_sections numbers a.now b.now) ≤ length d.old }
-    ensures { d.new ≡ over d.old 0 (join_sections numbers a.now b.now) }
+pub fn put_sections<'a>(a: &Walked<'a>, b: &Walked<'a>, d: &mut [u8])
+    requires walked { IsWalked a.now × IsWalked b.now }
+    requires b_in_bounds { length (join_sections numbers a.now.text.now b.now.text.now) ≤ length d.old }
+    ensures { d.new ≡ over d.old 0 (join_sections numbers a.now.text.now b.now.text.now) }
 {
-    let mut k: usize = 2;
     let mut at = 0;
-    while k < 10 {
-        at += put_section(k, a, pa, b, pb, &mut d[at..]);
-        k += 1;
+    for k in 2..10 {
+        at += put_section(k, a, b, &mut d[at..]);
     }
 }

@@ -11,15 +11,16 @@ use borrow.Author.Tests.{leb-true, le-leb, eqb-true}
 use Rattle.text.specs.Checks.{must, ◌and_then◌}
 use Rattle.text.specs.Names.{all_allowed, is_designator}
 use Rattle.text.specs.Over.{over}
-use Rattle.text.specs.declared.Seen.TheVariants.{Fine}
 use Rattle.text.proofs.Cases.{both_left, both_right}
-use Rattle.text.proofs.Checks.{bad_fine, must-held, both-fine}
+use Rattle.text.proofs.Checks.{err_ok, must-held, both-fine}
 use Rattle.text.proofs.Over.{length_over, before-over, found-over}
 use Rattle.command.specs.Text.{check_command}
 use Rattle.journal.specs.Journal.{Entry, entry_bytes, is_entry, most, IsJournal, Read, Sound, Broken, entries_in}
 use Rattle.journal.specs.Calls.{seen_of, check_journal, taken, new_end, fits_in, add_seen, added_over}
 use Rattle.journal.proofs.Bytes.{journal-more, entries-more, bytes-length}
 use Rattle.journal.proofs.Entries.{reads, read_is}
+use Rattle.std.specs.Prelude.{Ok}
+use Rattle.text.specs.declared.Code.TheVariants.{NoRoom, NotAllowed, JournalBroken}
 
 -- a designator has six bytes
 pub designator-long : (d : List ℕ) → is_designator d ≡ true → length d ≡ 6
@@ -48,40 +49,40 @@ pub record Accepted (s : List ℕ) (end : ℕ) (d t : List ℕ) : Type 0 where
   pub entries : List Entry
   pub sound : entries_in s end ≡ Sound entries
   pub named : is_designator d ≡ true
-  pub fine : check_command t ≡ Fine
+  pub fine : check_command t ≡ (Ok tt)
   pub few : new_end end (taken d t) ≤ most
   pub room : new_end end (taken d t) ≤ length s
 
-checked-sound : (r : Read (List Entry)) → seen_of r (λ (es : List Entry). Fine) ≡ Fine → (es : List Entry) × (r ≡ Sound es)
+checked-sound : (r : Read (List Entry)) → seen_of r (λ (es : List Entry). Ok tt) ≡ (Ok tt) → (es : List Entry) × (r ≡ Sound es)
 checked-sound (Sound es) e = (es, refl)
-checked-sound (Broken place) e = bad_fine 14 place e
+checked-sound (Broken place) e = err_ok (record { code = JournalBroken; place = place }) tt e
 
 -- a journal that is accepted has entries
-pub checked-journal : (s : List ℕ) (end : ℕ) → check_journal s end ≡ Fine → (es : List Entry) × (entries_in s end ≡ Sound es)
+pub checked-journal : (s : List ℕ) (end : ℕ) → check_journal s end ≡ (Ok tt) → (es : List Entry) × (entries_in s end ≡ Sound es)
 unfolding check_journal
 checked-journal s end e = checked-sound (entries_in s end) e
 
-pub accepted : (s : List ℕ) (end : ℕ) (d t : List ℕ) → add_seen s end d t ≡ Fine → Accepted s end d t
+pub accepted : (s : List ℕ) (end : ℕ) (d t : List ℕ) → add_seen s end d t ≡ (Ok tt) → Accepted s end d t
 unfolding add_seen check_journal
 accepted s end d t e =
-    let fits = must (fits_in s (new_end end (taken d t))) 2 0 in
-    let one = both-fine (seen_of (entries_in s end) (λ (es : List Entry). Fine)) (must (is_designator d) 4 0 and_then check_command t and_then fits) e in
-    let two = both-fine (must (is_designator d) 4 0) (check_command t and_then fits) one.1 in
-    let three = both-fine (check_command t) fits two.1 in
+    let fits = must (fits_in s (new_end end (taken d t))) NoRoom 0 in
+    let one = both-fine (seen_of (entries_in s end) (λ (es : List Entry). Ok tt)) (must (is_designator d) NotAllowed 0 and_then check_command t and_then fits) tt e in
+    let two = both-fine (must (is_designator d) NotAllowed 0) (check_command t and_then fits) tt one.1 in
+    let three = both-fine (check_command t) fits tt two.1 in
     let found = checked-sound (entries_in s end) one.0 in
-    let held = must-held (fits_in s (new_end end (taken d t))) 2 0 three.1 in
+    let held = must-held (fits_in s (new_end end (taken d t))) NoRoom 0 three.1 in
     let new = new_end end (taken d t) in
     record {
       entries = found.0;
       sound = found.1;
-      named = must-held (is_designator d) 4 0 two.0;
+      named = must-held (is_designator d) NotAllowed 0 two.0;
       fine = three.0;
       few = leb-true new most (both_left (leb new most) (leb new (length s)) held);
       room = leb-true new (length s) (both_right (leb new most) (leb new (length s)) held);
     }
 
 -- the new journal has the old entries and that one
-pub add_reads : (s : List ℕ) (end : ℕ) (d t : List ℕ) (es : List Entry) → add_seen s end d t ≡ Fine → entries_in s end ≡ Sound es
+pub add_reads : (s : List ℕ) (end : ℕ) (d t : List ℕ) (es : List Entry) → add_seen s end d t ≡ (Ok tt) → entries_in s end ≡ Sound es
     → entries_in (added_over s end d t) (new_end end (taken d t)) ≡ Sound (es ++ (taken d t ∷ []))
 unfolding added_over is_entry
 add_reads s end d t es e sound =
@@ -92,7 +93,7 @@ add_reads s end d t es e sound =
 
 -- where nothing is refused
 pub add-fine : (s : List ℕ) (end : ℕ) (d t : List ℕ) (es : List Entry) → entries_in s end ≡ Sound es → is_designator d ≡ true
-    → check_command t ≡ Fine → new_end end (taken d t) ≤ most → new_end end (taken d t) ≤ length s → add_seen s end d t ≡ Fine
+    → check_command t ≡ (Ok tt) → new_end end (taken d t) ≤ most → new_end end (taken d t) ≤ length s → add_seen s end d t ≡ (Ok tt)
 unfolding add_seen check_journal
 add-fine s end d t es sound named fine few room =
     rw (sound, named, fine, le-leb (new_end end (taken d t)) most few, le-leb (new_end end (taken d t)) (length s) room)

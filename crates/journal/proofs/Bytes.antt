@@ -11,7 +11,6 @@ use borrow.Author.Tests.{eqb-true}
 use Rattle.text.specs.Checks.{is_fine}
 use Rattle.text.specs.Names.{all_allowed, is_designator}
 use Rattle.text.specs.Parts.{part}
-use Rattle.text.specs.declared.Seen.TheVariants.{Fine}
 use Rattle.text.proofs.Cases.{both_left, both_right}
 use Rattle.text.proofs.Checks.{fine-is}
 use Rattle.text.proofs.Stands.{part-add}
@@ -21,6 +20,7 @@ use Rattle.field.proofs.Local.{part-extend}
 use Rattle.command.specs.Text.{check_command}
 use Rattle.journal.specs.Journal.{Entry, trailer, entry_bytes, journal_bytes, is_entry, all_entries, most, entry_at}
 use Rattle.journal.proofs.Ends.{Ends}
+use Rattle.std.specs.Prelude.{Ok}
 
 -- ---- Lists from their end
 
@@ -70,7 +70,7 @@ entry-who e h =
     (both_left (eqb (length e.who) 6) (all_allowed e.who) (both_left (is_designator e.who) (is_fine (check_command e.text)) h))
 
 -- its text is accepted
-pub entry-text : (e : Entry) → is_entry e ≡ true → check_command e.text ≡ Fine
+pub entry-text : (e : Entry) → is_entry e ≡ true → check_command e.text ≡ (Ok tt)
 unfolding is_entry
 entry-text e h = fine-is (check_command e.text) (both_right (is_designator e.who) (is_fine (check_command e.text)) h)
 

@@ -14,9 +14,11 @@ use Rattle.journal.specs.Journal.{Entry, entry_bytes, journal_bytes, all_entries
 use Rattle.journal.specs.Calls.{without, drop_told, dropped, replay, replayed}
 use Rattle.journal.specs.Inner.{kept_at, kept_told}
 use Rattle.journal.specs.declared.Kept.{Kept}
-use Rattle.journal.specs.declared.Told.TheVariants.{Length, Refused}
 use Rattle.journal.proofs.Bytes.{from_end, journal-append, entries-append}
 use Rattle.journal.proofs.Entries.{gathers, reads, read_is, broken-walk}
+use Rattle.std.specs.Prelude.{Ok}
+use Rattle.text.specs.Checks.{refuse}
+use Rattle.text.specs.declared.Code.TheVariants.{OutOfRange}
 
 -- the first of a journal's entries are the journal of their bytes
 pub first-entries : (s : List ℕ) (end m : ℕ) (es : List Entry) → IsJournal s end es
@@ -127,10 +129,10 @@ alone s end es j =
 -- what is left after dropping the last n of these entries: its length, its bytes, and the state that it gives
 pub record Leaves (s : List ℕ) (end n : ℕ) (es : List Entry) (d : List ℕ) : Type 0 where
   pub size : ℕ
-  pub answer : dropped s end n ≡ Length size
+  pub answer : dropped s end n ≡ Ok size
   pub bytes : take size s ≡ journal_bytes (without n es)
   pub entries : entries_in (take size s) size ≡ Sound (without n es)
-  pub state : is_designator d ≡ true → replayed (take size s) size d ≡ record { code = 0; place = 0; settings = replay d (without n es) }
+  pub state : is_designator d ≡ true → replayed (take size s) size d ≡ Ok (replay d (without n es))
 
 -- up to the count, exactly the first of the entries are left, and their state
 pub drop-leaves : (s : List ℕ) (end n : ℕ) (es : List Entry) (d : List ℕ) → entries_in s end ≡ Sound es → n ≤ length es → Leaves s end n es d
@@ -148,6 +150,6 @@ drop-leaves s end n es d e h =
     }
 
 -- and above it the answer is 5 at 0
-pub drop-refused : (s : List ℕ) (end n : ℕ) (es : List Entry) → entries_in s end ≡ Sound es → length es < n → dropped s end n ≡ Refused 5 0
+pub drop-refused : (s : List ℕ) (end n : ℕ) (es : List Entry) → entries_in s end ≡ Sound es → length es < n → dropped s end n ≡ refuse OutOfRange 0
 unfolding dropped
 drop-refused s end n es e h = rw (e, lt-leb n (length es) h)

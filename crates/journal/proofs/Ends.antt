@@ -13,8 +13,12 @@ use Rattle.text.specs.Parts.{part}
 use Rattle.text.proofs.Cases.{by_test, both_left, both_right}
 use Rattle.text.proofs.Parts.{part_bytes}
 use Rattle.text.proofs.Equal.{same-equal, equal-same}
-use Rattle.journal.specs.Journal.{is_entry, most, entry_at, trailer, length_in, is_trailer, before_trailer, at_trailer, last_entry}
-use Rattle.journal.specs.declared.Last.TheVariants.{Nothing, Starts, Fails}
+use Rattle.journal.specs.Journal.{is_entry, most, entry_at, trailer, length_in, is_trailer, before_trailer, at_trailer, last_entry, starts_at}
+use Rattle.std.specs.Prelude.{Result, Ok, Err, Option, None}
+use Rattle.text.specs.Checks.{refuse}
+use Rattle.text.specs.declared.Code.TheVariants.{JournalBroken}
+use Rattle.text.specs.declared.Refusal.{Refusal}
+use Rattle.journal.specs.declared.Entry.{Entry as Found}
 
 -- an entry that starts at a place, with a text of n bytes, and its trailer behind it, up to `end`
 pub record Ends (s : List ℕ) (end at n : ℕ) : Type 0 where
@@ -24,16 +28,18 @@ pub record Ends (s : List ℕ) (end at n : ℕ) : Type 0 where
   pub marked : part (end - 3) 3 s ≡ trailer n
   pub fine : is_entry (entry_at s at n) ≡ true
 
-starts_same : (at n i m : ℕ) → Starts at n ≡ Starts i m → (at ≡ i) × (n ≡ m)
-starts_same at n i m e = (cc, cc)
+starts_same : (at n i m : ℕ) → starts_at at n ≡ starts_at i m → (at ≡ i) × (n ≡ m)
+starts_same at n i m e =
+    let same : ◌≡◌ {A = Found} (record { at = at; length = n }) (record { at = i; length = m }) = cc in
+    (ap (λ (x : Found). x.at) same, ap (λ (x : Found). x.length) same)
 
-nothing_starts : {P : Type 0} (at n : ℕ) → Nothing ≡ Starts at n → P
+nothing_starts : {P : Type 0} (at n : ℕ) → ◌≡◌ {A = Result (Option Found) Refusal} (Ok None) (starts_at at n) → P
 nothing_starts at n e = let z : ◌≡◌ {A = ℕ} 0 1 = cc in absurd (omega arith)
 
-fails_starts : {P : Type 0} (place at n : ℕ) → Fails place ≡ Starts at n → P
+fails_starts : {P : Type 0} (place at n : ℕ) → refuse JournalBroken place ≡ starts_at at n → P
 fails_starts place at n e = let z : ◌≡◌ {A = ℕ} 0 1 = cc in absurd (omega arith)
 
-before-found : (s : List ℕ) (place m at n : ℕ) → before_trailer s place m ≡ Starts at n
+before-found : (s : List ℕ) (place m at n : ℕ) → before_trailer s place m ≡ starts_at at n
     → (m ≡ n) × (at + (6 + n) ≡ place) × (is_entry (entry_at s at n) ≡ true)
 unfolding before_trailer
 before-found s place m at n e =
@@ -48,7 +54,7 @@ before-found s place m at n e =
     (λ t. fails_starts place at n (rw t at e))
 
 -- what a step that finds an entry says of the bytes
-pub starts : (s : List ℕ) (end at n : ℕ) → last_entry s end ≡ Starts at n → Ends s end at n
+pub starts : (s : List ℕ) (end at n : ℕ) → last_entry s end ≡ starts_at at n → Ends s end at n
 unfolding last_entry at_trailer
 starts s end at n e =
     by_test (eqb end 0)
@@ -84,7 +90,7 @@ told-length s place n h e =
     rw (two.0, two.1) (omega arith)
 
 -- and back: a step finds every entry whose bytes end there
-pub finds : (s : List ℕ) (end at n : ℕ) → Ends s end at n → last_entry s end ≡ Starts at n
+pub finds : (s : List ℕ) (end at n : ℕ) → Ends s end at n → last_entry s end ≡ starts_at at n
 unfolding last_entry at_trailer before_trailer
 finds s end at n h =
     let w = h.whole in
@@ -102,7 +108,7 @@ finds s end at n h =
     )
 
 -- nothing is found at byte 0 alone
-pub nothing : (s : List ℕ) (end : ℕ) → last_entry s end ≡ Nothing → end ≡ 0
+pub nothing : (s : List ℕ) (end : ℕ) → last_entry s end ≡ Ok None → end ≡ 0
 unfolding last_entry at_trailer before_trailer
 nothing s end e =
     by_test (eqb end 0) (λ z. eqb-true end 0 z)
@@ -114,10 +120,30 @@ nothing s end e =
     (λ j. nothing-fails _ (rw (z, l, j) at e)))
     (λ l. nothing-fails 0 (rw (z, l) at e)))
   where
-    nothing-fails : (place : ℕ) → Fails place ≡ Nothing → end ≡ 0
+    nothing-fails : (place : ℕ) → ◌≡◌ {A = Result (Option Found) Refusal} (refuse JournalBroken place) (Ok None) → end ≡ 0
     nothing-fails place q = let x : ◌≡◌ {A = ℕ} 0 1 = cc in absurd (omega arith)
 
-pub nothing-there : (s : List ℕ) → last_entry s 0 ≡ Nothing
+-- a refusal is that of a broken journal
+pub refused : (s : List ℕ) (end : ℕ) (r : Refusal) → last_entry s end ≡ Err r → r ≡ record { code = JournalBroken; place = r.place }
+unfolding last_entry at_trailer before_trailer
+refused s end r e =
+    by_test (eqb end 0)
+    (λ z. let x : ◌≡◌ {A = Result (Option Found) Refusal} (Ok None) (Err r) = rw z at e in cc)
+    (λ z. by_test (leb 3 end && leb end most && leb end (length s))
+    (λ l. by_test (is_trailer s (end - 3))
+    (λ j. by_test (leb (6 + length_in s (end - 3)) (end - 3) && is_entry (entry_at s (end - 3 - (6 + length_in s (end - 3))) (length_in s (end - 3))))
+    (λ t. let x : starts_at (end - 3 - (6 + length_in s (end - 3))) (length_in s (end - 3)) ≡ Err r = rw (z, l, j, t) at e in cc)
+    (λ t. broken-is _ (rw (z, l, j, t) at e)))
+    (λ j. broken-is _ (rw (z, l, j) at e)))
+    (λ l. broken-is 0 (rw (z, l) at e)))
+  where
+    broken-is : (place : ℕ) → ◌≡◌ {A = Result (Option Found) Refusal} (refuse JournalBroken place) (Err r)
+        → r ≡ record { code = JournalBroken; place = r.place }
+    broken-is place q =
+        let same : ◌≡◌ {A = Refusal} (record { code = JournalBroken; place = place }) r = cc in
+        sym same ∙ ap (λ (k : ℕ). record { code = JournalBroken; place = k }) (ap (λ (x : Refusal). x.place) same)
+
+pub nothing-there : (s : List ℕ) → last_entry s 0 ≡ Ok None
 unfolding last_entry
 nothing-there s = refl
 

@@ -8,12 +8,13 @@ use native.Mathlib.Omega.{arith}
 use lib.ListN.{length, take}
 use lib.Seq.{length-take-le}
 use Rattle.text.proofs.Cases.{both_left, both_right}
-use Rattle.journal.specs.Journal.{Entry, entry_bytes, journal_bytes, is_entry, all_entries, IsJournal, entry_at, last_entry, Sound, Broken, on_last, walk_back, walk, entries_in}
-use Rattle.journal.specs.declared.Last.{Last}
-use Rattle.journal.specs.declared.Last.TheVariants.{Nothing, Starts, Fails}
+use Rattle.journal.specs.Journal.{Entry, entry_bytes, journal_bytes, is_entry, all_entries, IsJournal, entry_at, last_entry, Sound, Broken, on_last, walk_back, walk, entries_in, starts_at}
 use Rattle.journal.proofs.Ends.{starts, finds, nothing, nothing-there}
 use Rattle.journal.proofs.Walk.{walk_starts, walk-nothing}
 use Rattle.journal.proofs.Bytes.{from_end, journal-more, entries-more, found-bytes, stands-whole, stands-entry, stands-ends, stands-front}
+use Rattle.std.specs.Prelude.{Result, Ok, Err, Option, Some, None}
+use Rattle.text.specs.declared.Refusal.{Refusal}
+use Rattle.journal.specs.declared.Entry.{Entry as Found}
 
 pub sound-broken : {A : Type 0} {P : Type 0} (a : A) (place : ℕ) → Sound a ≡ Broken place → P
 sound-broken a place e = let z : ◌≡◌ {A = ℕ} 0 1 = cc in absurd (omega arith)
@@ -31,7 +32,7 @@ empty-journal : (s : List ℕ) → IsJournal s 0 []
 empty-journal s = record { few = omega arith; inside = omega arith; bytes = sym no_bytes; entries = no-entries }
 
 -- one entry behind a journal's makes a journal
-longer : (s : List ℕ) (end at n : ℕ) (es : List Entry) → last_entry s end ≡ Starts at n → IsJournal s at es
+longer : (s : List ℕ) (end at n : ℕ) (es : List Entry) → last_entry s end ≡ starts_at at n → IsJournal s at es
     → IsJournal s end (es ++ (entry_at s at n ∷ []))
 longer s end at n es e j =
     let h = starts s end at n e in
@@ -50,13 +51,13 @@ sound-is gather s zero end a r e = sound-broken r 0 (sym e)
 sound-is {A} gather s (suc steps) end a r e =
     go (last_entry s end) refl e (λ (at n : ℕ). sound-is gather s steps at (gather at n a) r)
   where
-    go : (l : Last) → last_entry s end ≡ l
+    go : (l : Result (Option Found) Refusal) → last_entry s end ≡ l
         → on_last l (Sound a) (λ (at n : ℕ). walk_back gather s steps at (gather at n a)) ≡ Sound r
         → ((at n : ℕ) → walk_back gather s steps at (gather at n a) ≡ Sound r → (es : List Entry) × IsJournal s at es)
         → (es : List Entry) × IsJournal s end es
-    go Nothing q w on = ([], subst (λ (k : ℕ). IsJournal s k []) (sym (nothing s end q)) (empty-journal s))
-    go (Starts at n) q w on = let f = on at n w in (f.0 ++ (entry_at s at n ∷ []), longer s end at n f.0 q f.1)
-    go (Fails place) q w on = sound-broken r place (sym w)
+    go (Ok None) q w on = ([], subst (λ (k : ℕ). IsJournal s k []) (sym (nothing s end q)) (empty-journal s))
+    go (Ok (Some x)) q w on = let f = on x.at x.length w in (f.0 ++ (entry_at s x.at x.length ∷ []), longer s end x.at x.length f.0 q f.1)
+    go (Err x) q w on = sound-broken r x.place (sym w)
 
 -- where a walk fails, every other fails too, at the same place
 pub all-broken : {A B : Type 0} (f : ℕ → ℕ → A → A) (g : ℕ → ℕ → B → B) (s : List ℕ) (steps end place : ℕ) (a : A) (b : B)
@@ -66,19 +67,19 @@ all-broken f g s zero end place a b e = cc
 all-broken {A} {B} f g s (suc steps) end place a b e =
     go (last_entry s end) e (λ (at n : ℕ). all-broken f g s steps at place (f at n a) (g at n b))
   where
-    go : (l : Last)
+    go : (l : Result (Option Found) Refusal)
         → on_last l (Sound a) (λ (at n : ℕ). walk_back f s steps at (f at n a)) ≡ Broken place
         → ((at n : ℕ) → walk_back f s steps at (f at n a) ≡ Broken place → walk_back g s steps at (g at n b) ≡ Broken place)
         → on_last l (Sound b) (λ (at n : ℕ). walk_back g s steps at (g at n b)) ≡ Broken place
-    go Nothing w on = sound-broken a place w
-    go (Starts at n) w on = on at n w
-    go (Fails p) w on = cc
+    go (Ok None) w on = sound-broken a place w
+    go (Ok (Some x)) w on = on x.at x.length w
+    go (Err x) w on = cc
 
 -- ---- The newest entry of a journal
 
 -- it is found from the end, and the others are the journal before it
 pub record Newest (s : List ℕ) (end : ℕ) (es : List Entry) (e : Entry) : Type 0 where
-  pub found : last_entry s end ≡ Starts (length (journal_bytes es)) (length e.text)
+  pub found : last_entry s end ≡ starts_at (length (journal_bytes es)) (length e.text)
   pub read : entry_at s (length (journal_bytes es)) (length e.text) ≡ e
   pub before : IsJournal s (length (journal_bytes es)) es
 

@@ -11,13 +11,16 @@ use lib.ListN.{length, take, length-append, length-take}
 use borrow.Author.Tests.{leb-true, le-leb}
 use Rattle.text.proofs.Cases.{by_test, by_le, both_left, both_right}
 use Rattle.field.proofs.Decimal.{part-long}
-use Rattle.journal.specs.Journal.{Entry, entry_bytes, journal_bytes, is_entry, all_entries, most, entry_at, is_trailer, length_in, before_trailer, at_trailer, last_entry, Sound, Broken, on_last, walk_back, walk, entries_in}
-use Rattle.journal.specs.declared.Last.{Last}
-use Rattle.journal.specs.declared.Last.TheVariants.{Nothing, Starts, Fails}
-use Rattle.journal.proofs.Ends.{starts, finds}
+use Rattle.journal.specs.Journal.{Entry, entry_bytes, journal_bytes, is_entry, all_entries, most, entry_at, is_trailer, length_in, before_trailer, at_trailer, last_entry, Sound, Broken, on_last, walk_back, walk, entries_in, starts_at}
+use Rattle.journal.proofs.Ends.{starts, finds, refused}
 use Rattle.journal.proofs.Bytes.{from_end, journal-more, entries-more, entry-who, bytes-length, found-bytes, stands-ends, stands-front}
 use Rattle.journal.proofs.Walk.{walk_starts, walk-fails}
 use Rattle.journal.proofs.Entries.{sound-broken}
+use Rattle.std.specs.Prelude.{Result, Ok, Err, Option, Some, None}
+use Rattle.text.specs.Checks.{refuse}
+use Rattle.text.specs.declared.Code.TheVariants.{JournalBroken}
+use Rattle.text.specs.declared.Refusal.{Refusal}
+use Rattle.journal.specs.declared.Entry.{Entry as Found}
 
 -- why a step from the end fails, and at which place
 pub data Why (s : List ℕ) (here place : ℕ) : Type 0 where
@@ -26,16 +29,18 @@ pub data Why (s : List ℕ) (here place : ℕ) : Type 0 where
       → ((front : List ℕ) (e : Entry) → is_entry e ≡ true → take here s ≡ front ++ entry_bytes e → ⊥)
       → Why s here place
 
-fails-same : (p q : ℕ) → Fails p ≡ Fails q → p ≡ q
-fails-same p q e = cc
+fails-same : (p q : ℕ) → ◌≡◌ {A = Result (Option Found) Refusal} (refuse JournalBroken p) (refuse JournalBroken q) → p ≡ q
+fails-same p q e =
+    let same : ◌≡◌ {A = Refusal} (record { code = JournalBroken; place = p }) (record { code = JournalBroken; place = q }) = cc in
+    ap (λ (x : Refusal). x.place) same
 
-pub starts_fails : {P : Type 0} (at n place : ℕ) → Starts at n ≡ Fails place → P
+pub starts_fails : {P : Type 0} (at n place : ℕ) → starts_at at n ≡ refuse JournalBroken place → P
 starts_fails at n place e = let z : ◌≡◌ {A = ℕ} 0 1 = cc in absurd (omega arith)
 
-pub nothing-fails : {P : Type 0} (place : ℕ) → Nothing ≡ Fails place → P
+pub nothing-fails : {P : Type 0} (place : ℕ) → ◌≡◌ {A = Result (Option Found) Refusal} (Ok None) (refuse JournalBroken place) → P
 nothing-fails place e = let z : ◌≡◌ {A = ℕ} 0 1 = cc in absurd (omega arith)
 
-trailer-place : (s : List ℕ) (p place : ℕ) → at_trailer s p ≡ Fails place → p ≡ place
+trailer-place : (s : List ℕ) (p place : ℕ) → at_trailer s p ≡ refuse JournalBroken place → p ≡ place
 unfolding at_trailer before_trailer
 trailer-place s p place e =
     by_test (is_trailer s p)
@@ -58,7 +63,7 @@ outside s here l =
     true-false : {P : Type 0} → true ≡ false → P
     true-false e = let z : ◌≡◌ {A = ℕ} 0 1 = cc in absurd (omega arith)
 
-pub why : (s : List ℕ) (here place : ℕ) → last_entry s here ≡ Fails place → Why s here place
+pub why : (s : List ℕ) (here place : ℕ) → last_entry s here ≡ refuse JournalBroken place → Why s here place
 unfolding last_entry
 why s here place e =
     by_test (eqb here 0)
@@ -84,9 +89,9 @@ pub record Stopped (s : List ℕ) (end place : ℕ) : Type 0 where
   pub entries : all_entries later ≡ true
   pub whole : here + length (journal_bytes later) ≡ end
   pub within : (later ≡ []) ⊎ (end ≤ most)
-  pub fails : last_entry s here ≡ Fails place
+  pub fails : last_entry s here ≡ refuse JournalBroken place
 
-stopped_now : (s : List ℕ) (end place : ℕ) → last_entry s end ≡ Fails place → Stopped s end place
+stopped_now : (s : List ℕ) (end place : ℕ) → last_entry s end ≡ refuse JournalBroken place → Stopped s end place
 unfolding journal_bytes all_entries
 stopped_now s end place e =
     record {
@@ -99,7 +104,7 @@ stopped_now s end place e =
       fails = e;
     }
 
-stopped_on : (s : List ℕ) (end at n place : ℕ) → last_entry s end ≡ Starts at n → Stopped s at place → Stopped s end place
+stopped_on : (s : List ℕ) (end at n place : ℕ) → last_entry s end ≡ starts_at at n → Stopped s at place → Stopped s end place
 stopped_on s end at n place e x =
     let h = starts s end at n e in
     let more = entry_at s at n in
@@ -133,15 +138,17 @@ walk_stopped gather s zero end place a k e = absurd (omega arith)
 walk_stopped {A} gather s (suc steps) end place a k e =
     go (last_entry s end) refl e (λ (at n : ℕ) (l : at < end). walk_stopped gather s steps at place (gather at n a) (omega arith))
   where
-    go : (l : Last) → last_entry s end ≡ l
+    go : (l : Result (Option Found) Refusal) → last_entry s end ≡ l
         → on_last l (Sound a) (λ (at n : ℕ). walk_back gather s steps at (gather at n a)) ≡ Broken place
         → ((at n : ℕ) → at < end → walk_back gather s steps at (gather at n a) ≡ Broken place → Stopped s at place)
         → Stopped s end place
-    go Nothing q w on = sound-broken a place w
-    go (Starts at n) q w on =
-        let h = (starts s end at n q).whole in
-        stopped_on s end at n place q (on at n (omega arith) w)
-    go (Fails p) q w on = let z : p ≡ place = cc in stopped_now s end place (q ∙ ap Fails z)
+    go (Ok None) q w on = sound-broken a place w
+    go (Ok (Some f)) q w on =
+        let h = (starts s end f.at f.length q).whole in
+        stopped_on s end f.at f.length place q (on f.at f.length (omega arith) w)
+    go (Err r) q w on =
+        let z : r.place ≡ place = cc in
+        stopped_now s end place (q ∙ ap Err (refused s end r q ∙ ap (λ (k : ℕ). record { code = JournalBroken; place = k }) z))
 
 -- a journal that is broken at a place has its first failure from the end there
 pub broken_where : (s : List ℕ) (end place : ℕ) → entries_in s end ≡ Broken place → Stopped s end place
@@ -150,7 +157,7 @@ broken_where s end place e =
     walk_stopped (λ (at n : ℕ) (later : List Entry). entry_at s at n ∷ later) s (suc end) end place [] (omega arith) e
 
 -- and there alone: where some entries were read from the end and the next step fails at a place, the journal is broken at that place
-module _ {A : Type 0} (gather : ℕ → ℕ → A → A) (s : List ℕ) (here place : ℕ) (fails : last_entry s here ≡ Fails place) where
+module _ {A : Type 0} (gather : ℕ → ℕ → A → A) (s : List ℕ) (here place : ℕ) (fails : last_entry s here ≡ refuse JournalBroken place) where
   Breaks : List Entry → Type 0
   Breaks later = (end : ℕ) (a : A) → take end s ≡ take here s ++ journal_bytes later → all_entries later ≡ true
       → here + length (journal_bytes later) ≡ end → (later ≡ []) ⊎ (end ≤ most) → walk gather s end a ≡ Broken place
@@ -159,7 +166,7 @@ module _ {A : Type 0} (gather : ℕ → ℕ → A → A) (s : List ℕ) (here pl
   unfolding Breaks journal_bytes
   breaks_none end a read ok whole within =
       let z : end ≡ here = sym whole ∙ add-zero here in
-      rw z (walk-fails gather s here place a fails)
+      rw z (walk-fails gather s here (record { code = JournalBroken; place = place }) a fails)
 
   breaks_more : (later : List Entry) (e : Entry) → Breaks later → Breaks (later ++ (e ∷ []))
   unfolding Breaks

@@ -10,15 +10,16 @@ use borrow.Author.Tests.{lt-ltb, le-ltb}
 use Rattle.text.proofs.Cases.{by_lt}
 use Rattle.field.specs.Decimal.{all_digits, value, digits_before}
 use Rattle.field.proofs.Decimal.{part-long, decimal-length, decimal-digits, value-decimal}
-use Rattle.journal.specs.Journal.{Entry, entry_bytes, journal_bytes, most, IsJournal, entry_at, last_entry, Read, Sound, Broken, walk, entries_in}
+use Rattle.journal.specs.Journal.{Entry, entry_bytes, journal_bytes, most, IsJournal, entry_at, last_entry, Read, Sound, Broken, walk, entries_in, starts_at}
 use Rattle.journal.specs.Printed.{digits_of, offset_text, word, offset_word, line, printed}
 use Rattle.journal.specs.Inner.{length_told, with_line, with_size}
-use Rattle.journal.specs.declared.Last.TheVariants.{Starts}
-use Rattle.journal.specs.declared.Told.TheVariants.{Length, Refused}
 use Rattle.journal.proofs.Bytes.{entry-who}
 use Rattle.journal.proofs.Entries.{gathers, sound-is, walk-broken}
 use Rattle.journal.proofs.Ends.{Ends, starts}
 use Rattle.journal.proofs.Walk.{walk_starts}
+use Rattle.std.specs.Prelude.{Ok, Err}
+use Rattle.text.specs.declared.Code.TheVariants.{JournalBroken}
+use Rattle.text.specs.declared.Refusal.{Refusal}
 
 -- ---- Lines
 
@@ -88,7 +89,7 @@ offset_length at = word-length (offset_text at) 32 ∙ rw (decimal-length (digit
 
 -- there is room for the next line where there is room for all
 pub line-fits : (s : List ℕ) (end here at n : ℕ) (lines t : List ℕ) → walk (with_line s) s end [] ≡ Sound t
-    → walk (with_line s) s end [] ≡ walk (with_line s) s here lines → last_entry s here ≡ Starts at n
+    → walk (with_line s) s end [] ≡ walk (with_line s) s here lines → last_entry s here ≡ starts_at at n
     → length lines + (digits_of at + (9 + n)) ≤ length t
 line-fits s end here at n lines t all so e =
     let h = starts s here at n e in
@@ -98,19 +99,22 @@ line-fits s end here at n lines t all so e =
 
 -- ---- What the walk over the lines tells
 
-told-sound : (r : Read ℕ) (n : ℕ) → length_told r ≡ Length n → r ≡ Sound n
+told-sound : (r : Read ℕ) (n : ℕ) → length_told r ≡ Ok n → r ≡ Sound n
 told-sound (Sound m) n e = let z : m ≡ n = cc in rw z
 told-sound (Broken place) n e = let z : ◌≡◌ {A = ℕ} 0 1 = cc in absurd (omega arith)
 
-told-broken : (r : Read ℕ) (code place : ℕ) → length_told r ≡ Refused code place → (code ≡ 14) × (r ≡ Broken place)
-told-broken (Sound m) code place e = let z : ◌≡◌ {A = ℕ} 0 1 = cc in absurd (omega arith)
-told-broken (Broken p) code place e = (cc, cc)
+told-broken : (r : Read ℕ) (x : Refusal) → length_told r ≡ Err x → (x ≡ record { code = JournalBroken; place = x.place }) × (r ≡ Broken x.place)
+told-broken (Sound m) x e = let z : ◌≡◌ {A = ℕ} 0 1 = cc in absurd (omega arith)
+told-broken (Broken p) x e =
+    let same : ◌≡◌ {A = Refusal} (record { code = JournalBroken; place = p }) x = cc in
+    let z : p ≡ x.place = ap (λ (y : Refusal). y.place) same in
+    (sym same ∙ ap (λ (k : ℕ). record { code = JournalBroken; place = k }) z, ap Broken z)
 
 sound-number : (m n : ℕ) → Sound m ≡ Sound n → m ≡ n
 sound-number m n e = cc
 
 -- a length is told of a sound journal alone
-pub size-sound : (s : List ℕ) (end n : ℕ) → length_told (walk (with_size s) s end 0) ≡ Length n
+pub size-sound : (s : List ℕ) (end n : ℕ) → length_told (walk (with_size s) s end 0) ≡ Ok n
     → (es : List Entry) × IsJournal s end es × (n ≡ length (printed 0 es))
 size-sound s end n e =
     let told = told-sound (walk (with_size s) s end 0) n e in
@@ -118,11 +122,11 @@ size-sound s end n e =
     (f.0, f.1, omega (arith, sound-number (0 + length (printed 0 f.0)) n (sym (sizes-all s f.0 end 0 f.1) ∙ told)))
 
 -- and 14 of a broken one
-pub size-broken : (s : List ℕ) (end code place : ℕ) → length_told (walk (with_size s) s end 0) ≡ Refused code place
-    → (code ≡ 14) × (entries_in s end ≡ Broken place)
-size-broken s end code place e =
-    let told = told-broken (walk (with_size s) s end 0) code place e in
-    (told.0, walk-broken (with_size s) s end place 0 told.1)
+pub size-broken : (s : List ℕ) (end : ℕ) (x : Refusal) → length_told (walk (with_size s) s end 0) ≡ Err x
+    → (x ≡ record { code = JournalBroken; place = x.place }) × (entries_in s end ≡ Broken x.place)
+size-broken s end x e =
+    let told = told-broken (walk (with_size s) s end 0) x e in
+    (told.0, walk-broken (with_size s) s end x.place 0 told.1)
 
 -- ---- An offset
 

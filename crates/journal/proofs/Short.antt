@@ -9,24 +9,24 @@ use lib.ListN.{length, length-append}
 use lib.Seq.{length-take-le}
 use borrow.Author.Tests.{leb-true}
 use Rattle.text.specs.Checks.{must}
-use Rattle.text.specs.declared.Seen.{Seen}
-use Rattle.text.specs.declared.Seen.TheVariants.{Fine, Bad}
 use Rattle.text.proofs.Cases.{by_test, both_left, both_right}
 use Rattle.text.proofs.Checks.{must-held}
 use Rattle.journal.specs.Journal.{Entry, entry_bytes, journal_bytes, is_entry, all_entries, most, Read, Sound, Broken, entries_in}
 use Rattle.journal.specs.Calls.{seen_of, told, taken, new_end, add_seen, added, without, drop_told, dropped}
 use Rattle.journal.specs.Printed.{digits_of, line, printed, printed_in, print_seen, print_told}
-use Rattle.journal.specs.declared.Told.TheVariants.{Length}
 use Rattle.journal.proofs.Added.{accepted}
 use Rattle.journal.proofs.Bytes.{entry-who, bytes-length}
 use Rattle.journal.proofs.Dropped.{first-entries}
 use Rattle.journal.proofs.Entries.{read_is}
 use Rattle.journal.proofs.Lines.{line-length}
+use Rattle.std.specs.Prelude.{Result, Ok, Err}
+use Rattle.text.specs.declared.Refusal.{Refusal}
+use Rattle.text.specs.declared.Code.TheVariants.{NoRoom, OutOfRange}
 
 -- what a refusal or a length was told of
-told-fine : (r : Seen) (m n : ℕ) → told r m ≡ Length n → (r ≡ Fine) × (m ≡ n)
-told-fine Fine m n e = (refl, cc)
-told-fine (Bad code place) m n e = let z : ◌≡◌ {A = ℕ} 0 1 = cc in absurd (omega arith)
+told-fine : (r : Result (Unit {0}) Refusal) (m n : ℕ) → told r m ≡ Ok n → (r ≡ (Ok tt)) × (m ≡ n)
+told-fine (Ok u) m n e = (refl, cc)
+told-fine (Err r) m n e = let z : ◌≡◌ {A = ℕ} 0 1 = cc in absurd (omega arith)
 
 -- ---- Lines
 
@@ -57,43 +57,43 @@ lines-short o (e ∷ es) ok =
 
 -- ---- Answers
 
-pub added-short : (s : List ℕ) (end : ℕ) (d t : List ℕ) (n : ℕ) → added s end d t ≡ Length n → n ≤ most
+pub added-short : (s : List ℕ) (end : ℕ) (d t : List ℕ) (n : ℕ) → added s end d t ≡ Ok n → n ≤ most
 unfolding added
 added-short s end d t n e =
     let f = told-fine (add_seen s end d t) (new_end end (taken d t)) n e in
     omega (arith, f.1, (accepted s end d t f.0).few)
 
-pub dropped-short : (s : List ℕ) (end count n : ℕ) → dropped s end count ≡ Length n → n ≤ most
+pub dropped-short : (s : List ℕ) (end count n : ℕ) → dropped s end count ≡ Ok n → n ≤ most
 unfolding dropped
 dropped-short s end count n e = go (entries_in s end) refl e
   where
-    go : (r : Read (List Entry)) → entries_in s end ≡ r → drop_told r count ≡ Length n → n ≤ most
+    go : (r : Read (List Entry)) → entries_in s end ≡ r → drop_told r count ≡ Ok n → n ≤ most
     go (Sound es) q w =
-        let f = told-fine (must (leb count (length es)) 5 0) (length (journal_bytes (without count es))) n w in
+        let f = told-fine (must (leb count (length es)) OutOfRange 0) (length (journal_bytes (without count es))) n w in
         omega (arith, f.1, (first-entries s end (length es - count) es (read_is s end es q)).few)
     go (Broken place) q w = let z : ◌≡◌ {A = ℕ} 0 1 = cc in absurd (omega arith)
 
-pub printed-short : (s : List ℕ) (end room n : ℕ) → print_told s end room ≡ Length n → n ≤ 2 * most
+pub printed-short : (s : List ℕ) (end room n : ℕ) → print_told s end room ≡ Ok n → n ≤ 2 * most
 unfolding print_told print_seen
 printed-short s end room n e = go (entries_in s end) refl e
   where
     go : (r : Read (List Entry)) → entries_in s end ≡ r
-        → told (seen_of r (λ (es : List Entry). must (leb (length (printed 0 es)) room) 2 0)) (length (printed_in r)) ≡ Length n → n ≤ 2 * most
+        → told (seen_of r (λ (es : List Entry). must (leb (length (printed 0 es)) room) NoRoom 0)) (length (printed_in r)) ≡ Ok n → n ≤ 2 * most
     go (Sound es) q w =
-        let f = told-fine (must (leb (length (printed 0 es)) room) 2 0) (length (printed 0 es)) n w in
+        let f = told-fine (must (leb (length (printed 0 es)) room) NoRoom 0) (length (printed 0 es)) n w in
         let j = read_is s end es q in
         let long : length (journal_bytes es) ≡ end = sym (sym (length-take-le end s j.inside) ∙ ap length j.bytes) in
         omega (arith, f.1, lines-short 0 es j.entries, j.few)
     go (Broken place) q w = let z : ◌≡◌ {A = ℕ} 0 1 = cc in absurd (omega arith)
 
 -- what is printed fits its buffer
-pub printed-fits : (s : List ℕ) (end room n : ℕ) → print_told s end room ≡ Length n → n ≤ room
+pub printed-fits : (s : List ℕ) (end room n : ℕ) → print_told s end room ≡ Ok n → n ≤ room
 unfolding print_told print_seen
 printed-fits s end room n e = go (entries_in s end) e
   where
     go : (r : Read (List Entry))
-        → told (seen_of r (λ (es : List Entry). must (leb (length (printed 0 es)) room) 2 0)) (length (printed_in r)) ≡ Length n → n ≤ room
+        → told (seen_of r (λ (es : List Entry). must (leb (length (printed 0 es)) room) NoRoom 0)) (length (printed_in r)) ≡ Ok n → n ≤ room
     go (Sound es) w =
-        let f = told-fine (must (leb (length (printed 0 es)) room) 2 0) (length (printed 0 es)) n w in
-        omega (arith, f.1, leb-true (length (printed 0 es)) room (must-held (leb (length (printed 0 es)) room) 2 0 f.0))
+        let f = told-fine (must (leb (length (printed 0 es)) room) NoRoom 0) (length (printed 0 es)) n w in
+        omega (arith, f.1, leb-true (length (printed 0 es)) room (must-held (leb (length (printed 0 es)) room) NoRoom 0 f.0))
     go (Broken place) w = let z : ◌≡◌ {A = ℕ} 0 1 = cc in absurd (omega arith)

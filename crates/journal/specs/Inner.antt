@@ -1,20 +1,20 @@
 -- What the inner functions gather on the walk from the end. No promise to a caller rests on these names.
-use Rattle.std.specs.Prelude.{◌≡◌, cond, List, [], ◌++◌, ℕ, ◌+◌, ◌-◌, ◌≤◌, eqb, length, take}
+use Rattle.std.specs.Prelude.{◌≡◌, cond, List, [], ◌++◌, ℕ, ◌+◌, ◌-◌, ◌≤◌, eqb, length, take, Result, Ok}
+use Rattle.text.specs.Checks.{refuse}
 use Rattle.text.specs.Equal.{same_bytes}
 use Rattle.text.specs.Over.{over}
-use Rattle.text.specs.declared.Seen.TheVariants.{Fine}
 use Rattle.command.specs.Text.{longest, check_command}
 use Rattle.join.specs.Join.{join_text, no_change_text}
 use Rattle.journal.specs.Journal.{entry_at, walk, Read, Sound, Broken}
 use Rattle.journal.specs.Printed.{line}
-use Rattle.journal.specs.declared.Told.{Told}
-use Rattle.journal.specs.declared.Told.TheVariants.{Length, Refused}
+use Rattle.text.specs.declared.Code.TheVariants.{JournalBroken, OutOfRange}
+use Rattle.text.specs.declared.Refusal.{Refusal}
 use Rattle.journal.specs.declared.Kept.{Kept}
 
 -- the length that a walk gathered, or the refusal
-abbrev pub length_told : Read ℕ → Told
-length_told (Sound n) = Length n
-length_told (Broken place) = Refused 14 place
+abbrev pub length_told : Read ℕ → Result ℕ Refusal
+length_told (Sound n) = Ok n
+length_told (Broken place) = refuse JournalBroken place
 
 -- ---- Printing: the lines, and how long they are together
 
@@ -39,9 +39,9 @@ pub record LinesOver (s : List ℕ) (end : ℕ) (before after : List ℕ) : Type
 unfoldable pub kept_at : ℕ → ℕ → Kept → Kept
 kept_at at n k = cond (eqb k.wanted 0) k (record { wanted = k.wanted - 1; end = at })
 
-unfoldable pub kept_told : Read Kept → Told
-kept_told (Sound k) = cond (eqb k.wanted 0) (Length k.end) (Refused 5 0)
-kept_told (Broken place) = Refused 14 place
+unfoldable pub kept_told : Read Kept → Result ℕ Refusal
+kept_told (Sound k) = cond (eqb k.wanted 0) (Ok k.end) (refuse OutOfRange 0)
+kept_told (Broken place) = refuse JournalBroken place
 
 -- ---- Replaying: one command that acts as all that were taken for the aircraft from here on
 
@@ -53,9 +53,9 @@ pub record Holds (bytes : List ℕ) (n : ℕ) (t : List ℕ) : Type 0 where
   pub room : length bytes ≡ longest
   pub short : n ≤ longest
   pub found : take n bytes ≡ t
-  pub fine : check_command t ≡ Fine
+  pub fine : check_command t ≡ Ok tt
 
 -- what the walk gathered for an aircraft, or the refusal; the buffer then holds it
-pub record Gathered (s d : List ℕ) (end : ℕ) (r : Told) (bytes : List ℕ) : Type 0 where
-  pub broken : (place : ℕ) → walk (joined_at s d) s end no_change_text ≡ Broken place → r ≡ Refused 14 place
-  pub sound : (t : List ℕ) → walk (joined_at s d) s end no_change_text ≡ Sound t → (r ≡ Length (length t)) × Holds bytes (length t) t
+pub record Gathered (s d : List ℕ) (end : ℕ) (r : Result ℕ Refusal) (bytes : List ℕ) : Type 0 where
+  pub broken : (place : ℕ) → walk (joined_at s d) s end no_change_text ≡ Broken place → r ≡ refuse JournalBroken place
+  pub sound : (t : List ℕ) → walk (joined_at s d) s end no_change_text ≡ Sound t → (r ≡ Ok (length t)) × Holds bytes (length t) t

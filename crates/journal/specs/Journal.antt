@@ -1,12 +1,13 @@
 -- Document 02, §8: what a journal is, and how it is read from its end.
-use Rattle.std.specs.Prelude.{◌≡◌, Bool, true, cond, ◌&&◌, List, [], ◌∷◌, ◌++◌, ℕ, zero, suc, ◌+◌, ◌-◌, ◌*◌, ◌/◌, ◌%◌, ◌≤◌, leb, eqb, length, get_or, take}
-use Rattle.text.specs.Checks.{is_fine}
+use Rattle.std.specs.Prelude.{◌≡◌, Bool, true, cond, ◌&&◌, List, [], ◌∷◌, ◌++◌, ℕ, zero, suc, ◌+◌, ◌-◌, ◌*◌, ◌/◌, ◌%◌, ◌≤◌, leb, eqb, length, get_or, take, Result, Ok, Err, Option, Some, None}
+use Rattle.text.specs.Checks.{refuse, is_fine}
 use Rattle.text.specs.Equal.{same_bytes}
 use Rattle.text.specs.Names.{is_designator}
 use Rattle.text.specs.Parts.{part}
 use Rattle.command.specs.Text.{check_command}
-use Rattle.journal.specs.declared.Last.{Last}
-use Rattle.journal.specs.declared.Last.TheVariants.{Nothing, Starts, Fails}
+use Rattle.text.specs.declared.Code.TheVariants.{JournalBroken}
+use Rattle.text.specs.declared.Refusal.{Refusal}
+use Rattle.journal.specs.declared.Entry.{Entry as Found}
 
 -- ---- "six bytes of designator, the command text, then a trailer of three bytes: the text's length in two, high byte first, and
 -- the letter J"
@@ -60,19 +61,23 @@ length_in s place = 256 * get_or s place 0 + get_or s (place + 1) 0
 abbrev pub is_trailer : List ℕ → ℕ → Bool
 is_trailer s place = same_bytes (part place 3 s) (trailer (length_in s place))
 
--- what stands before the trailer at a place: designator and a text of n bytes
-unfoldable pub before_trailer : List ℕ → ℕ → ℕ → Last
-before_trailer s place n =
-    cond (leb (6 + n) place && is_entry (entry_at s (place - (6 + n)) n)) (Starts (place - (6 + n)) n) (Fails place)
+-- what a step tells of an entry that starts at a place, with a text of n bytes
+abbrev pub starts_at : ℕ → ℕ → Result (Option Found) Refusal
+starts_at at n = Ok (Some (record { at = at; length = n }))
 
-unfoldable pub at_trailer : List ℕ → ℕ → Last
-at_trailer s place = cond (is_trailer s place) (before_trailer s place (length_in s place)) (Fails place)
+-- what stands before the trailer at a place: designator and a text of n bytes
+unfoldable pub before_trailer : List ℕ → ℕ → ℕ → Result (Option Found) Refusal
+before_trailer s place n =
+    cond (leb (6 + n) place && is_entry (entry_at s (place - (6 + n)) n)) (starts_at (place - (6 + n)) n) (refuse JournalBroken place)
+
+unfoldable pub at_trailer : List ℕ → ℕ → Result (Option Found) Refusal
+at_trailer s place = cond (is_trailer s place) (before_trailer s place (length_in s place)) (refuse JournalBroken place)
 
 -- the trailer's place is that of a failure, or 0 "where fewer than three bytes are left or its length passes 65,535 or its buffer"
-unfoldable pub last_entry : List ℕ → ℕ → Last
+unfoldable pub last_entry : List ℕ → ℕ → Result (Option Found) Refusal
 last_entry s end =
-    cond (eqb end 0) Nothing
-    (cond (leb 3 end && leb end most && leb end (length s)) (at_trailer s (end - 3)) (Fails 0))
+    cond (eqb end 0) (Ok None)
+    (cond (leb 3 end && leb end most && leb end (length s)) (at_trailer s (end - 3)) (refuse JournalBroken 0))
 
 -- ---- The walk from the end
 
@@ -81,10 +86,10 @@ pub data Read (A : Type 0) : Type 0 where
   Sound : A → Read A
   Broken : ℕ → Read A
 
-abbrev pub on_last : {A : Type 0} → Last → Read A → (ℕ → ℕ → Read A) → Read A
-on_last Nothing done next = done
-on_last (Starts at n) done next = next at n
-on_last (Fails place) done next = Broken place
+abbrev pub on_last : {A : Type 0} → Result (Option Found) Refusal → Read A → (ℕ → ℕ → Read A) → Read A
+on_last (Ok None) done next = done
+on_last (Ok (Some e)) done next = next e.at e.length
+on_last (Err r) done next = Broken r.place
 
 -- `steps` is more than the entries that there can be, so that the walk ends at byte 0 or where it fails
 unfoldable pub walk_back : {A : Type 0} → (ℕ → ℕ → A → A) → List ℕ → ℕ → ℕ → A → Read A

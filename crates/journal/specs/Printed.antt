@@ -1,12 +1,12 @@
 -- Document 02, §8: "one line per entry (nothing at all for a broken journal), newest first: the entry's offset in decimal, a space,
 -- the designator, a space, the text, LF".
-use Rattle.std.specs.Prelude.{cond, List, [], ◌∷◌, ◌++◌, ℕ, ◌+◌, leb, ltb, length}
+use Rattle.std.specs.Prelude.{cond, List, [], ◌∷◌, ◌++◌, ℕ, ◌+◌, leb, ltb, length, Result}
 use Rattle.text.specs.Checks.{must}
-use Rattle.text.specs.declared.Seen.{Seen}
 use Rattle.field.specs.Decimal.{decimal}
 use Rattle.journal.specs.Journal.{Entry, entry_bytes, Read, Sound, Broken, entries_in}
 use Rattle.journal.specs.Calls.{seen_of, told, left_by}
-use Rattle.journal.specs.declared.Told.{Told}
+use Rattle.text.specs.declared.Refusal.{Refusal}
+use Rattle.text.specs.declared.Code.TheVariants.{NoRoom}
 
 -- how many digits an offset has
 unfoldable pub digits_of : ℕ → ℕ
@@ -35,10 +35,10 @@ printed_in (Sound es) = printed 0 es
 printed_in (Broken place) = []
 
 -- 14, then 2 where the buffer is shorter than the text
-unfoldable pub print_seen : List ℕ → ℕ → ℕ → Seen
-print_seen s end room = seen_of (entries_in s end) (λ (es : List Entry). must (leb (length (printed 0 es)) room) 2 0)
+unfoldable pub print_seen : List ℕ → ℕ → ℕ → Result (Unit {0}) Refusal
+print_seen s end room = seen_of (entries_in s end) (λ (es : List Entry). must (leb (length (printed 0 es)) room) NoRoom 0)
 
-unfoldable pub print_told : List ℕ → ℕ → ℕ → Told
+unfoldable pub print_told : List ℕ → ℕ → ℕ → Result ℕ Refusal
 print_told s end room = told (print_seen s end room) (length (printed_in (entries_in s end)))
 
 unfoldable pub printed_over : List ℕ → ℕ → List ℕ → List ℕ

@@ -5,10 +5,9 @@ ghost use Rattle.journal.specs.Journal.{trailer, entry_bytes};
 ghost use Rattle.journal.specs.Calls.{taken, added, added_over};
 ghost use Rattle.command.specs.Text.{longest};
 
-use crate::Told;
 use crate::check::check_journal;
 use command::check::check;
-use text::{Seen, copy, is_designator};
+use text::{Code, Refusal, copy, is_designator};
 
 fn put_trailer(n: usize, d: &mut [u8])
     requires { (n ≤ 65535) × (length d.old ≡ 3) }
@@ -33,32 +32,20 @@ fn put_entry(designator: &[u8], text: &[u8], d: &mut [u8])
 }
 
 // 14, 4, the command's own refusals, 2; then the entry is written and the journal's new length answered.
-pub fn add(journal: &mut [u8], end: usize, designator: &[u8], text: &[u8]) -> Told
+#[tactic(auto, unfolding(crate::specs::Calls::added, crate::specs::Calls::added_over, crate::specs::Calls::add_seen, crate::specs::Calls::check_journal))]
+pub fn add(journal: &mut [u8], end: usize, designator: &[u8], text: &[u8]) -> Result<usize, Refusal>
     ensures { (result ≡ added journal.old end designator.now text.now)
         × (journal.new ≡ added_over journal.old end designator.now text.now) }
 {
-    match check_journal(journal, end) {
-        Seen::Bad(code, place) => {
-            return Told::Refused(code, place);
-        }
-        Seen::Fine => {}
-    }
+    check_journal(journal, end)?;
     if !is_designator(designator) {
-        return Told::Refused(4, 0);
+        return Err(Code::NotAllowed.at(0));
     }
-    match check(text) {
-        Seen::Bad(code, place) => {
-            return Told::Refused(code, place);
-        }
-        Seen::Fine => {}
-    }
+    check(text)?;
     let new = end + (9 + text.len());
-    if 65535 < new {
-        return Told::Refused(2, 0);
-    }
-    if journal.len() < new {
-        return Told::Refused(2, 0);
+    if 65535 < new || journal.len() < new {
+        return Err(Code::NoRoom.at(0));
     }
     put_entry(designator, text, &mut journal[end..]);
-    Told::Length(new)
+    Ok(new)
 }

@@ -6,49 +6,34 @@ ghost use Rattle.journal.specs.Printed.{digits_of, word, offset_word, line, prin
 ghost use Rattle.journal.specs.Inner.{length_told, with_size, LinesFit, LinesOver};
 
 use crate::step::last;
-use crate::{Last, Told};
 use field::write::put_decimal;
-use text::copy;
+use text::{Code, Refusal, copy};
 
 // How many digits an offset has.
+#[tactic(auto, unfolding(crate::specs::Printed::digits_of))]
 fn digits_of(n: usize) -> usize
     ensures { (result ≡ digits_of n) × (result ≤ 5) }
 {
-    if n < 10 {
-        return 1;
+    match n {
+        0..=9 => 1,
+        10..=99 => 2,
+        100..=999 => 3,
+        1000..=9999 => 4,
+        _ => 5,
     }
-    if n < 100 {
-        return 2;
-    }
-    if n < 1000 {
-        return 3;
-    }
-    if n < 10000 {
-        return 4;
-    }
-    5
 }
 
 // How long the lines of all entries are together. A broken journal is 14.
-pub fn printed_size(journal: &[u8], end: usize) -> Told
+pub fn printed_size(journal: &[u8], end: usize) -> Result<usize, Refusal>
     ensures { result ≡ length_told (walk (with_size journal.now) journal.now end 0) }
 {
     let mut here = end;
     let mut size: usize = 0;
-    loop {
-        match last(journal, here) {
-            Last::Nothing => {
-                return Told::Length(size);
-            }
-            Last::Fails(place) => {
-                return Told::Refused(14, place);
-            }
-            Last::Starts(at, n) => {
-                size += digits_of(at) + (9 + n);
-                here = at;
-            }
-        }
+    while let Some(entry) = last(journal, here)? {
+        size += digits_of(entry.at) + (9 + entry.length);
+        here = entry.at;
     }
+    Ok(size)
 }
 
 // An offset's digits and a space, over the start of `d`.
@@ -93,35 +78,21 @@ fn put_lines(journal: &[u8], end: usize, out: &mut [u8])
 {
     let mut here = end;
     let mut written: usize = 0;
-    loop {
-        match last(journal, here) {
-            Last::Nothing => {
-                return;
-            }
-            Last::Fails(_) => {
-                return;
-            }
-            Last::Starts(at, n) => {
-                written += put_line(journal, at, n, &mut out[written..]);
-                here = at;
-            }
-        }
+    while let Ok(Some(entry)) = last(journal, here) {
+        written += put_line(journal, entry.at, entry.length, &mut out[written..]);
+        here = entry.at;
     }
 }
 
 // 14, then 2 where the buffer is shorter than the text; else exactly the lines are written, and their length answered.
-pub fn print(journal: &[u8], end: usize, out: &mut [u8]) -> Told
+pub fn print(journal: &[u8], end: usize, out: &mut [u8]) -> Result<usize, Refusal>
     ensures { (result ≡ print_told journal.now end (length out.old))
         × (out.new ≡ printed_over journal.now end out.old) }
 {
-    match printed_size(journal, end) {
-        Told::Refused(code, place) => Told::Refused(code, place),
-        Told::Length(size) => {
-            if out.len() < size {
-                return Told::Refused(2, 0);
-            }
-            put_lines(journal, end, out);
-            Told::Length(size)
-        }
+    let size = printed_size(journal, end)?;
+    if out.len() < size {
+        return Err(Code::NoRoom.at(0));
     }
+    put_lines(journal, end, out);
+    Ok(size)
 }

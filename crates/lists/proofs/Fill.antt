@@ -4,9 +4,9 @@ use mathlib.Core.List.{List, [], ◌∷◌, ◌++◌, append_assoc}
 use Prim.Native.Nat.{ℕ, zero, suc, ◌+◌, ◌-◌, ◌*◌, ◌<◌}
 use native.Mathlib.Omega.{arith}
 use native.Mathlib.Numerals.{add-one}
-use lib.ListN.{length, get_or, set, drop, replicate, length-drop}
-use lib.Seq.{set_at, take-suc, get_or-drop}
-use Rattle.text.specs.Parts.{part}
+use lib.ListN.{length, set, drop, replicate}
+use Rattle.std.proofs.lemmas.List.{drop-replicate}
+use lib.Seq.{set_at}
 use Rattle.field.specs.Boxes.{region_at}
 use Rattle.field.specs.declared.Region.{Region}
 use Rattle.lists.specs.Lists.{regions_at}
@@ -19,9 +19,9 @@ fill_turn xs n i z a l h =
     let rest = replicate (n - (i + 1)) z in
     rw one (set_at xs z rest a i l ∙ sym (append_assoc xs (a ∷ []) rest))
 
--- one byte more of a text
-pub part-more : (s : List ℕ) (from i : ℕ) → from + i < length s → part from (i + 1) s ≡ part from i s ++ (get_or s (from + i) 0 ∷ [])
-part-more s from i h = rw (add-one, take-suc (drop from s) i 0 (omega (arith, length-drop from s)), get_or-drop from s i 0)
+-- a front over zeros
+pub zeros_behind : (F t : List ℕ) (k n : ℕ) → F ≡ t → F ++ drop k (replicate n 0) ≡ t ++ replicate (n - k) 0
+zeros_behind F t k n e = rw (e, drop-replicate {X = ℕ} k n 0)
 
 pub regions-length : (n : ℕ) (s : List ℕ) (at : ℕ) → length (regions_at n s at) ≡ n
 unfolding regions_at

@@ -11,6 +11,7 @@ use Rattle.lists.specs.declared.Airfields.{Airfields}
 use Rattle.lists.specs.declared.Boxes.{Boxes}
 use Rattle.lists.specs.Lists.{all_zero, names_allowed, airfields_allowed, regions_zero, regions_allowed, boxes_allowed}
 use Rattle.lists.proofs.Turns.{names-fine, used_then}
+use Rattle.text.specs.declared.Code.TheVariants.{Disagree, OutOfRange}
 
 pub airfields-fine : (at : ℕ) (l : Airfields)
     → is_fine (airfields_allowed at l) ≡ (leb l.count 20 && used_then (4 * l.count) l.names)
@@ -19,8 +20,8 @@ airfields-fine at l =
     let few = leb l.count 20 in
     let zero = all_zero (drop (4 * l.count) l.names) in
     let names = names_allowed l.count (at + 2) l.names in
-    fine_then (must few 5 at) (must zero 7 at and_then names)
-    ∙ rw (fine-must few 5 at, fine_then (must zero 7 at) names, fine-must zero 7 at, names-fine l.count (at + 2) l.names)
+    fine_then (must few OutOfRange at) (must zero Disagree at and_then names)
+    ∙ rw (fine-must few OutOfRange at, fine_then (must zero Disagree at) names, fine-must zero Disagree at, names-fine l.count (at + 2) l.names)
     (rw (and_comm zero (all_allowed (take (4 * l.count) l.names))))
 
 pub boxes-fine : (at : ℕ) (l : Boxes)
@@ -31,5 +32,5 @@ boxes-fine at l =
     let few = leb l.count 16 in
     let zero = regions_zero (drop l.count l.regions) in
     let boxes = regions_allowed l.count (at + 2) l.regions in
-    fine_then (must few 5 at) (must zero 7 at and_then boxes)
-    ∙ rw (fine-must few 5 at, fine_then (must zero 7 at) boxes, fine-must zero 7 at)
+    fine_then (must few OutOfRange at) (must zero Disagree at and_then boxes)
+    ∙ rw (fine-must few OutOfRange at, fine_then (must zero Disagree at) boxes, fine-must zero Disagree at)

@@ -8,8 +8,6 @@ use Rattle.text.specs.Parts.{part}
 use Rattle.field.specs.Decimal.{value}
 use Rattle.field.specs.Fields.{check_number, check_airfield, repeat}
 use Rattle.field.specs.Boxes.{check_box, region_at, no_region}
-use Rattle.field.specs.declared.Step.{Step}
-use Rattle.field.specs.declared.Step.TheVariants.{Next}
 use Rattle.field.specs.declared.Region.{Region}
 use Rattle.field.proofs.Local.{Local, Reads, Sized, part-shift, part-extend, reads_fixed, reads_with}
 use Rattle.field.proofs.LocalThen.{bound_local, bound-first, bound-second, bound-sized, several, several_local, several-passes, several-sized}
@@ -18,40 +16,43 @@ use Rattle.lists.proofs.Accepted.{counted}
 use Rattle.lists.specs.Lists.{count_at, check_list, check_airfields, airfields_at, check_boxes, regions_at, boxes_at}
 use Rattle.lists.specs.declared.Airfields.{Airfields}
 use Rattle.lists.specs.declared.Boxes.{Boxes}
+use Rattle.std.specs.Prelude.{Result, Ok}
+use Rattle.text.specs.declared.Refusal.{Refusal}
+use Rattle.text.specs.declared.Code.TheVariants.{OutOfRange}
 
 -- ---- Any counted list
 
-module _ (limit : ℕ) (entry : List ℕ → ℕ → Step) where
-  abbrev count : List ℕ → ℕ → Step
+module _ (limit : ℕ) (entry : List ℕ → ℕ → Result ℕ Refusal) where
+  abbrev count : List ℕ → ℕ → Result ℕ Refusal
   count = check_number 2 0 limit
 
   -- a counted list of local entries is local
   pub list_local : Local entry → Local (check_list limit entry)
   unfolding check_list
   list_local E =
-      bound_local count count_at (several entry) (digits_local 5 2 0 limit) (digits-reads 5 2 0 limit value) (several_local entry E)
+      bound_local count count_at (several entry) (digits_local OutOfRange 2 0 limit) (digits-reads OutOfRange 2 0 limit value) (several_local entry E)
 
   -- a list of entries of w bytes each is as long as its count says
   pub list-sized : (w : ℕ) → Sized entry (λ s at. w) → Sized (check_list limit entry) (λ s at. 2 + w * count_at s at)
   unfolding check_list
   list-sized w E =
-      bound-sized count count_at (several entry) (λ s at. 2) (λ n s at. w * n) (digits-reads 5 2 0 limit value) (digits-sized 5 2 0 limit)
+      bound-sized count count_at (several entry) (λ s at. 2) (λ n s at. w * n) (digits-reads OutOfRange 2 0 limit value) (digits-sized OutOfRange 2 0 limit)
       (several-sized entry w E)
 
   -- the count
   pub count-reads : Reads (check_list limit entry) count_at
   unfolding check_list
-  count-reads = bound-first count count_at (several entry) count_at (digits-reads 5 2 0 limit value)
+  count-reads = bound-first count count_at (several entry) count_at (digits-reads OutOfRange 2 0 limit value)
 
   -- what is read of the entries
   pub entries-reads : {A : Type 0} (w : ℕ → List ℕ → ℕ → A) → ((n : ℕ) → Reads (several entry n) (w n))
       → Reads (check_list limit entry) (λ s at. w (count_at s at) s (at + 2))
   unfolding check_list
   entries-reads w W =
-      bound-second count count_at (several entry) (λ s at. 2) w (digits-reads 5 2 0 limit value) (digits-sized 5 2 0 limit) W
+      bound-second count count_at (several entry) (λ s at. 2) w (digits-reads OutOfRange 2 0 limit value) (digits-sized OutOfRange 2 0 limit) W
 
   -- no accepted count is over its limit
-  pub count_most : (s : List ℕ) (at p : ℕ) → check_list limit entry s at ≡ Next p → count_at s at ≤ limit
+  pub count_most : (s : List ℕ) (at p : ℕ) → check_list limit entry s at ≡ Ok p → count_at s at ≤ limit
   count_most s at p e = (counted limit entry s at p e).count.high
 
 -- ---- Airfields
@@ -64,7 +65,7 @@ airfields_local = list_local 20 check_airfield airfield_local
 pub airfields-sized : Sized check_airfields (λ s at. 2 + 4 * count_at s at)
 airfields-sized = list-sized 20 check_airfield 4 airfield-sized
 
-names_extended : (n : ℕ) (s y : List ℕ) (at p : ℕ) → several check_airfield n s at ≡ Next p → part at (4 * n) (s ++ y) ≡ part at (4 * n) s
+names_extended : (n : ℕ) (s y : List ℕ) (at p : ℕ) → several check_airfield n s at ≡ Ok p → part at (4 * n) (s ++ y) ≡ part at (4 * n) s
 names_extended zero s y at p e = refl
 names_extended (suc n) s y at p e =
     let q : p ≡ at + 4 * suc n = several-passes check_airfield 4 airfield-sized (suc n) s at p e in

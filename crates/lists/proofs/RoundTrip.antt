@@ -8,7 +8,6 @@ use lib.Dec.{leb, eqb, lit<}
 use lib.ListN.{length, take, drop, replicate, length-append, length-drop, length-replicate, take-append-drop}
 use lib.Seq.{length-take-le, take_at, drop_at, take-add}
 use borrow.Author.Tests.{le-leb, leb-true, eqb-true}
-use Rattle.text.specs.declared.Seen.TheVariants.{Fine}
 use Rattle.text.specs.Checks.{must, ◌and_then◌}
 use Rattle.text.specs.Names.{all_allowed}
 use Rattle.text.specs.Parts.{part}
@@ -18,8 +17,6 @@ use Rattle.text.proofs.Names.{allowed-append}
 use Rattle.text.proofs.Stands.{Stands, stands-part, stands-left, stands_right, part-add}
 use Rattle.field.specs.declared.Edge.{Edge}
 use Rattle.field.specs.declared.Region.{Region}
-use Rattle.field.specs.declared.Step.{Step}
-use Rattle.field.specs.declared.Step.TheVariants.{Next}
 use Rattle.field.specs.Decimal.{decimal}
 use Rattle.field.specs.Fields.{check_airfield, repeat}
 use Rattle.field.specs.Boxes.{check_box, region_at, region_allowed, region_text, no_region}
@@ -33,6 +30,9 @@ use Rattle.lists.specs.declared.Boxes.{Boxes}
 use Rattle.lists.specs.Lists.{count_at, check_list, check_airfields, check_boxes, airfields_at, all_zero, names_allowed, airfields_allowed, airfields_text, regions_at, boxes_at, edge_zero, region_zero, regions_zero, regions_allowed, boxes_allowed, regions_text, boxes_text, no_airfields, no_boxes}
 use Rattle.lists.proofs.Accepted.{Counted, counted, Named, airfields}
 use Rattle.lists.proofs.Fill.{regions-length}
+use Rattle.std.specs.Prelude.{Result, Ok}
+use Rattle.text.specs.declared.Refusal.{Refusal}
+use Rattle.text.specs.declared.Code.TheVariants.{Disagree, NotAllowed, OutOfRange}
 
 -- ---- The count, before any entries
 
@@ -46,23 +46,23 @@ module _ (limit n : ℕ) (rest s : List ℕ) (at : ℕ) (few : n ≤ limit) (sma
   count-back : count_at s at ≡ n
   count-back = number-value 2 n s at (omega arith) count-stands
 
-  list-stands : (entry : List ℕ → ℕ → Step) (p : ℕ) → repeat (entry s) n (at + 2) ≡ Next p → check_list limit entry s at ≡ Next p
+  list-stands : (entry : List ℕ → ℕ → Result ℕ Refusal) (p : ℕ) → repeat (entry s) n (at + 2) ≡ Ok p → check_list limit entry s at ≡ Ok p
   unfolding check_list
-  list-stands entry p e = rw (number-stands 2 n s at (omega arith) count-stands 5 0 limit (omega arith) few, count-back) e
+  list-stands entry p e = rw (number-stands 2 n s at (omega arith) count-stands OutOfRange 0 limit (omega arith) few, count-back) e
 
 -- ---- Airfields
 
 -- n allowed names are 4n allowed bytes
-names-held : (n at : ℕ) (names : List ℕ) → names_allowed n at names ≡ Fine → all_allowed (take (4 * n) names) ≡ true
+names-held : (n at : ℕ) (names : List ℕ) → names_allowed n at names ≡ (Ok tt) → all_allowed (take (4 * n) names) ≡ true
 unfolding names_allowed all_allowed
 names-held zero at names fine = refl
 names-held (suc n) at names fine =
-    let x = both-fine (must (all_allowed (take 4 names)) 4 at) (names_allowed n (at + 4) (drop 4 names)) fine in
-    let first = must-held (all_allowed (take 4 names)) 4 at x.0 in
+    let x = both-fine (must (all_allowed (take 4 names)) NotAllowed at) (names_allowed n (at + 4) (drop 4 names)) tt fine in
+    let first = must-held (all_allowed (take 4 names)) NotAllowed at x.0 in
     let k : 4 * suc n ≡ 4 + 4 * n = omega arith in
     rw (k, take-add 4 (4 * n) names, allowed-append (take 4 names) (take (4 * n) (drop 4 names)), first) (names-held n (at + 4) (drop 4 names) x.1)
 
-names-fine : (n at : ℕ) (names : List ℕ) → all_allowed (take (4 * n) names) ≡ true → names_allowed n at names ≡ Fine
+names-fine : (n at : ℕ) (names : List ℕ) → all_allowed (take (4 * n) names) ≡ true → names_allowed n at names ≡ (Ok tt)
 unfolding names_allowed
 names-fine zero at names e = refl
 names-fine (suc n) at names e =
@@ -90,21 +90,21 @@ pub record AllowedNames (l : Airfields) : Type 0 where
   pub zeros : all_zero (drop (4 * l.count) l.names) ≡ true
   pub names : all_allowed (take (4 * l.count) l.names) ≡ true
 
-pub airfields-held : (at : ℕ) (l : Airfields) → airfields_allowed at l ≡ Fine → AllowedNames l
+pub airfields-held : (at : ℕ) (l : Airfields) → airfields_allowed at l ≡ (Ok tt) → AllowedNames l
 unfolding airfields_allowed
 airfields-held at l fine =
     let unused = all_zero (drop (4 * l.count) l.names) in
-    let second = must unused 7 at in
+    let second = must unused Disagree at in
     let third = names_allowed l.count (at + 2) l.names in
-    let x = both-fine (must (leb l.count 20) 5 at) (second and_then third) fine in
-    let y = both-fine second third x.1 in
+    let x = both-fine (must (leb l.count 20) OutOfRange at) (second and_then third) tt fine in
+    let y = both-fine second third tt x.1 in
     record {
-      few = leb-true l.count 20 (must-held (leb l.count 20) 5 at x.0);
-      zeros = must-held unused 7 at y.0;
+      few = leb-true l.count 20 (must-held (leb l.count 20) OutOfRange at x.0);
+      zeros = must-held unused Disagree at y.0;
       names = names-held l.count (at + 2) l.names y.1;
     }
 
-pub airfields-fine : (at : ℕ) (l : Airfields) → AllowedNames l → airfields_allowed at l ≡ Fine
+pub airfields-fine : (at : ℕ) (l : Airfields) → AllowedNames l → airfields_allowed at l ≡ (Ok tt)
 unfolding airfields_allowed
 airfields-fine at l a = rw (le-leb l.count 20 a.few, a.zeros) (names-fine l.count (at + 2) l.names a.names)
 
@@ -123,7 +123,7 @@ module _ (l : Airfields) (full : length l.names ≡ 80) (a : AllowedNames l) (s 
   names-there = stands-part (take (4 * l.count) l.names) s (at + 2) (4 * l.count) used names_stand
 
   -- a list that was written is accepted
-  pub airfields-stands : check_airfields s at ≡ Next (at + 2 + 4 * l.count)
+  pub airfields-stands : check_airfields s at ≡ Ok (at + 2 + 4 * l.count)
   airfields-stands =
       list-stands 20 l.count (take (4 * l.count) l.names) s at a.few (lit< tt) as_text check_airfield (at + 2 + 4 * l.count)
       (airfields-next s l.count (at + 2) (omega (arith, names_stand.room, used)) (ap all_allowed names-there ∙ a.names))
@@ -138,7 +138,7 @@ module _ (l : Airfields) (full : length l.names ≡ 80) (a : AllowedNames l) (s 
       rw (count, names-there, behind, take-append-drop (4 * l.count) l.names)
 
 -- an accepted list of airfields, as a record
-module _ (s : List ℕ) (at p : ℕ) (e : check_airfields s at ≡ Next p) where
+module _ (s : List ℕ) (at p : ℕ) (e : check_airfields s at ≡ Ok p) where
   listed : Named s at p
   listed = airfields s at p e
 
@@ -221,24 +221,24 @@ regions-zero-all zero = refl
 regions-zero-all (suc n) = regions-zero-all n
 
 -- boxes that were written are accepted and read back
-regions_stand : (s : List ℕ) (n at place : ℕ) (bs : List Region) → n ≤ length bs → regions_allowed n place bs ≡ Fine
-    → Stands (regions_text (take n bs)) s at → (repeat (check_box s) n at ≡ Next (at + 14 * n)) × (regions_at n s at ≡ take n bs)
+regions_stand : (s : List ℕ) (n at place : ℕ) (bs : List Region) → n ≤ length bs → regions_allowed n place bs ≡ (Ok tt)
+    → Stands (regions_text (take n bs)) s at → (repeat (check_box s) n at ≡ Ok (at + 14 * n)) × (regions_at n s at ≡ take n bs)
 unfolding repeat regions_at regions_allowed regions_text
-regions_stand s zero at place bs h fine stands = (ap Next (omega arith), refl)
+regions_stand s zero at place bs h fine stands = (ap Ok (omega arith), refl)
 regions_stand s (suc n) at place [] h fine stands = absurd (omega arith)
 regions_stand s (suc n) at place (b ∷ bs) h fine stands =
-    let x = both-fine (region_allowed place b) (regions_allowed n (place + 14) bs) fine in
+    let x = both-fine (region_allowed place b) (regions_allowed n (place + 14) bs) tt fine in
     let a = region_held place b x.0 in
     let rest = regions_text (take n bs) in
     let first = stands-left (region_text b) rest s at stands in
     let behind : Stands rest s (at + 14) = rw (region_length b) at (stands_right (region_text b) rest s at stands) in
     let others = regions_stand s n (at + 14) (place + 14) bs (omega arith) x.1 behind in
     let k : at + 14 + 14 * n ≡ at + 14 * suc n = omega arith in
-    (rw (box-stands b a s at first) (others.0 ∙ ap Next k), rw (region_back b a s at first, others.1))
+    (rw (box-stands b a s at first) (others.0 ∙ ap Ok k), rw (region_back b a s at first, others.1))
 
 -- accepted boxes are allowed, whatever follows them, and are written back as the same bytes
-regions-read : (s : List ℕ) (n at p place : ℕ) (rest : List Region) → repeat (check_box s) n at ≡ Next p
-    → (regions_allowed n place (regions_at n s at ++ rest) ≡ Fine) × (regions_text (regions_at n s at) ≡ part at (14 * n) s)
+regions-read : (s : List ℕ) (n at p place : ℕ) (rest : List Region) → repeat (check_box s) n at ≡ Ok p
+    → (regions_allowed n place (regions_at n s at ++ rest) ≡ (Ok tt)) × (regions_text (regions_at n s at) ≡ part at (14 * n) s)
 unfolding repeat regions_at regions_allowed regions_text
 regions-read s zero at p place rest e = (refl, refl)
 regions-read s (suc n) at p place rest e =
@@ -252,23 +252,23 @@ regions-read s (suc n) at p place rest e =
 pub record AllowedRegions (l : Boxes) (place : ℕ) : Type 0 where
   pub few : l.count ≤ 16
   pub zeros : regions_zero (drop l.count l.regions) ≡ true
-  pub regions : regions_allowed l.count place l.regions ≡ Fine
+  pub regions : regions_allowed l.count place l.regions ≡ (Ok tt)
 
-pub boxes-held : (at : ℕ) (l : Boxes) → boxes_allowed at l ≡ Fine → AllowedRegions l (at + 2)
+pub boxes-held : (at : ℕ) (l : Boxes) → boxes_allowed at l ≡ (Ok tt) → AllowedRegions l (at + 2)
 unfolding boxes_allowed
 boxes-held at l fine =
     let unused = regions_zero (drop l.count l.regions) in
-    let second = must unused 7 at in
+    let second = must unused Disagree at in
     let third = regions_allowed l.count (at + 2) l.regions in
-    let x = both-fine (must (leb l.count 16) 5 at) (second and_then third) fine in
-    let y = both-fine second third x.1 in
+    let x = both-fine (must (leb l.count 16) OutOfRange at) (second and_then third) tt fine in
+    let y = both-fine second third tt x.1 in
     record {
-      few = leb-true l.count 16 (must-held (leb l.count 16) 5 at x.0);
-      zeros = must-held unused 7 at y.0;
+      few = leb-true l.count 16 (must-held (leb l.count 16) OutOfRange at x.0);
+      zeros = must-held unused Disagree at y.0;
       regions = y.1;
     }
 
-pub boxes-fine : (at : ℕ) (l : Boxes) → AllowedRegions l (at + 2) → boxes_allowed at l ≡ Fine
+pub boxes-fine : (at : ℕ) (l : Boxes) → AllowedRegions l (at + 2) → boxes_allowed at l ≡ (Ok tt)
 unfolding boxes_allowed
 boxes-fine at l a = rw (le-leb l.count 16 a.few, a.zeros) a.regions
 
@@ -277,13 +277,13 @@ module _ (l : Boxes) (full : length l.regions ≡ 16) (place : ℕ) (a : Allowed
   unfolding boxes_text
   boxes-text = stands
 
-  there : (repeat (check_box s) l.count (at + 2) ≡ Next (at + 2 + 14 * l.count)) × (regions_at l.count s (at + 2) ≡ take l.count l.regions)
+  there : (repeat (check_box s) l.count (at + 2) ≡ Ok (at + 2 + 14 * l.count)) × (regions_at l.count s (at + 2) ≡ take l.count l.regions)
   there =
       regions_stand s l.count (at + 2) place l.regions (omega (arith, a.few)) a.regions
       (entries_stand 16 l.count (regions_text (take l.count l.regions)) s at a.few (lit< tt) boxes-text)
 
   -- a list that was written is accepted
-  pub boxes-stands : check_boxes s at ≡ Next (at + 2 + 14 * l.count)
+  pub boxes-stands : check_boxes s at ≡ Ok (at + 2 + 14 * l.count)
   boxes-stands =
       list-stands 16 l.count (regions_text (take l.count l.regions)) s at a.few (lit< tt) boxes-text check_box (at + 2 + 14 * l.count) there.0
 
@@ -297,7 +297,7 @@ module _ (l : Boxes) (full : length l.regions ≡ 16) (place : ℕ) (a : Allowed
       rw (count, there.1, behind, take-append-drop l.count l.regions)
 
 -- an accepted list of boxes, as a record
-module _ (s : List ℕ) (at p : ℕ) (e : check_boxes s at ≡ Next p) where
+module _ (s : List ℕ) (at p : ℕ) (e : check_boxes s at ≡ Ok p) where
   boxed : Counted 16 check_box s at p
   boxed = counted 16 check_box s at p e
 

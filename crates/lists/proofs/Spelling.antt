@@ -1,13 +1,12 @@
 -- The texts of the counted lists: how long they are, and their count as it is written.
-use mathlib.Core.Path.{◌≡◌, refl, ◌∙◌}
-use mathlib.Core.List.{List, []}
+use mathlib.Core.Path.{◌≡◌, sym, ap, ◌∙◌}
+use mathlib.Core.List.{List, ◌++◌}
 use Prim.Native.Nat.{ℕ, ◌+◌, ◌*◌, ◌≤◌}
 use native.Mathlib.Omega.{arith}
-use lib.ListN.{length, take, length-append}
+use lib.ListN.{length, take, drop, length-append}
 use lib.Seq.{length-take-le}
-use borrow.Rule.Slice.PartMut.{put_mid}
 use Rattle.text.specs.Over.{over}
-use Rattle.text.proofs.Over.{over_none, then_whole}
+use Rattle.text.proofs.Over.{front-over}
 use Rattle.field.specs.Decimal.{decimal}
 use Rattle.field.proofs.Decimal.{decimal-length}
 use Rattle.lists.specs.declared.Airfields.{Airfields}
@@ -30,6 +29,6 @@ boxes-length l h =
     ∙ omega (arith, decimal-length 2 l.count, regions-text-length (take l.count l.regions), length-take-le l.count l.regions h)
 
 -- two digits, written into the first two bytes
-pub count-written : (d zs : List ℕ) (n : ℕ) → 2 ≤ length d → zs ≡ decimal (length (take 2 d)) n → put_mid 0 2 d zs ≡ over d 0 (decimal 2 n)
+pub count-written : (d zs : List ℕ) (n : ℕ) → 2 ≤ length d → zs ≡ decimal (length (take 2 d)) n → zs ++ drop 2 d ≡ over d 0 (decimal 2 n)
 count-written d zs n h e =
-    then_whole d d zs [] (decimal 2 n) 0 0 2 (over_none d 0) refl (omega (arith, decimal-length 2 n)) h (e ∙ rw (length-take-le 2 d h))
+    ap (λ (k : ℕ). zs ++ drop k d) (sym (decimal-length 2 n)) ∙ front-over d zs (decimal 2 n) (e ∙ rw (length-take-le 2 d h))

@@ -16,8 +16,8 @@ zero-sum n a b f g =
     (λ p. rw (ne_eqb a 0 p) (ne_eqb n 0 (λ e. p (f e).0)))
 
 -- the two bytes of an edge
-pub bytes-zero : (a b : ℕ) → eqb (a + 256 * b) 0 ≡ (eqb a 0 && eqb b 0)
-bytes-zero a b = zero-sum (a + 256 * b) a b (λ e. (omega arith, omega arith)) (λ p q. omega arith)
+pub bytes_zero : (a b : ℕ) → eqb (a + 256 * b) 0 ≡ (eqb a 0 && eqb b 0)
+bytes_zero a b = zero-sum (a + 256 * b) a b (λ e. (omega arith, omega arith)) (λ p q. omega arith)
 
 -- two edges
 edges-zero : (a b : ℕ) → eqb (a + 65536 * b) 0 ≡ (eqb a 0 && eqb b 0)
@@ -28,7 +28,7 @@ pairs_zero : (a b : ℕ) → eqb (a + 4294967296 * b) 0 ≡ (eqb a 0 && eqb b 0)
 pairs_zero a b = zero-sum (a + 4294967296 * b) a b (λ e. (omega arith, omega arith)) (λ p q. omega arith)
 
 -- the four edges of a box
-pub four-zero : (n s w e : ℕ) → eqb (n + 65536 * s + 4294967296 * (w + 65536 * e)) 0 ≡ (eqb n 0 && eqb s 0 && eqb w 0 && eqb e 0)
-four-zero n s w e =
+pub four_zero : (n s w e : ℕ) → eqb (n + 65536 * s + 4294967296 * (w + 65536 * e)) 0 ≡ (eqb n 0 && eqb s 0 && eqb w 0 && eqb e 0)
+four_zero n s w e =
     pairs_zero (n + 65536 * s) (w + 65536 * e)
     ∙ rw (edges-zero n s, edges-zero w e) (sym (and_assoc (eqb n 0 && eqb s 0) (eqb w 0) (eqb e 0)))

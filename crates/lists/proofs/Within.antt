@@ -4,7 +4,6 @@ use mathlib.Core.List.{List}
 use Prim.Native.Nat.{ℕ, ◌≤◌}
 use native.Mathlib.Omega.{arith}
 use lib.ListN.{length}
-use Rattle.field.specs.declared.Step.{Step}
 use Rattle.field.specs.Fields.{check_number, check_airfield, repeat}
 use Rattle.field.specs.Boxes.{check_box}
 use Rattle.field.proofs.Within.{Within, after-within, digits-within, airfield-within, box-within, repeat-within}
@@ -12,14 +11,17 @@ use Rattle.lists.specs.declared.Airfields.{Airfields}
 use Rattle.lists.specs.declared.Boxes.{Boxes}
 use Rattle.lists.specs.Lists.{count_at, check_list, check_airfields, check_boxes, airfields_text, boxes_text}
 use Rattle.lists.proofs.Spelling.{airfields-length, boxes-length}
+use Rattle.std.specs.Prelude.{Result}
+use Rattle.text.specs.declared.Refusal.{Refusal}
+use Rattle.text.specs.declared.Code.TheVariants.{OutOfRange}
 
 module _ (s : List ℕ) where
   -- any counted list, where each entry stays in the text
-  pub list-within : (limit : ℕ) (entry : List ℕ → ℕ → Step) → ((p : ℕ) → p ≤ length s → Within s p (entry s p))
+  pub list-within : (limit : ℕ) (entry : List ℕ → ℕ → Result ℕ Refusal) → ((p : ℕ) → p ≤ length s → Within s p (entry s p))
       → (at : ℕ) → at ≤ length s → Within s at (check_list limit entry s at)
   unfolding check_list
   list-within limit entry each at h =
-      after-within s at (check_number 2 0 limit s at) (repeat (entry s) (count_at s at)) (digits-within s 5 2 0 limit at h)
+      after-within s at (check_number 2 0 limit s at) (repeat (entry s) (count_at s at)) (digits-within s OutOfRange 2 0 limit at h)
       (λ p e k. repeat-within s (entry s) each (count_at s at) p k)
 
   pub airfields-within : (at : ℕ) → at ≤ length s → Within s at (check_airfields s at)

@@ -1,18 +1,17 @@
 -- A count of two digits and that many entries: airfields (00-20) or boxes (00-16), in a text s from a place on.
-use Rattle.std.specs.Prelude.{Bool, true, ◌&&◌, List, [], ◌∷◌, ◌++◌, ℕ, zero, suc, ◌+◌, ◌-◌, ◌*◌, leb, eqb, take, drop, replicate}
+use Rattle.std.specs.Prelude.{Bool, true, ◌&&◌, List, [], ◌∷◌, ◌++◌, ℕ, zero, suc, ◌+◌, ◌-◌, ◌*◌, leb, eqb, take, drop, replicate, Result, Ok}
 use Rattle.text.specs.Names.{all_allowed}
 use Rattle.text.specs.Parts.{part}
-use Rattle.text.specs.Checks.{must, ◌and_then◌}
-use Rattle.text.specs.declared.Seen.{Seen}
-use Rattle.text.specs.declared.Seen.TheVariants.{Fine}
+use Rattle.text.specs.Checks.{must, ◌and_then◌, after}
 use Rattle.field.specs.Decimal.{value, decimal}
-use Rattle.field.specs.Fields.{after, check_number, check_airfield, repeat}
+use Rattle.field.specs.Fields.{check_number, check_airfield, repeat}
 use Rattle.field.specs.Boxes.{check_box, region_at, region_allowed, region_text, no_region}
-use Rattle.field.specs.declared.Step.{Step}
 use Rattle.field.specs.declared.Edge.{Edge}
 use Rattle.field.specs.declared.Region.{Region}
 use Rattle.lists.specs.declared.Airfields.{Airfields}
 use Rattle.lists.specs.declared.Boxes.{Boxes}
+use Rattle.text.specs.declared.Refusal.{Refusal}
+use Rattle.text.specs.declared.Code.TheVariants.{Disagree, NotAllowed, OutOfRange}
 
 -- the most boxes of a list, and the most airfields
 abbrev pub most_boxes : ℕ
@@ -26,12 +25,12 @@ most_airfields = 20
 abbrev pub count_at : List ℕ → ℕ → ℕ
 count_at s at = value (part at 2 s)
 
-unfoldable pub check_list : ℕ → (List ℕ → ℕ → Step) → List ℕ → ℕ → Step
+unfoldable pub check_list : ℕ → (List ℕ → ℕ → Result ℕ Refusal) → List ℕ → ℕ → Result ℕ Refusal
 check_list limit entry s at = after (check_number 2 0 limit s at) (repeat (entry s) (count_at s at))
 
 -- ---- Airfields
 
-abbrev pub check_airfields : List ℕ → ℕ → Step
+abbrev pub check_airfields : List ℕ → ℕ → Result ℕ Refusal
 check_airfields s at = check_list most_airfields check_airfield s at
 
 unfoldable pub airfields_at : List ℕ → ℕ → Airfields
@@ -43,15 +42,15 @@ all_zero [] = true
 all_zero (b ∷ bs) = eqb b 0 && all_zero bs
 
 -- n names, the first at a place
-unfoldable pub names_allowed : ℕ → ℕ → List ℕ → Seen
-names_allowed zero at names = Fine
-names_allowed (suc n) at names = must (all_allowed (take 4 names)) 4 at and_then names_allowed n (at + 4) (drop 4 names)
+unfoldable pub names_allowed : ℕ → ℕ → List ℕ → Result (Unit {0}) Refusal
+names_allowed zero at names = (Ok tt)
+names_allowed (suc n) at names = must (all_allowed (take 4 names)) NotAllowed at and_then names_allowed n (at + 4) (drop 4 names)
 
 -- unused entries that are not zero are 7 at the count, after the count's own range
-unfoldable pub airfields_allowed : ℕ → Airfields → Seen
+unfoldable pub airfields_allowed : ℕ → Airfields → Result (Unit {0}) Refusal
 airfields_allowed at l =
-    must (leb l.count most_airfields) 5 at
-    and_then must (all_zero (drop (4 * l.count) l.names)) 7 at
+    must (leb l.count most_airfields) OutOfRange at
+    and_then must (all_zero (drop (4 * l.count) l.names)) Disagree at
     and_then names_allowed l.count (at + 2) l.names
 
 unfoldable pub airfields_text : Airfields → List ℕ
@@ -62,7 +61,7 @@ no_airfields = record { count = 0; names = replicate (4 * most_airfields) 0 }
 
 -- ---- Boxes
 
-abbrev pub check_boxes : List ℕ → ℕ → Step
+abbrev pub check_boxes : List ℕ → ℕ → Result ℕ Refusal
 check_boxes s at = check_list most_boxes check_box s at
 
 unfoldable pub regions_at : ℕ → List ℕ → ℕ → List Region
@@ -84,15 +83,15 @@ regions_zero [] = true
 regions_zero (b ∷ bs) = region_zero b && regions_zero bs
 
 -- n boxes, the first at a place
-unfoldable pub regions_allowed : ℕ → ℕ → List Region → Seen
-regions_allowed zero at bs = Fine
-regions_allowed (suc n) at [] = Fine
+unfoldable pub regions_allowed : ℕ → ℕ → List Region → Result (Unit {0}) Refusal
+regions_allowed zero at bs = (Ok tt)
+regions_allowed (suc n) at [] = (Ok tt)
 regions_allowed (suc n) at (b ∷ bs) = region_allowed at b and_then regions_allowed n (at + 14) bs
 
-unfoldable pub boxes_allowed : ℕ → Boxes → Seen
+unfoldable pub boxes_allowed : ℕ → Boxes → Result (Unit {0}) Refusal
 boxes_allowed at l =
-    must (leb l.count most_boxes) 5 at
-    and_then must (regions_zero (drop l.count l.regions)) 7 at
+    must (leb l.count most_boxes) OutOfRange at
+    and_then must (regions_zero (drop l.count l.regions)) Disagree at
     and_then regions_allowed l.count (at + 2) l.regions
 
 unfoldable pub regions_text : List Region → List ℕ

@@ -15,14 +15,14 @@ pub const MOST_AIRFIELDS: usize = 20;
 pub const NAME_BYTES: usize = 4 * MOST_AIRFIELDS;
 
 #[repr(C)]
-#[derive(Clone, Copy)]
+#[derive(Clone, Copy, Debug, PartialEq, Eq)]
 pub struct Airfields {
     pub count: u8,
     pub names: [u8; NAME_BYTES],
 }
 
 #[repr(C)]
-#[derive(Clone, Copy)]
+#[derive(Clone, Copy, Debug, PartialEq, Eq)]
 pub struct Boxes {
     pub count: u8,
     pub regions: [Region; MOST_BOXES],

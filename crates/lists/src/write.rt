@@ -7,7 +7,6 @@ use crate::{Airfields, Boxes, MOST_BOXES};
 use field::Region;
 use field::record::wide;
 use field::write::{put_decimal, put_region};
-use text::copy;
 
 // The count and the names in use; the answer is how many bytes that is.
 pub fn put_airfields(l: Airfields, d: &mut [u8]) -> usize
@@ -15,11 +14,9 @@ pub fn put_airfields(l: Airfields, d: &mut [u8]) -> usize
     ensures { (result ≡ length (airfields_text l)) × (d.new ≡ over d.old 0 (airfields_text l)) }
 {
     let n = wide(l.count);
-    let names = l.names;
-    let k = 4 * n;
-    let end = 2 + k;
-    put_decimal(&mut d[0..2], n);
-    copy(&mut d[2..end], &names[..k]);
+    let end = 2 + 4 * n;
+    put_decimal(&mut d[..2], n);
+    d[2..end].copy_from_slice(&l.names[..4 * n]);
     end
 }
 
@@ -28,13 +25,8 @@ fn put_regions(regions: [Region; MOST_BOXES], n: usize, d: &mut [u8])
     requires { (n ≤ most_boxes) × (14 * n ≤ length d.old) }
     ensures { d.new ≡ over d.old 0 (regions_text (take n regions)) }
 {
-    let mut p = 0;
-    let mut i = 0;
-    while i < n {
-        let end = p + 14;
-        put_region(regions[i], &mut d[p..end]);
-        p = end;
-        i += 1;
+    for i in 0..n {
+        put_region(regions[i], &mut d[14 * i..14 * i + 14]);
     }
 }
 
@@ -44,9 +36,8 @@ pub fn put_boxes(l: Boxes, d: &mut [u8]) -> usize
     ensures { (result ≡ length (boxes_text l)) × (d.new ≡ over d.old 0 (boxes_text l)) }
 {
     let n = wide(l.count);
-    let regions = l.regions;
     let end = 2 + 14 * n;
-    put_decimal(&mut d[0..2], n);
-    put_regions(regions, n, &mut d[2..end]);
+    put_decimal(&mut d[..2], n);
+    put_regions(l.regions, n, &mut d[2..end]);
     end
 }

@@ -1,6 +1,5 @@
 -- The laws of an observation.
 pub mod Checked
-pub mod Codes
 pub mod Figures
 pub mod Held
 pub mod Letters

@@ -8,15 +8,14 @@ use lib.IntN.{pos}
 use lib.ListN.{length, get_or, set, length-append}
 use Rattle.text.specs.Over.{over}
 use Rattle.text.proofs.Over.{over_none, over-over, over-sets, over-whole, length_over}
-use Rattle.packed.specs.Packed.{field_of, fitting}
-use Rattle.packed.specs.declared.Figure.{Figure}
-use Rattle.packed.specs.declared.Figure.TheVariants.{Missing}
+use Rattle.packed.specs.Packed.{Figure, field_of, fitting}
 use Rattle.packed.proofs.RoundTrip.{field-length}
 use Rattle.observation.specs.Figures.{figures_text}
 use Rattle.observation.specs.Inner.{fitting_all}
 use Rattle.observation.specs.declared.Row.{Row}
 use Rattle.observation.proofs.Figures.{total}
 use Rattle.observation.proofs.Rows.{first_fits, others-fit}
+use Rattle.std.specs.Prelude.{None}
 
 -- figures put into a buffer one by one
 abbrev pub written : List Row → List Figure → ℕ → List ℕ → List ℕ
@@ -78,7 +77,7 @@ no_row = record { width = 0; least = pos 0; most = pos 0 }
 
 -- where all figures fit, each does
 pub fits-at : (rows : List Row) (xs : List Figure) → fitting_all rows xs ≡ true → (i : ℕ) → i < length rows → i < length xs
-    → fitting (get_or rows i no_row).width (get_or xs i Missing) ≡ true
+    → fitting (get_or rows i no_row).width (get_or xs i None) ≡ true
 fits-at [] xs e i h k = absurd (omega arith)
 fits-at (r ∷ rs) [] e i h k = absurd (omega arith)
 fits-at (r ∷ rs) (x ∷ xs) e zero h k = first_fits r rs x xs e

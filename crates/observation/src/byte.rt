@@ -11,20 +11,14 @@ use packed::Figure;
 pub fn is_kind(b: u8) -> bool
     ensures { result ≡ is_kind b }
 {
-    match b {
-        b'A' | b'D' | b'R' | b'W' | b'U' | b'E' => true,
-        _ => false,
-    }
+    matches!(b, b'A' | b'D' | b'R' | b'W' | b'U' | b'E')
 }
 
 // Quality, `0`-`9` or `/`.
 pub fn is_quality(b: u8) -> bool
     ensures { result ≡ is_quality b }
 {
-    match b {
-        b'0'..=b'9' | b'/' => true,
-        _ => false,
-    }
+    matches!(b, b'0'..=b'9' | b'/')
 }
 
 // An absent observation is wholly solidi. Gathered: an empty line of a report is tested so.
@@ -32,10 +26,8 @@ pub fn all_solidi(s: &[u8]) -> bool
     ensures { result ≡ all_solidi s.now }
 {
     let mut fine = true;
-    let mut i = 0;
-    while i < s.len() {
-        fine = fine & (s[i] == b'/');
-        i += 1;
+    for &b in s {
+        fine &= b == b'/';
     }
     fine
 }
@@ -51,8 +43,8 @@ pub fn allowed(row: Row, figure: Figure) -> bool
     ensures { result ≡ allowed_figure row figure }
 {
     match figure {
-        Figure::Given(x) => in_range(row, x),
-        Figure::Missing => true,
+        Some(x) => in_range(row, x),
+        None => true,
     }
 }
 
@@ -60,14 +52,5 @@ pub fn allowed(row: Row, figure: Figure) -> bool
 pub fn are_alike(direction: Figure, speed: Figure) -> bool
     ensures { result ≡ alike direction speed }
 {
-    match direction {
-        Figure::Given(_) => match speed {
-            Figure::Given(_) => true,
-            Figure::Missing => false,
-        },
-        Figure::Missing => match speed {
-            Figure::Given(_) => false,
-            Figure::Missing => true,
-        },
-    }
+    direction.is_some() == speed.is_some()
 }

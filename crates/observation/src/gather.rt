@@ -28,9 +28,10 @@ pub fn figure_in(field: Decoded) -> Figure
     ensures { result ≡ figure_in field }
 {
     if field.missing {
-        return Figure::Missing;
+        None
+    } else {
+        Some(field.figure)
     }
-    Figure::Given(field.figure)
 }
 
 // A missing figure, or a given one in its row's range.
@@ -40,6 +41,7 @@ fn is_fitting(row: Row, field: Decoded) -> bool
     field.missing | (field.given & in_range(row, field.figure))
 }
 
+#[tactic(auto, unfolding(crate::specs::Inner::held))]
 fn is_held(t: &[u8; 256], s: &[u8], from: usize, row: Row) -> bool
     requires t_value { t.now ≡ worths }
     requires s_len_bound { (length s.now ≤ 27) × (from + row.width ≤ length s.now) }
@@ -59,6 +61,7 @@ fn is_height_held(t: &[u8; 256], s: &[u8], from: usize) -> bool
 }
 
 // Wind direction and speed, both missing or both given.
+#[tactic(auto, unfolding(crate::specs::Inner::held, crate::specs::Inner::figure_at))]
 fn is_wind_held(t: &[u8; 256], s: &[u8], from: usize) -> bool
     requires t_value { t.now ≡ worths }
     requires s_len_bound { (length s.now ≤ 27) × (from + 4 ≤ length s.now) }
@@ -73,6 +76,7 @@ fn is_wind_held(t: &[u8; 256], s: &[u8], from: usize) -> bool
 }
 
 // Gust, water vapour, quality.
+#[tactic(auto, using(crate::proofs::Held::water_gathered))]
 fn is_water_held(t: &[u8; 256], s: &[u8], from: usize) -> bool
     requires t_value { t.now ≡ worths }
     requires s_len_bound { (length s.now ≤ 27) × (from + 6 ≤ length s.now) }
@@ -84,6 +88,7 @@ fn is_water_held(t: &[u8; 256], s: &[u8], from: usize) -> bool
 }
 
 // The fields behind P of a first observation.
+#[tactic(auto, using(crate::proofs::Held::first_gathered))]
 pub fn is_first_held(t: &[u8; 256], s: &[u8]) -> bool
     requires t_value { t.now ≡ worths }
     requires s_len { length s.now ≡ 27 }
@@ -98,6 +103,7 @@ pub fn is_first_held(t: &[u8; 256], s: &[u8]) -> bool
 }
 
 // The fields behind P of a later one.
+#[tactic(auto, using(crate::proofs::Held::later_gathered))]
 pub fn is_later_held(t: &[u8; 256], s: &[u8]) -> bool
     requires t_value { t.now ≡ worths }
     requires s_len { length s.now ≡ 23 }

@@ -1,7 +1,6 @@
 // Writing an observation whose record was checked.
-ghost use Rattle.std.specs.Prelude.{◌≡◌, true, false, [], ◌∷◌, ◌++◌, ◌+◌, ◌≤◌, length};
+ghost use Rattle.std.specs.Prelude.{◌≡◌, true, false, [], ◌∷◌, ◌++◌, ◌+◌, ◌≤◌, length, Ok};
 ghost use Rattle.text.specs.Over.{over};
-ghost use Rattle.text.specs.declared.Seen.TheVariants.{Fine};
 ghost use Rattle.packed.specs.Packed.{digits, field_of, fitting};
 ghost use Rattle.observation.specs.Figures.{figures_text};
 ghost use Rattle.observation.specs.Rows.{air_rows, water_rows};
@@ -9,7 +8,7 @@ ghost use Rattle.observation.specs.Record.{position_figures, air_figures, water_
 ghost use Rattle.observation.specs.Inner.{fitting_all, Fitting};
 
 use crate::table::{CHANGE, LATITUDE, LONGITUDE, SECONDS, SINCE};
-use crate::{Air, Later, Observation, Position, Row, Water};
+use crate::{Air, Observation, Position, Row, Water};
 use packed::Figure;
 use packed::write::put;
 use text::fill;
@@ -30,15 +29,9 @@ fn put_position(t: &[u8; 40], p: Position, a: Row, b: Row, c: Row, d: &mut [u8])
     requires p_value { fitting_all (a ∷ b ∷ c ∷ []) (position_figures p) ≡ true }
     ensures { d.new ≡ over d.old 1 (figures_text (a ∷ b ∷ c ∷ []) (position_figures p)) }
 {
-    let latitude = p.latitude;
-    let longitude = p.longitude;
-    let time = p.time;
-    let first = a.width;
-    let second = b.width;
-    let third = c.width;
-    put_field(t, latitude, first, 1, d);
-    put_field(t, longitude, second, 1 + first, d);
-    put_field(t, time, third, 1 + first + second, d);
+    put_field(t, p.latitude, a.width, 1, d);
+    put_field(t, p.longitude, b.width, 1 + a.width, d);
+    put_field(t, p.time, c.width, 1 + a.width + b.width, d);
 }
 
 fn put_air(t: &[u8; 40], air: Air, from: usize, d: &mut [u8])
@@ -46,17 +39,13 @@ fn put_air(t: &[u8; 40], air: Air, from: usize, d: &mut [u8])
     requires from_in_bounds { (from + 9 ≤ length d.old) × (fitting_all air_rows (air_figures air) ≡ true) }
     ensures { d.new ≡ over d.old from (figures_text air_rows (air_figures air)) }
 {
-    let altitude = air.altitude;
-    let temperature = air.temperature;
-    let direction = air.direction;
-    let speed = air.speed;
     let second = from + 3;
     let third = second + 2;
     let fourth = third + 2;
-    put_field(t, altitude, 3, from, d);
-    put_field(t, temperature, 2, second, d);
-    put_field(t, direction, 2, third, d);
-    put_field(t, speed, 2, fourth, d);
+    put_field(t, air.altitude, 3, from, d);
+    put_field(t, air.temperature, 2, second, d);
+    put_field(t, air.direction, 2, third, d);
+    put_field(t, air.speed, 2, fourth, d);
 }
 
 fn put_water(t: &[u8; 40], water: Water, from: usize, d: &mut [u8])
@@ -64,14 +53,11 @@ fn put_water(t: &[u8; 40], water: Water, from: usize, d: &mut [u8])
     requires from_in_bounds { (from + 6 ≤ length d.old) × (fitting_all water_rows (water_figures water) ≡ true) }
     ensures { d.new ≡ over d.old from (figures_text water_rows (water_figures water) ++ water.quality ∷ []) }
 {
-    let gust = water.gust;
-    let vapour = water.vapour;
-    let quality = water.quality;
     let second = from + 2;
     let last = second + 3;
-    put_field(t, gust, 2, from, d);
-    put_field(t, vapour, 3, second, d);
-    d[last] = quality;
+    put_field(t, water.gust, 2, from, d);
+    put_field(t, water.vapour, 3, second, d);
+    d[last] = water.quality;
 }
 
 // An observation whose position takes n bytes, into all of d.
@@ -81,35 +67,29 @@ fn put_observation(t: &[u8; 40], o: Observation, n: usize, a: Row, b: Row, c: Ro
     requires width_bound { (a.width ≤ 5) × (b.width ≤ 5) × (c.width ≤ 5) × Fitting (a ∷ b ∷ c ∷ []) o }
     ensures { d.new ≡ observation_text (a ∷ b ∷ c ∷ []) o }
 {
-    let kind = o.kind;
-    let position = o.position;
-    let air = o.air;
-    let water = o.water;
-    let second = 1 + n;
-    let third = 10 + n;
-    d[0] = kind;
-    put_position(t, position, a, b, c, d);
-    put_air(t, air, second, d);
-    put_water(t, water, third, d);
+    d[0] = o.kind;
+    put_position(t, o.position, a, b, c, d);
+    put_air(t, o.air, 1 + n, d);
+    put_water(t, o.water, 10 + n, d);
 }
 
 // The first observation, 27 bytes.
 pub fn write_first(t: &[u8; 40], o: Observation, d: &mut [u8])
     requires t_value { t.now ≡ digits }
-    requires d_len { (length d.old ≡ 27) × (check_first 0 o ≡ Fine) }
+    requires d_len { (length d.old ≡ 27) × (check_first 0 o ≡ Ok tt) }
     ensures { d.new ≡ first_text o }
 {
     put_observation(t, o, 11, LATITUDE, LONGITUDE, SECONDS, d);
 }
 
 // A later observation, 23 bytes.
-pub fn write_later(t: &[u8; 40], l: Later, d: &mut [u8])
+pub fn write_later(t: &[u8; 40], later: Option<Observation>, d: &mut [u8])
     requires t_value { t.now ≡ digits }
-    requires d_len { (length d.old ≡ 23) × (check_later false 0 l ≡ Fine) }
-    ensures { d.new ≡ later_text l }
+    requires d_len { (length d.old ≡ 23) × (check_later false 0 later ≡ Ok tt) }
+    ensures { d.new ≡ later_text later }
 {
-    match l {
-        Later::Absent => fill(d, b'/'),
-        Later::Present(o) => put_observation(t, o, 7, CHANGE, CHANGE, SINCE, d),
+    match later {
+        None => fill(d, b'/'),
+        Some(o) => put_observation(t, o, 7, CHANGE, CHANGE, SINCE, d),
     }
 }

@@ -46,3 +46,6 @@ module _ (test : ℕ → ℕ → Bool) where
   at_none [] b f = refl
   at_none (x ∷ a) [] f = refl
   at_none (x ∷ a) (y ∷ b) f = rw (f 0 (omega arith) (omega arith)) (at_none a b (λ i h k. f (suc i) (omega arith) (omega arith)))
+
+-- one place more, or none left
+pub ruleset placing = (place_turn, place_end)

@@ -1,9 +1,10 @@
 -- Document 02, §6: two offices share one board, each within its grant.
-use Rattle.std.specs.Prelude.{Bool, false, cond, not, ◌&&◌, ◌||◌, List, [], ◌∷◌, ℕ, eqb, get_or, replicate}
+use Rattle.std.specs.Prelude.{Bool, false, cond, not, ◌&&◌, ◌||◌, List, [], ◌∷◌, ℕ, eqb, get_or, replicate, Result}
 use Rattle.text.specs.Names.{is_designator}
 use Rattle.text.specs.Parts.{part}
 use Rattle.text.specs.Checks.{must, ◌and_then◌}
-use Rattle.text.specs.declared.Seen.{Seen}
+use Rattle.text.specs.declared.Refusal.{Refusal}
+use Rattle.text.specs.declared.Code.TheVariants.{BoardInvalid, NotGranted}
 use Rattle.command.specs.Text.{check_command}
 use Rattle.board.specs.Board.{WaitingSlot, is_valid, Move, Stay, past_refusals, placed}
 use Rattle.board.specs.Lent.{board_of, is_shaped}
@@ -53,21 +54,21 @@ outside g s =
     || (any_place (ungranted 48) (part 13 8 s) g.sections || ungranted 48 (get_or s 12 0) g.downlinks)
 
 -- the command's own refusals, then 13 (not granted) at place 0
-unfoldable pub admission : Grant → List ℕ → Seen
-admission g s = check_command s and_then must (not (outside g s)) 13 0
+unfoldable pub admission : Grant → List ℕ → Result (Unit {0}) Refusal
+admission g s = check_command s and_then must (not (outside g s)) NotGranted 0
 
 -- ---- Adding
 
 -- adding, by what a command's admission sees; the board's own add is this with the command's check
-abbrev pub add_by : Seen → List WaitingSlot → List ℕ → List ℕ → Move
+abbrev pub add_by : Result (Unit {0}) Refusal → List WaitingSlot → List ℕ → List ℕ → Move
 add_by seen b d t = past_refusals Stay (is_valid b) (is_designator d) seen (placed b d t)
 
 -- "grants that overlap or both have downlinks give 13 before any other code"
 unfoldable pub office_add : Grant → Grant → List WaitingSlot → List ℕ → List ℕ → Move
-office_add own other b d t = cond (overlap own other) (Stay 13 0) (add_by (admission own t) b d t)
+office_add own other b d t = cond (overlap own other) (Stay NotGranted 0) (add_by (admission own t) b d t)
 
 -- on the board as it is lent
 unfoldable pub office_lent : Grant → Grant → List Slot → List ℕ → List ℕ → List ℕ → Move
 office_lent own other xs area d t =
-    cond (overlap own other) (Stay 13 0)
-    (cond (is_shaped xs area) (add_by (admission own t) (board_of xs area) d t) (Stay 10 0))
+    cond (overlap own other) (Stay NotGranted 0)
+    (cond (is_shaped xs area) (add_by (admission own t) (board_of xs area) d t) (Stay BoardInvalid 0))

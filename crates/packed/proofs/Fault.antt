@@ -10,12 +10,16 @@ use lib.ListN.{length, take, drop, replicate, length-append, length-replicate, l
 use lib.Seq.{take_at}
 use borrow.Author.Tests.{leb-true, lt-ltb, le-ltb, ltb-true, eq-eqb, ne_eqb, eqb-true, eqb-false}
 use Rattle.text.proofs.Cases.{by_test, by_lt, both_left, both_right}
-use Rattle.packed.specs.Packed.{worth_of, width_ok, all_solidi, trim, all_digits, number, spelt, holds, figure_of, is_solidus, is_digit, ahead, fault_behind, fault, read_packed}
-use Rattle.packed.specs.declared.Figure.{Figure}
-use Rattle.packed.specs.declared.Packed.TheVariants.{Is, Refused}
+use Rattle.packed.specs.Packed.{Figure, worth_of, width_ok, all_solidi, trim, all_digits, number, spelt, holds, figure_of, is_solidus, is_digit, ahead, fault_behind, fault, read_packed}
 use Rattle.packed.proofs.Bounds.{cond-le}
 use Rattle.packed.proofs.Digits.{solidus_none}
 use Rattle.packed.proofs.RoundTrip.{trim-length}
+use Rattle.packed.proofs.Scan.{ahead-le}
+use Rattle.std.specs.Prelude.{Result, Ok, Err}
+use Rattle.text.specs.Checks.{refuse}
+use Rattle.text.specs.declared.Code.TheVariants.{WrongLength, NotAllowed, OtherSpelling}
+use Rattle.text.specs.declared.Code.{Code}
+use Rattle.text.specs.declared.Refusal.{Refusal}
 
 impossible : {P : Type 0} → true ≡ false → P
 impossible e = let z : ◌≡◌ {A = ℕ} 0 1 = cc in absurd (omega arith)
@@ -47,14 +51,6 @@ and-false true = refl
 and-false false = refl
 
 module _ (test : ℕ → Bool) where
-  pub ahead-le : (f : List ℕ) → ahead test f ≤ length f
-  unfolding ahead
-  ahead-le [] = omega arith
-  ahead-le (b ∷ bs) =
-      by_test (test b)
-      (λ (t : test b ≡ true). rw t (omega (arith, ahead-le bs)))
-      (λ (t : test b ≡ false). rw t (omega arith))
-
   -- all are such where that many are
   ahead-every : (f : List ℕ) → ahead test f ≡ length f → every test f ≡ true
   unfolding every ahead
@@ -249,21 +245,31 @@ record Four (f : List ℕ) (place : ℕ) : Type 0 where
   digits : run f ≡ false
   there : fault f ≡ place
 
-same-refusal : {c p d q : ℕ} → Refused c p ≡ Refused d q → (c ≡ d) × (p ≡ q)
-same-refusal e = (cc, cc)
+same-refusal : {r s : Refusal} → ◌≡◌ {A = Result Figure Refusal} (Err r) (Err s) → r ≡ s
+same-refusal e = cc
 
-no-refusal : {P : Type 0} {x : Figure} {c p : ℕ} → Is x ≡ Refused c p → P
+no-refusal : {P : Type 0} {x : Figure} {r : Refusal} → ◌≡◌ {A = Result Figure Refusal} (Ok x) (Err r) → P
 no-refusal e = let z : ◌≡◌ {A = ℕ} 0 1 = cc in absurd (omega arith)
 
+-- another code is no 4
+no_four : {P : Type 0} {c : Code} {p q : ℕ} → ◌≡◌ {A = Result Figure Refusal} (refuse c p) (refuse NotAllowed q) → ((c ≡ NotAllowed) → ⊥) → P
+no_four e other = absurd (other (ap (λ (r : Refusal). r.code) (same-refusal e)))
+
+spelling_none : OtherSpelling ≡ NotAllowed → ⊥
+spelling_none e = let z : ◌≡◌ {A = ℕ} 0 1 = cc in absurd (omega arith)
+
+length_none : WrongLength ≡ NotAllowed → ⊥
+length_none e = let z : ◌≡◌ {A = ℕ} 0 1 = cc in absurd (omega arith)
+
 -- 6 is no 4
-spelt-none : {P : Type 0} (n k place : ℕ) → spelt n k ≡ Refused 4 place → P
+spelt-none : {P : Type 0} (n k place : ℕ) → spelt n k ≡ refuse NotAllowed place → P
 unfolding spelt
 spelt-none n k place e =
     by_test (holds (k - 1) (figure_of n k))
-    (λ (t : holds (k - 1) (figure_of n k) ≡ true). let z = (same-refusal (rw t at e)).0 in absurd (omega arith))
+    (λ (t : holds (k - 1) (figure_of n k) ≡ true). no_four (rw t at e) spelling_none)
     (λ (t : holds (k - 1) (figure_of n k) ≡ false). no-refusal (rw t at e))
 
-four_is : (f : List ℕ) (place : ℕ) → read_packed f ≡ Refused 4 place → Four f place
+four_is : (f : List ℕ) (place : ℕ) → read_packed f ≡ refuse NotAllowed place → Four f place
 unfolding read_packed
 four_is f place e =
     by_test (width_ok (length f))
@@ -274,19 +280,19 @@ four_is f place e =
     by_test (run f)
     (λ (t : run f ≡ true). spelt-none (number 0 (trim f)) (length (trim f)) place (rw (w, s, t) at e))
     (λ (t : run f ≡ false).
-    record { width = w; solidi = sym (solidi-every f) ∙ s; digits = t; there = (same-refusal (rw (w, s, t) at e)).1 })))
-    (λ (w : width_ok (length f) ≡ false). let z = (same-refusal (rw w at e)).0 in absurd (omega arith))
+    record { width = w; solidi = sym (solidi-every f) ∙ s; digits = t; there = ap (λ (r : Refusal). r.place) (same-refusal (rw (w, s, t) at e)) })))
+    (λ (w : width_ok (length f) ≡ false). no_four (rw w at e) length_none)
 
-is-four : (f : List ℕ) → width_ok (length f) ≡ true → every is_solidus f ≡ false → run f ≡ false → read_packed f ≡ Refused 4 (fault f)
+is-four : (f : List ℕ) → width_ok (length f) ≡ true → every is_solidus f ≡ false → run f ≡ false → read_packed f ≡ refuse NotAllowed (fault f)
 unfolding read_packed
 is-four f w s t = rw (w, solidi-every f ∙ s, t)
 
 -- digits or solidi, no 4
-solidi-free : (f : List ℕ) (q : ℕ) → width_ok (length f) ≡ true → every is_solidus f ≡ true → read_packed f ≡ Refused 4 q → ⊥
+solidi-free : (f : List ℕ) (q : ℕ) → width_ok (length f) ≡ true → every is_solidus f ≡ true → read_packed f ≡ refuse NotAllowed q → ⊥
 unfolding read_packed
 solidi-free f q w s e = no-refusal (rw (w, solidi-every f ∙ s) at e)
 
-digits-free : (f : List ℕ) (q : ℕ) → run f ≡ true → read_packed f ≡ Refused 4 q → ⊥
+digits-free : (f : List ℕ) (q : ℕ) → run f ≡ true → read_packed f ≡ refuse NotAllowed q → ⊥
 digits-free f q t e = impossible (sym t ∙ (four_is f q e).digits)
 
 -- ---- the place is the one that document 02 says
@@ -333,8 +339,8 @@ unfolding fault
 fault-behind f h = rw (le-ltb 0 (ahead is_solidus f) h)
 
 -- no field of that width that agrees up to and with that byte is free of code 4
-pub none-agrees : (f g : List ℕ) (place : ℕ) → read_packed f ≡ Refused 4 place → length g ≡ length f
-    → take (suc place) g ≡ take (suc place) f → read_packed g ≡ Refused 4 (fault g)
+pub none-agrees : (f g : List ℕ) (place : ℕ) → read_packed f ≡ refuse NotAllowed place → length g ≡ length f
+    → take (suc place) g ≡ take (suc place) f → read_packed g ≡ refuse NotAllowed (fault g)
 none-agrees f g place e l a =
     let r = four_is f place e in
     let w : width_ok (length g) ≡ true = rw l r.width in
@@ -363,7 +369,7 @@ take-length f zero h = refl
 take-length [] (suc n) h = absurd (omega arith)
 take-length (b ∷ bs) (suc n) h = ap suc (take-length bs n (omega arith))
 
-module _ (f : List ℕ) (place j : ℕ) (e : read_packed f ≡ Refused 4 place) (h : j < place) where
+module _ (f : List ℕ) (place j : ℕ) (e : read_packed f ≡ refuse NotAllowed place) (h : j < place) where
   near : suc j ≤ length f
   near = let r = (four_is f place e).there in omega (arith, fault-le f)
 
@@ -378,7 +384,7 @@ module _ (f : List ℕ) (place j : ℕ) (e : read_packed f ≡ Refused 4 place) 
   wide : width_ok (length (agreeing f j)) ≡ true
   wide = rw agreeing-length (four_is f place e).width
 
-  pub agreeing-free : (q : ℕ) → read_packed (agreeing f j) ≡ Refused 4 q → ⊥
+  pub agreeing-free : (q : ℕ) → read_packed (agreeing f j) ≡ refuse NotAllowed q → ⊥
   agreeing-free q r =
       let k : fault f ≡ place = (four_is f place e).there in
       by_lt 0 (ahead is_solidus f)
@@ -392,7 +398,7 @@ module _ (f : List ℕ) (place j : ℕ) (e : read_packed f ≡ Refused 4 place) 
       digits-free (agreeing f j) q (rw t (behind-some f j n)) r)
 
 -- the place is that of a byte
-pub four-inside : (f : List ℕ) (place : ℕ) → read_packed f ≡ Refused 4 place → place < length f
+pub four-inside : (f : List ℕ) (place : ℕ) → read_packed f ≡ refuse NotAllowed place → place < length f
 four-inside f place e =
     let r = four_is f place e in
     let k : fault f ≡ place = r.there in

@@ -11,8 +11,10 @@ use mathlib.Core.Bool.{Bool, true, false, cond}
 use lib.Dec.{leb}
 use borrow.Author.Tests.{leb-true}
 use Rattle.text.proofs.Cases.{by_lt, both_left, both_right}
-use Rattle.packed.specs.Packed.{fewest, half_of, spell, digit_of, fitting, width_ok, write_code}
-use Rattle.packed.specs.declared.Figure.{Figure}
+use Rattle.packed.specs.Packed.{Figure, fewest, half_of, spell, digit_of, fitting, width_ok, write_code}
+use Rattle.std.specs.Prelude.{Result, Ok, Err}
+use Rattle.text.specs.declared.Code.{Code}
+use Rattle.text.specs.declared.Code.TheVariants.{WrongLength, NoRoom, OutOfRange}
 
 -- ---- the fewest digits, from the width down
 
@@ -91,14 +93,17 @@ pub record Writes (x : Figure) (w room : ℕ) : Type 0 where
   pub held : fitting w x ≡ true
   pub fits : w ≤ room
 
-write-fine : (a b d : Bool) → ◌≡◌ {A = ℕ} (cond a (cond b (cond d 0 2) 5) 1) 0
+no-code {ℓ} : {P : Type ℓ} (c : Code) → ◌≡◌ {A = Result (Unit {0}) Code} (Err c) (Ok tt) → P
+no-code c e = let z : ◌≡◌ {A = ℕ} 0 1 = cc in absurd (omega arith)
+
+write-fine : (a b d : Bool) → ◌≡◌ {A = Result (Unit {0}) Code} (cond a (cond b (cond d (Ok tt) (Err NoRoom)) (Err OutOfRange)) (Err WrongLength)) (Ok tt)
     → (a ≡ true) × (b ≡ true) × (d ≡ true)
 write-fine true true true e = (refl, refl, refl)
-write-fine true true false e = absurd (omega arith)
-write-fine true false d e = absurd (omega arith)
-write-fine false b d e = absurd (omega arith)
+write-fine true true false e = no-code NoRoom e
+write-fine true false d e = no-code OutOfRange e
+write-fine false b d e = no-code WrongLength e
 
-pub writes : (x : Figure) (w room : ℕ) → write_code x w room ≡ 0 → Writes x w room
+pub writes : (x : Figure) (w room : ℕ) → write_code x w room ≡ Ok tt → Writes x w room
 unfolding write_code
 writes x w room e =
     let f = write-fine (width_ok w) (fitting w x) (leb w room) e in

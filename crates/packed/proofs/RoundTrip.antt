@@ -11,25 +11,24 @@ use lib.Signed.{mag}
 use lib.ListN.{length, replicate, length-append, length-replicate}
 use borrow.Author.Tests.{lt-ltb, le-ltb, le-leb, ne_eqb, ltb-true, leb-true, eqb-true}
 use Rattle.text.proofs.Cases.{by_test, by_lt, both_left, both_right}
-use Rattle.packed.specs.Packed.{worth_of, half_of, number, width_ok, all_solidi, trim, all_digits, spelt, read_packed, fewest, above, spell, spelling, field_of, fitting}
-use Rattle.packed.specs.declared.Figure.{Figure}
-use Rattle.packed.specs.declared.Figure.TheVariants.{Given, Missing}
-use Rattle.packed.specs.declared.Packed.TheVariants.{Is, Refused}
+use Rattle.packed.specs.Packed.{Figure, worth_of, half_of, number, width_ok, all_solidi, trim, all_digits, spelt, read_packed, fewest, above, spell, spelling, field_of, fitting}
 use Rattle.packed.proofs.Digits.{space_none, spell-length, spell-digits, number-spell, number_same}
 use Rattle.packed.proofs.Put.{fewest-holds, fewest-le}
 use Rattle.packed.proofs.Scan.{solidi-none, number_lt}
 use Rattle.packed.proofs.Signs.{above-lt, sub-above-back, above-sub-back, sub-below, sub-above}
+use Rattle.std.specs.Prelude.{Some, None, Result, Ok, Err}
+use Rattle.text.specs.declared.Refusal.{Refusal}
 
 -- ---- widths
 
 -- every field is as wide as it is to be
 pub field-length : (w : ℕ) (x : Figure) → length (field_of w x) ≡ w
 unfolding field_of
-field-length w (Given x) =
+field-length w (Some x) =
     let k = fewest w (mag x) in
     length-append (replicate (w - k) 32) (spell k (above x (half_of k)) [])
     ∙ rw (length-replicate {A = ℕ} (w - k) 32, spell-length k (above x (half_of k)) []) (omega (arith, fewest-le w (mag x)))
-field-length w Missing = length-replicate w 47
+field-length w None = length-replicate w 47
 
 -- twice the half is all that k digits spell
 half_twice : (k : ℕ) → 0 < k → half_of k + half_of k ≡ 40 ^ k
@@ -108,7 +107,7 @@ read_as f ds a b t e p =
     (λ (s : all_solidi f ≡ false). rw (le-leb 1 (length f) a, le-leb (length f) 5 b, s, d, t))
 
 -- solidi are read as a missing figure
-pub read-solidi : (f : List ℕ) → 1 ≤ length f → length f ≤ 5 → all_solidi f ≡ true → read_packed f ≡ Is Missing
+pub read-solidi : (f : List ℕ) → 1 ≤ length f → length f ≤ 5 → all_solidi f ≡ true → read_packed f ≡ Ok None
 unfolding read_packed
 read-solidi f a b s = rw (le-leb 1 (length f) a, le-leb (length f) 5 b, s)
 
@@ -134,9 +133,9 @@ fewest-least (suc k) m h =
     (λ (l : m < half_of k). let e = lt-ltb m (half_of k) l in rw e (fewest-least k m (rw e at h)))
     (λ (l : half_of k ≤ m). let z : suc k - 1 ≡ k = omega arith in rw (le-ltb m (half_of k) l, z) l)
 
-pub read_back : (w : ℕ) (x : Figure) → 1 ≤ w → w ≤ 5 → fitting w x ≡ true → read_packed (field_of w x) ≡ Is x
+pub read_back : (w : ℕ) (x : Figure) → 1 ≤ w → w ≤ 5 → fitting w x ≡ true → read_packed (field_of w x) ≡ Ok x
 unfolding field_of spelt
-read_back w (Given x) a b f =
+read_back w (Some x) a b f =
     let k = fewest w (mag x) in
     let h : mag x < half_of k = fewest-holds w (mag x) (ltb-true (mag x) (half_of w) f) in
     let p : 0 < k = half_some k (mag x) h in
@@ -147,10 +146,10 @@ read_back w (Given x) a b f =
     let d : all_digits ds ≡ true = spell-digits k n [] digits-none in
     let v : number 0 ds ≡ n = number-spell k 0 n [] g ∙ number-none (0 * 40 ^ k + n) ∙ omega arith in
     let t : trim (spelling w k x) ≡ ds = trim_spaces (w - k) ds ∙ trim_digits ds d in
-    let wide : length (spelling w k x) ≡ w = field-length w (Given x) in
+    let wide : length (spelling w k x) ≡ w = field-length w (Some x) in
     read_as (spelling w k x) ds (omega arith) (omega arith) t d (omega arith)
     ∙ rw (v, l, sub-above-back x (half_of k) h, le-ltb (mag x) (half_of (k - 1)) (fewest-least w (mag x) p))
-read_back w Missing a b f =
+read_back w None a b f =
     let l : length (replicate {A = ℕ} w 47) ≡ w = length-replicate w 47 in
     read-solidi (replicate w 47) (omega arith) (omega arith) (solidi-all w)
 
@@ -182,14 +181,14 @@ sub_held n h p =
     (λ (l : n < h). rw (sub-below n h l) (omega arith))
     (λ (l : h ≤ n). rw (sub-above n h l) (omega arith))
 
-is-figure : {x y : Figure} → Is x ≡ Is y → x ≡ y
+is-figure : {x y : Figure} → ◌≡◌ {A = Result Figure Refusal} (Ok x) (Ok y) → x ≡ y
 is-figure e = cc
 
-refused-is : {c p : ℕ} {x : Figure} → Refused c p ≡ Is x → ⊥
+refused-is : {r : Refusal} {x : Figure} → ◌≡◌ {A = Result Figure Refusal} (Err r) (Ok x) → ⊥
 refused-is e = let z : ◌≡◌ {A = ℕ} 0 1 = cc in absurd (omega arith)
 
 digits-written : (f : List ℕ) → 1 ≤ length f → length f ≤ 5 → all_digits (trim f) ≡ true → 0 < length (trim f) → (x : Figure)
-    → spelt (number 0 (trim f)) (length (trim f)) ≡ Is x → Reads f x
+    → spelt (number 0 (trim f)) (length (trim f)) ≡ Ok x → Reads f x
 unfolding field_of spelt
 digits-written f a b d p x e =
     let ds = trim f in
@@ -202,7 +201,7 @@ digits-written f a b d p x e =
     by_lt (mag y) (half_of (k - 1))
     (λ (l : mag y < half_of (k - 1)). absurd (refused-is (rw (lt-ltb (mag y) (half_of (k - 1)) l) at e)))
     (λ (l : half_of (k - 1) ≤ mag y).
-    let i : Given y ≡ x = is-figure (rw (le-ltb (mag y) (half_of (k - 1)) l) at e) in
+    let i : Some y ≡ x = is-figure (rw (le-ltb (mag y) (half_of (k - 1)) l) at e) in
     let few : fewest (length f) (mag y) ≡ k = fewest-is (length f) k (mag y) s l held in
     let v : number 0 (spell k n []) ≡ number 0 ds = number-spell k 0 n [] g ∙ number-none (0 * 40 ^ k + n) ∙ omega arith in
     let same : spell k n [] ≡ ds =
@@ -215,7 +214,7 @@ digits-written f a b d p x e =
       back = rw (few, above-sub-back n (half_of k), same) (trim-back f);
     }))
 
-pub write-back : (f : List ℕ) (x : Figure) → read_packed f ≡ Is x → Reads f x
+pub write-back : (f : List ℕ) (x : Figure) → read_packed f ≡ Ok x → Reads f x
 unfolding read_packed field_of
 write-back f x e =
     by_test (width_ok (length f))

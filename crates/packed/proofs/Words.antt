@@ -14,10 +14,11 @@ use Rattle.text.proofs.Cases.{by_lt, by_test, both_left, both_right}
 use Rattle.text.proofs.Table.{agree}
 use Rattle.packed.specs.Packed.{worth_of, half_of, number, all_digits, spelt, read_packed}
 use Rattle.packed.specs.Words.{digit_bytes, index_in, span, figure_spelt, Digits}
-use Rattle.packed.specs.declared.Figure.TheVariants.{Given}
-use Rattle.packed.specs.declared.Packed.TheVariants.{Is, Refused}
 use Rattle.packed.proofs.Digits.{worth_high}
 use Rattle.packed.proofs.RoundTrip.{trim_spaces, trim_digits, read_as}
+use Rattle.std.specs.Prelude.{Some, Ok}
+use Rattle.text.specs.Checks.{refuse}
+use Rattle.text.specs.declared.Code.TheVariants.{OtherSpelling}
 
 -- ---- A byte's worth is where it stands
 
@@ -81,14 +82,14 @@ module _ (n : ℕ) (ds : List ℕ) (d : Digits n ds) (k : ℕ) (l : suc k ≡ le
       read_as field ds (omega (arith, long)) (omega (arith, long)) (trim_spaces n ds ∙ trim_digits ds e) e (omega arith)
 
   -- the figure, where one digit fewer would not hold it
-  pub figure-read : span k ≤ mag (figure_spelt ds) → read_packed field ≡ Is (Given (figure_spelt ds))
+  pub figure-read : span k ≤ mag (figure_spelt ds) → read_packed field ≡ Ok (Some (figure_spelt ds))
   unfolding spelt
   figure-read h =
       let j : length ds - 1 ≡ k = omega arith in
       as_spelt ∙ rw (number_is 0 ds, j, half_is (length ds), half_is k, le-ltb (mag (figure_spelt ds)) (span k) h)
 
   -- and 6 where it would
-  pub six-read : mag (figure_spelt ds) < span k → read_packed field ≡ Refused 6 0
+  pub six-read : mag (figure_spelt ds) < span k → read_packed field ≡ refuse OtherSpelling 0
   unfolding spelt
   six-read h =
       let j : length ds - 1 ≡ k = omega arith in

@@ -1,26 +1,23 @@
 -- A field as it is decoded: what reading gives, but for the code and place of a refusal.
-use Rattle.std.specs.Prelude.{Bool, true, false, cond, ◌&&◌, List, [], ◌∷◌, ℕ, ◌+◌, ◌-◌, ◌*◌, ◌/◌, ◌^◌, eqb, ltb, leb, pos, length}
+use Rattle.std.specs.Prelude.{Bool, true, false, cond, ◌&&◌, List, [], ◌∷◌, ℕ, ◌+◌, ◌-◌, ◌*◌, ◌/◌, ◌^◌, eqb, ltb, leb, pos, length, Option, Some, None, Result, Ok, Err}
 use Rattle.std.proofs.Math.IntN.{sub_ℕ}
 use Rattle.std.specs.Int.Signed.{mag}
-use Rattle.packed.specs.Packed.{worth_of, width_ok}
-use Rattle.packed.specs.declared.Figure.{Figure}
-use Rattle.packed.specs.declared.Figure.TheVariants.{Given, Missing}
-use Rattle.packed.specs.declared.Packed.{Packed}
-use Rattle.packed.specs.declared.Packed.TheVariants.{Is, Refused}
+use Rattle.packed.specs.Packed.{Figure, worth_of, width_ok}
+use Rattle.text.specs.declared.Refusal.{Refusal}
 use Rattle.packed.specs.declared.Decoded.{Decoded}
 
--- what reading gives, whatever the code and place of a refusal
-abbrev pub uncoded : Packed → Packed
-uncoded (Is x) = Is x
-uncoded (Refused code place) = Refused 0 0
+-- what reading gives, whatever the code and place of a refusal, which is none of these
+abbrev pub uncoded : Result Figure Refusal → Option Figure
+uncoded (Ok x) = Some x
+uncoded (Err r) = None
 
 -- what a decoded field stands for; `decoded-read` of the proofs: it is what reading gives
-abbrev pub meant : Decoded → Packed
-meant d = cond d.missing (Is Missing) (cond d.given (Is (Given d.figure)) (Refused 0 0))
+abbrev pub meant : Decoded → Option Figure
+meant d = cond d.missing (Some None) (cond d.given (Some (Some d.figure)) None)
 
 -- its figure, where it is not refused
 abbrev pub figure_in : Decoded → Figure
-figure_in d = cond d.missing Missing (Given d.figure)
+figure_in d = cond d.missing None (Some d.figure)
 
 -- ---- The bytes from the left: each digit is added at its place, and a leading space is worth nothing
 

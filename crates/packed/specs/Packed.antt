@@ -1,12 +1,16 @@
 -- Document 01, "Packed figures".
-use Rattle.std.specs.Prelude.{Bool, true, cond, ◌&&◌, List, [], ◌∷◌, ◌++◌, ℕ, zero, suc, ◌+◌, ◌-◌, ◌*◌, ◌/◌, ◌%◌, ◌^◌, leb, ltb, eqb, ℤ, pos, negsuc, length, drop, replicate}
+use Rattle.std.specs.Prelude.{Bool, true, cond, ◌&&◌, List, [], ◌∷◌, ◌++◌, ℕ, zero, suc, ◌+◌, ◌-◌, ◌*◌, ◌/◌, ◌%◌, ◌^◌, leb, ltb, eqb, ℤ, pos, negsuc, length, drop, replicate, Option, Some, None, Result, Ok, Err, is_ok}
 use Rattle.std.proofs.Math.IntN.{sub_ℕ}
 use Rattle.std.specs.Int.Signed.{mag}
 use Rattle.text.specs.Table.{values}
-use Rattle.packed.specs.declared.Figure.{Figure}
-use Rattle.packed.specs.declared.Figure.TheVariants.{Given, Missing}
-use Rattle.packed.specs.declared.Packed.{Packed}
-use Rattle.packed.specs.declared.Packed.TheVariants.{Is, Refused}
+use Rattle.text.specs.Checks.{refuse}
+use Rattle.text.specs.declared.Code.{Code}
+use Rattle.text.specs.declared.Code.TheVariants.{WrongLength, NoRoom, NotAllowed, OutOfRange, OtherSpelling}
+use Rattle.text.specs.declared.Refusal.{Refusal}
+
+-- what a field holds: a number, or that there is none
+abbrev pub Figure : Type 0
+Figure = Option ℤ
 
 -- ---- One table of 256 entries gives every byte its worth
 
@@ -97,21 +101,21 @@ fault f = cond (ltb 0 (ahead is_solidus f)) (ahead is_solidus f) (fault_behind f
 -- ---- What is read
 
 -- k digits that spell n: 6 where fewer would hold the figure
-unfoldable pub spelt : ℕ → ℕ → Packed
-spelt n k = cond (holds (k - 1) (figure_of n k)) (Refused 6 0) (Is (Given (figure_of n k)))
+unfoldable pub spelt : ℕ → ℕ → Result Figure Refusal
+spelt n k = cond (holds (k - 1) (figure_of n k)) (refuse OtherSpelling 0) (Ok (Some (figure_of n k)))
 
-unfoldable pub read_packed : List ℕ → Packed
+unfoldable pub read_packed : List ℕ → Result Figure Refusal
 read_packed f =
     cond (width_ok (length f))
-    (cond (all_solidi f) (Is Missing)
+    (cond (all_solidi f) (Ok None)
     (cond (ltb 0 (length (trim f)) && all_digits (trim f)) (spelt (number 0 (trim f)) (length (trim f)))
-    (Refused 4 (fault f))))
-    (Refused 1 0)
+    (refuse NotAllowed (fault f))))
+    (refuse WrongLength 0)
 
 -- where a refusal points, 0 where there is none
-abbrev pub place_of : Packed → ℕ
-place_of (Is x) = 0
-place_of (Refused code place) = place
+abbrev pub place_of : Result Figure Refusal → ℕ
+place_of (Ok x) = 0
+place_of (Err r) = r.place
 
 -- ---- Writing
 
@@ -139,18 +143,18 @@ abbrev pub spelling : ℕ → ℕ → ℤ → List ℕ
 spelling w k x = behind_spaces w k (above x (half_of k))
 
 unfoldable pub field_of : ℕ → Figure → List ℕ
-field_of w (Given x) = spelling w (fewest w (mag x)) x
-field_of w Missing = replicate w 47
+field_of w (Some x) = spelling w (fewest w (mag x)) x
+field_of w None = replicate w 47
 
 -- a figure that w digits hold, or a missing one
 abbrev pub fitting : ℕ → Figure → Bool
-fitting w (Given x) = holds w x
-fitting w Missing = true
+fitting w (Some x) = holds w x
+fitting w None = true
 
 -- width, then figure, then room
-unfoldable pub write_code : Figure → ℕ → ℕ → ℕ
-write_code x w room = cond (width_ok w) (cond (fitting w x) (cond (leb w room) 0 2) 5) 1
+unfoldable pub write_code : Figure → ℕ → ℕ → Result (Unit {0}) Code
+write_code x w room = cond (width_ok w) (cond (fitting w x) (cond (leb w room) (Ok tt) (Err NoRoom)) (Err OutOfRange)) (Err WrongLength)
 
 -- what the buffer holds afterwards: the field and what was behind it, or all that it held
 unfoldable pub written : Figure → ℕ → List ℕ → List ℕ
-written x w out = cond (eqb (write_code x w (length out)) 0) (field_of w x ++ drop w out) out
+written x w out = cond (is_ok (write_code x w (length out))) (field_of w x ++ drop w out) out

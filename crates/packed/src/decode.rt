@@ -19,13 +19,11 @@ fn wide(b: u8) -> u32
 fn either(t: bool, a: u32, b: u32) -> u32
     ensures { result ≡ cond t a b }
 {
-    if t {
-        return a;
-    }
-    b
+    if t { a } else { b }
 }
 
 // k digits span -half(k) to half(k) - 1.
+#[tactic(auto, unfolding(crate::specs::Packed::half_of))]
 pub fn half(k: usize) -> u32
     requires { k ≤ 5 }
     ensures { result ≡ half_of k }
@@ -57,10 +55,7 @@ pub fn decode(t: &[u8; 256], f: &[u8]) -> Decoded
     ensures { result ≡ decoded f.now }
 {
     let w = f.len();
-    if w < 1 {
-        return none();
-    }
-    if 5 < w {
+    if w < 1 || 5 < w {
         return none();
     }
     let last = w - 1;
@@ -73,12 +68,12 @@ pub fn decode(t: &[u8; 256], f: &[u8]) -> Decoded
     let mut i = 0;
     while i < last {
         let b = f[i];
-        leading = leading & (b == b' ');
+        leading &= b == b' ';
         let v = either(leading, 0, wide(worth(t, b)));
-        fine = fine & (v < 40);
-        solidi = solidi & (b == b'/');
-        sum = sum + v * unit;
-        unit = unit / 40;
+        fine &= v < 40;
+        solidi &= b == b'/';
+        sum += v * unit;
+        unit /= 40;
         first = either(leading, unit, first);
         i += 1;
     }

@@ -8,22 +8,11 @@ pub mod table;
 pub mod write;
 
 // What a field or a record holds: a number, or that there is none.
-#[derive(Clone, Copy)]
-pub enum Figure {
-    Given(i32),
-    Missing,
-}
-
-// What reading a field gives: what it holds, or the refusal's code and its place in the field.
-#[derive(Clone, Copy)]
-pub enum Packed {
-    Is(Figure),
-    Refused(u8, usize),
-}
+pub type Figure = Option<i32>;
 
 // A field as it is decoded without a branch: whether it is a missing figure or a given one, and which number that is.
 // The number of any other field says nothing.
-#[derive(Clone, Copy)]
+#[derive(Clone, Copy, Debug, PartialEq, Eq)]
 pub struct Decoded {
     pub missing: bool,
     pub given: bool,

@@ -1,38 +1,40 @@
 // Reading a packed field.
-ghost use Rattle.std.specs.Prelude.{◌≡◌, ◌≤◌, length, drop};
-ghost use Rattle.packed.specs.Packed.{worths, read_packed, trim, is_solidus, is_digit, ahead, fault_behind};
+ghost use Rattle.std.specs.Prelude.{◌≡◌, ◌≤◌, ◌==◌, not, leb, length, drop, position};
+ghost use Rattle.packed.specs.Packed.{worths, worth_of, read_packed, trim, is_solidus, is_digit, ahead, fault_behind};
 ghost use Rattle.packed.specs.Inner.{refused_field};
 
+use crate::Figure;
 use crate::decode::decode;
 use crate::table::{worth, worth_table};
-use crate::{Figure, Packed};
+use text::{Code, Refusal};
+
+// Where the first byte stands that is another one than b.
+fn first_other(f: &[u8], b: u8) -> Option<usize>
+    ensures { result ≡ position (λ x. not (x == b)) f.now }
+{
+    f.iter().position(|x| *x != b)
+}
+
+// Where the first byte stands that is no digit.
+fn first_odd(t: &[u8; 256], f: &[u8]) -> Option<usize>
+    requires { t.now ≡ worths }
+    ensures { result ≡ position (λ x. leb 40 (worth_of x)) f.now }
+{
+    f.iter().position(|x| 40 <= worth(t, *x))
+}
 
 // Where the field goes on behind its leading spaces.
 fn behind_spaces(f: &[u8]) -> usize
     ensures { (result ≤ length f.now) × (drop result f.now ≡ trim f.now) }
 {
-    let mut i = 0;
-    while i < f.len() {
-        if f[i] != b' ' {
-            return i;
-        }
-        i += 1;
-    }
-    i
+    first_other(f, b' ').unwrap_or(f.len())
 }
 
 // How many solidi the field begins with.
 fn solidi_ahead(f: &[u8]) -> usize
     ensures { result ≡ ahead is_solidus f.now }
 {
-    let mut i = 0;
-    while i < f.len() {
-        if f[i] != b'/' {
-            return i;
-        }
-        i += 1;
-    }
-    i
+    first_other(f, b'/').unwrap_or(f.len())
 }
 
 // How many digits it begins with.
@@ -40,14 +42,7 @@ fn digits_ahead(t: &[u8; 256], f: &[u8]) -> usize
     requires { t.now ≡ worths }
     ensures { result ≡ ahead is_digit f.now }
 {
-    let mut i = 0;
-    while i < f.len() {
-        if 40 <= worth(t, f[i]) {
-            return i;
-        }
-        i += 1;
-    }
-    i
+    first_odd(t, f).unwrap_or(f.len())
 }
 
 // Where a field that begins with no solidus goes wrong behind its spaces: at the last of them where there is nothing else, and
@@ -60,52 +55,51 @@ fn fault_behind(t: &[u8; 256], f: &[u8]) -> usize
     let w = f.len();
     let from = behind_spaces(f);
     if from == w {
-        return w - 1;
+        w - 1
+    } else {
+        from + digits_ahead(t, &f[from..])
     }
-    from + digits_ahead(t, &f[from..])
 }
 
-// The code and place of a field that is neither missing nor a figure: only such a field is looked at again. Digits behind spaces
-// that are no figure are more than hold it.
-fn refused(t: &[u8; 256], f: &[u8]) -> Packed
+// Why a field is refused that is neither missing nor a figure: only such a field is looked at again. Digits behind spaces that are
+// no figure are more than hold it.
+fn refused(t: &[u8; 256], f: &[u8]) -> Refusal
     requires t_value { t.now ≡ worths }
     requires in_bounds { (1 ≤ length f.now) × (length f.now ≤ 5) }
     ensures { result ≡ refused_field f.now }
 {
     let solidi = solidi_ahead(f);
     if 0 < solidi {
-        return Packed::Refused(4, solidi);
+        return Code::NotAllowed.at(solidi);
     }
     let place = fault_behind(t, f);
     if place < f.len() {
-        return Packed::Refused(4, place);
+        Code::NotAllowed.at(place)
+    } else {
+        Code::OtherSpelling.at(0)
     }
-    Packed::Refused(6, 0)
 }
 
-pub fn read(t: &[u8; 256], f: &[u8]) -> Packed
+pub fn read(t: &[u8; 256], f: &[u8]) -> Result<Figure, Refusal>
     requires { t.now ≡ worths }
     ensures { result ≡ read_packed f.now }
 {
     let w = f.len();
-    if w < 1 {
-        return Packed::Refused(1, 0);
-    }
-    if 5 < w {
-        return Packed::Refused(1, 0);
+    if w < 1 || 5 < w {
+        return Err(Code::WrongLength.at(0));
     }
     let d = decode(t, f);
     if d.missing {
-        return Packed::Is(Figure::Missing);
+        return Ok(None);
     }
     if d.given {
-        return Packed::Is(Figure::Given(d.figure));
+        return Ok(Some(d.figure));
     }
-    refused(t, f)
+    Err(refused(t, f))
 }
 
 // A field that stands alone: the table is built for it.
-pub fn read_lone(f: &[u8]) -> Packed
+pub fn read_lone(f: &[u8]) -> Result<Figure, Refusal>
     ensures { result ≡ read_packed f.now }
 {
     let t = worth_table();

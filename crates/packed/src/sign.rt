@@ -17,10 +17,7 @@ pub fn less(n: u32, h: u32) -> i32
 pub fn size(x: i32) -> u32
     ensures { result ≡ mag x }
 {
-    if x < 0 {
-        return (-1 - x) as u32;
-    }
-    x as u32
+    if x < 0 { (-1 - x) as u32 } else { x as u32 }
 }
 
 // x and h together.

@@ -22,6 +22,7 @@ const DIGIT: [u8; 40] = [
     79, 80, 81, 82, 83, 84, 85, 86, 87, 88, 89, 90, 58, 44, 45, 46,
 ];
 
+#[tactic(auto, unfolding(crate::specs::Packed::worths, crate::specs::Packed::worth_of))]
 pub fn worth_table() -> [u8; 256]
     ensures { result ≡ worths }
 {
@@ -42,6 +43,7 @@ pub fn worth(t: &[u8; 256], b: u8) -> u8
     t[index(b)]
 }
 
+#[tactic(auto, unfolding(crate::specs::Packed::digits, crate::specs::Packed::digit_of))]
 pub fn digit_table() -> [u8; 40]
     ensures { result ≡ digits }
 {

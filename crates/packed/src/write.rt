@@ -19,22 +19,19 @@ use crate::Figure;
 use crate::decode::half;
 use crate::sign::{plus, size};
 use crate::table::{digit, digit_table};
-use text::fill;
+use text::{Code, fill};
 
 // The fewest digits, w at the most, that hold a figure of size m.
 fn fewest_of(w: usize, m: u32) -> usize
     requires { w ≤ 5 }
     ensures { result ≡ fewest w m }
 {
-    let mut k = w;
-    while 0 < k {
-        let j = k - 1;
+    for j in (0..w).rev() {
         if half(j) <= m {
-            return k;
+            return j + 1;
         }
-        k = j;
     }
-    k
+    0
 }
 
 fn low(n: u32) -> usize
@@ -53,7 +50,7 @@ fn spell_into(t: &[u8; 40], out: &mut [u8], n: u32)
     while 0 < i {
         i -= 1;
         out[i] = digit(t, low(v % 40));
-        v = v / 40;
+        v /= 40;
     }
 }
 
@@ -83,22 +80,17 @@ fn put_any(t: &[u8; 40], x: i32, out: &mut [u8])
 fn either(t: bool, a: u8, b: u8) -> u8
     ensures { result ≡ cond t a b }
 {
-    if t {
-        return a;
-    }
-    b
+    if t { a } else { b }
 }
 
 fn shift(t: bool) -> u32
     ensures { result ≡ cond t 20 0 }
 {
-    if t {
-        return 20;
-    }
-    0
+    if t { 20 } else { 0 }
 }
 
 // The last digit of n, which is counted from half a digit on where none stands before it.
+#[tactic(auto, unfolding(crate::specs::Inner::last_digit))]
 fn last_digit(t: &[u8; 40], n: u32, alone: bool) -> u8
     requires t_value { t.now ≡ digits }
     requires n_bound { n < 64000 }
@@ -139,6 +131,7 @@ fn put_three(t: &[u8; 40], x: i32, out: &mut [u8])
 }
 
 // A given figure, in its one spelling, as wide as what is lent.
+#[tactic(auto, unfolding(crate::specs::Packed::half_of))]
 fn put_given(t: &[u8; 40], x: i32, out: &mut [u8])
     requires t_value { t.now ≡ digits }
     requires out_len_bound { (length out.old ≤ 5) × (mag x < half_of (length out.old)) }
@@ -155,14 +148,15 @@ fn put_given(t: &[u8; 40], x: i32, out: &mut [u8])
 }
 
 // A figure, given or missing, as wide as what is lent.
+#[tactic(auto, unfolding(crate::specs::Packed::field_of))]
 pub fn put(t: &[u8; 40], figure: Figure, out: &mut [u8])
     requires t_value { t.now ≡ digits }
     requires out_len_bound { (length out.old ≤ 5) × (fitting (length out.old) figure ≡ true) }
     ensures { out.new ≡ field_of (length out.old) figure }
 {
     match figure {
-        Figure::Given(x) => put_given(t, x, out),
-        Figure::Missing => fill(out, b'/'),
+        Some(x) => put_given(t, x, out),
+        None => fill(out, b'/'),
     }
 }
 
@@ -172,38 +166,34 @@ pub fn fits(figure: Figure, w: usize) -> bool
     ensures { result ≡ fitting w figure }
 {
     match figure {
-        Figure::Given(x) => size(x) < half(w),
-        Figure::Missing => true,
+        Some(x) => size(x) < half(w),
+        None => true,
     }
 }
 
-// What writing the figure in that width into that room answers.
-pub fn code_of(figure: Figure, width: usize, room: usize) -> u8
+// Whether that room takes the figure in that width, and why not.
+#[tactic(auto, unfolding(crate::specs::Packed::write_code))]
+pub fn code_of(figure: Figure, width: usize, room: usize) -> Result<(), Code>
     ensures { result ≡ write_code figure width room }
 {
-    if width < 1 {
-        return 1;
-    }
-    if 5 < width {
-        return 1;
+    if width < 1 || 5 < width {
+        return Err(Code::WrongLength);
     }
     if !fits(figure, width) {
-        return 5;
+        return Err(Code::OutOfRange);
     }
     if room < width {
-        return 2;
+        return Err(Code::NoRoom);
     }
-    0
+    Ok(())
 }
 
 // A field that stands alone, at the start of what is lent, or nothing and the refusal's code.
-pub fn write_lone(figure: Figure, width: usize, out: &mut [u8]) -> u8
+pub fn write_lone(figure: Figure, width: usize, out: &mut [u8]) -> Result<(), Code>
     ensures { (result ≡ write_code figure width (length out.old)) × (out.new ≡ written figure width out.old) }
 {
-    let code = code_of(figure, width, out.len());
-    if code == 0 {
-        let t = digit_table();
-        put(&t, figure, &mut out[..width]);
-    }
-    code
+    code_of(figure, width, out.len())?;
+    let t = digit_table();
+    put(&t, figure, &mut out[..width]);
+    Ok(())
 }

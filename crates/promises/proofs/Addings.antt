@@ -7,7 +7,6 @@ use native.Mathlib.Omega.{arith}
 use lib.ListN.{length, set}
 use Rattle.text.specs.Names.{is_designator}
 use Rattle.text.specs.Over.{over}
-use Rattle.text.specs.declared.Seen.TheVariants.{Fine}
 use Rattle.text.proofs.Cases.{by_test, by_eq}
 use Rattle.text.proofs.Equal.{same_self}
 use Rattle.command.specs.Text.{longest, check_command}
@@ -28,6 +27,7 @@ use Rattle.promises.specs.Board.{AddingAnswers, Stores}
 use Rattle.promises.proofs.Waits.{none-free-said, lowest-free, used-place, place-used, nothing_said}
 use Rattle.promises.proofs.InRun.{in_run, next-lent, next-heard, answer-due, none_said}
 use Rattle.promises.proofs.Codes.{told_where, designator-said, accepted-fine, accepted-said, own-numbers, AddingCodes, adding_codes}
+use Rattle.std.specs.Prelude.{Ok}
 
 -- one more is joined on
 join_snoc : (ts : List (List ℕ)) (t : List ℕ) → (¬ (ts ≡ []) → is_none (join_of ts) ≡ false) → join_of (ts ++ (t ∷ [])) ≡ onto (join_of ts) t
@@ -105,7 +105,7 @@ module _ (r : Run) (d t : List ℕ) where
     named : is_designator d ≡ true
     named = (designator-said d).so_yes (addings.zero.0 e).0
 
-    is-fine : check_command t ≡ Fine
+    is-fine : check_command t ≡ (Ok tt)
     is-fine = accepted-fine t (addings.zero.0 e).1
 
     -- the aircraft's own

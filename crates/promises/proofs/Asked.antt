@@ -12,6 +12,8 @@ use Rattle.board.specs.Calls.{Lent, call, on_lent, after_calls, logged_calls}
 use Rattle.board.proofs.Coded.{Coded, call-coded, take-area}
 use Rattle.desk.specs.Waiting.{reply_numbers}
 use Rattle.promises.specs.BoardRuns.{Call, Add, Take, move_of, answer_to, lent_after, after_all, Told, log_from, heard, heard_from}
+use Rattle.text.specs.Codes.{number_of}
+use Rattle.text.proofs.Codes.{numbered}
 
 -- ---- Calls as events
 
@@ -41,19 +43,19 @@ after-asked (c ∷ cs) x =
     after-asked cs (lent_after x c) ∙ ap (λ (y : Lent). after_calls y (map asked cs)) (lent-asked x c)
 
 -- an answer's code says whether a call was heard
-heard-move : (d : List ℕ) (ts : List (List ℕ)) (c : Call) (m : Move) → Coded m
+heard-move : (d : List ℕ) (ts : List (List ℕ)) (c : Call) (m : Move)
     → heard d ts c (reply_numbers (reply_of m)).code ≡ heardOf d ts (asked c) (reply_of m)
-heard-move d ts (Add e t) (Stay code place) l = rw (ne_eqb code 0 (λ (z : code ≡ 0). omega arith))
-heard-move d ts (Add e t) (Put i f u) l = refl
-heard-move d ts (Add e t) (Free i u) l = refl
-heard-move d ts (Take e out) (Stay code place) l = rw (ne_eqb code 0 (λ (z : code ≡ 0). omega arith))
-heard-move d ts (Take e out) (Put i f u) l = refl
-heard-move d ts (Take e out) (Free i u) l = refl
+heard-move d ts (Add e t) (Stay code place) = let l = (numbered code).least in rw (ne_eqb (number_of code) 0 (λ (z : number_of code ≡ 0). omega arith))
+heard-move d ts (Add e t) (Put i f u) = refl
+heard-move d ts (Add e t) (Free i u) = refl
+heard-move d ts (Take e out) (Stay code place) = let l = (numbered code).least in rw (ne_eqb (number_of code) 0 (λ (z : number_of code ≡ 0). omega arith))
+heard-move d ts (Take e out) (Put i f u) = refl
+heard-move d ts (Take e out) (Free i u) = refl
 
 pub heard-asked : (d : List ℕ) (ts : List (List ℕ)) (x : Lent) (c : Call)
     → heard d ts c (answer_to x c).code ≡ heardOf d ts (asked c) (reply_of (call x (asked c)))
 heard-asked d ts x c =
-    heard-move d ts c (move_of x c) (move-coded x c) ∙ ap (λ (m : Move). heardOf d ts (asked c) (reply_of m)) (move-asked x c)
+    heard-move d ts c (move_of x c) ∙ ap (λ (m : Move). heardOf d ts (asked c) (reply_of m)) (move-asked x c)
 
 -- so do all answers of a run
 pub since-asked : (d : List ℕ) (cs : List Call) (x : Lent) (ts : List (List ℕ))

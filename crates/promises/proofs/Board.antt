@@ -20,7 +20,6 @@ use Rattle.board.proofs.WaitingSlots.{never}
 use Rattle.board.specs.Words.{ValidBoard}
 use Rattle.board.proofs.Calls.{run_lent, free-empty, call-ten}
 use Rattle.board.proofs.LentWords.{valid-said, said-valid, adds}
-use Rattle.board.proofs.Coded.{Coded}
 use Rattle.board.proofs.Lent.{length-board}
 use Rattle.board.proofs.Words.{alike}
 use Rattle.desk.specs.Numbers.{answer_of}
@@ -28,13 +27,16 @@ use Rattle.desk.specs.Waiting.{reply_numbers, board_numbers}
 use Rattle.desk.specs.declared.Answer.{Answer}
 use Rattle.promises.specs.BoardRuns.{Call, Add, Take, aircraft, move_of, answer_to, lent_after, buffer_of, buffer_after, Run, now, told, next, log_from, log, heard, accepted_for, join_of, Waits}
 use Rattle.promises.specs.Board.{Untouched, IsRefusal, BoardPromises}
-use Rattle.promises.proofs.Asked.{move-coded, log-alike}
+use Rattle.promises.proofs.Asked.{log-alike}
 use Rattle.promises.proofs.Waits.{began-free, began-shaped, waits_in, in_waits, waits-some}
 use Rattle.promises.proofs.InRun.{in_run, next-heard}
 use Rattle.promises.proofs.Codes.{fine-accepted}
 use Rattle.promises.proofs.Waiting.{waits, none, fine, short, acts}
 use Rattle.promises.proofs.Takings.{takings, hands-over, codes as taking_codes}
 use Rattle.promises.proofs.Addings.{addings, stores, codes as adding_codes}
+use Rattle.text.specs.Codes.{number_of}
+use Rattle.text.proofs.Codes.{numbered}
+use Rattle.text.specs.declared.Code.{Code}
 
 -- ---- Any call
 
@@ -109,18 +111,18 @@ no_text (Free i t) = refl
 refusals : (x : Lent) (c : Call) → ¬ ((answer_to x c).code ≡ 0) → Untouched x c
 refusals x c n = go (move_of x c) refl
   where
-    lent : (a : Call) (code place : ℕ) → move_of x a ≡ Stay code place → lent_after x a ≡ x
+    lent : (a : Call) (code : Code) (place : ℕ) → move_of x a ≡ Stay code place → lent_after x a ≡ x
     lent (Add d t) code place e =
         ap (λ (m : Move). record { slots = on_slots m x.slots; area = on_area m x.area }) e
     lent (Take d out) code place e = ap (λ (m : Move). record { slots = on_slots m x.slots; area = x.area }) e
 
-    buffer : (a : Call) (code place : ℕ) → move_of x a ≡ Stay code place → buffer_after x a ≡ buffer_of a
+    buffer : (a : Call) (code : Code) (place : ℕ) → move_of x a ≡ Stay code place → buffer_after x a ≡ buffer_of a
     buffer (Add d t) code place e = refl
     buffer (Take d out) code place e = ap (λ (m : Move). on_out m out) e
 
     go : (m : Move) → move_of x c ≡ m → Untouched x c
     go (Stay code place) e =
-        let a : answer_to x c ≡ answer_of code place = ap (λ (m : Move). reply_numbers (reply_of m)) e in
+        let a : answer_to x c ≡ answer_of (number_of code) place = ap (λ (m : Move). reply_numbers (reply_of m)) e in
         record {
           bare = a ∙ ap (λ (z : Answer). answer_of z.code z.place) (sym a);
           lent = lent c code place e;
@@ -131,12 +133,12 @@ refusals x c n = go (move_of x c) refl
 
 -- and has another code than 0
 coded : (x : Lent) (c : Call) → ((answer_to x c).code ≡ 0) ↔ (¬ IsRefusal (move_of x c))
-coded x c = go (move_of x c) (move-coded x c)
+coded x c = go (move_of x c)
   where
-    go : (m : Move) → Coded m → ((reply_numbers (reply_of m)).code ≡ 0) ↔ (¬ IsRefusal m)
-    go (Stay code place) l = (λ (z : code ≡ 0). absurd (omega arith), λ n. absurd (n tt))
-    go (Put i d t) l = (λ z u. u, λ n. refl)
-    go (Free i t) l = (λ z u. u, λ n. refl)
+    go : (m : Move) → ((reply_numbers (reply_of m)).code ≡ 0) ↔ (¬ IsRefusal m)
+    go (Stay code place) = let l = (numbered code).least in (λ (z : number_of code ≡ 0). absurd (omega arith), λ n. absurd (n tt))
+    go (Put i d t) = (λ z u. u, λ n. refl)
+    go (Free i t) = (λ z u. u, λ n. refl)
 
 -- ---- Validity
 

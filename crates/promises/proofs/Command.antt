@@ -7,14 +7,15 @@ use native.Mathlib.Omega.{arith}
 use native.Mathlib.Nat.{zero-add}
 use lib.ListN.{length, take, drop}
 use lib.Seq.{take_at, drop_at}
+use Rattle.text.specs.Checks.{◌and_then◌}
+use Rattle.text.specs.Codes.{number_of}
 use Rattle.text.specs.Over.{over}
-use Rattle.text.specs.declared.Seen.{Seen}
-use Rattle.text.specs.declared.Seen.TheVariants.{Fine, Bad}
+use Rattle.text.proofs.Codes.{numbered}
 use Rattle.section.specs.Layout.{layout_of, table_of, items_most}
 use Rattle.settings.specs.Valid.{no_settings as emptySettings}
 use Rattle.settings.specs.Settings.{settings_from, regions_from, airports_from, enroute_from, ascent_from, hours_from}
 use Rattle.command.specs.Text.{check_awr04, check_head, sections_most, check_command}
-use Rattle.command.specs.Record.{command_of, got, read_command, command_text, write_seen, left_by, no_command as emptyCommand}
+use Rattle.command.specs.Record.{command_of, read_command, command_text, write_seen, left_by, no_command as emptyCommand}
 use Rattle.command.specs.Allowed.{allowed_command}
 use Rattle.command.specs.Examples.{longest_text, examples, AllReadBack}
 use Rattle.command.specs.declared.Command.{Command}
@@ -23,7 +24,6 @@ use Rattle.command.proofs.Examples.{examples-read, longest-text}
 use Rattle.command_write.specs.Filled.{Filled}
 use Rattle.command_write.proofs.RoundTrip as round
 use Rattle.command_write.proofs.Allowed as written-allowed
-use Rattle.command_write.proofs.Codes.{write-coded}
 use Rattle.desk.specs.Numbers.{accepted, answer_of, check_numbers, write_numbers}
 use Rattle.desk.specs.Commands.{command_numbers}
 use Rattle.desk.specs.declared.Answer.{Answer}
@@ -31,18 +31,20 @@ use Rattle.promises.specs.Command.{check, read, write, written, CommandPromises}
 use Rattle.promises.specs.Zero.{no_command}
 use Rattle.promises.proofs.Codes.{accepted-fine}
 use Rattle.promises.proofs.Sections.{means}
+use Rattle.std.specs.Prelude.{Result, Ok, Err}
+use Rattle.text.specs.declared.Refusal.{Refusal}
 
 -- ---- What was seen, by the code
 
-fine-check : (s : List ℕ) → check_command s ≡ Fine → check s ≡ accepted 0
+fine-check : (s : List ℕ) → check_command s ≡ Ok tt → check s ≡ accepted 0
 fine-check s e = rw e
 
-write-fine : (c : Command) (out : List ℕ) → (write c out).code ≡ 0 → write_seen c (length out) ≡ Fine
+write-fine : (c : Command) (out : List ℕ) → (write c out).code ≡ 0 → write_seen c (length out) ≡ Ok tt
 write-fine c out e = go (write_seen c (length out)) refl e
   where
-    go : (x : Seen) → write_seen c (length out) ≡ x → (write_numbers x (length (command_text c))).code ≡ 0 → write_seen c (length out) ≡ Fine
-    go Fine h z = h
-    go (Bad code place) h z = let l = (write-coded c (length out) code place h).0 in let w : code ≡ 0 = z in absurd (omega arith)
+    go : (x : Result (Unit {0}) Refusal) → write_seen c (length out) ≡ x → (write_numbers x (length (command_text c))).code ≡ 0 → write_seen c (length out) ≡ Ok tt
+    go (Ok u) h z = h
+    go (Err r) h z = let l = (numbered r.code).least in let w : number_of r.code ≡ 0 = z in absurd (omega arith)
 
 -- ---- Reading
 
@@ -50,11 +52,11 @@ one_answer : (s : List ℕ) → (read s).answer ≡ check s
 unfolding command_numbers read_command
 one_answer s = go (check_command s)
   where
-    go : (x : Seen) → answer_of (got x (command_of s)).code (got x (command_of s)).place ≡ check_numbers x
-    go Fine = refl
-    go (Bad code place) = refl
+    go : (x : Result (Unit {0}) Refusal) → (command_numbers (x and_then Ok (command_of s))).answer ≡ check_numbers x
+    go (Ok u) = refl
+    go (Err r) = refl
 
-read_is : (s : List ℕ) → check_command s ≡ Fine → (read s).command ≡ command_of s
+read_is : (s : List ℕ) → check_command s ≡ Ok tt → (read s).command ≡ command_of s
 unfolding command_numbers read_command
 read_is s e = rw e
 
@@ -66,14 +68,15 @@ refused : (s : List ℕ) → ¬ ((check s).code ≡ 0) → ((read s).command ≡
 unfolding command_numbers read_command
 refused s n = go (check_command s) n
   where
-    go : (x : Seen) → ¬ ((check_numbers x).code ≡ 0) → ((got x (command_of s)).command ≡ no_command) × ((check_numbers x).length ≡ 0)
-    go Fine m = absurd (m refl)
-    go (Bad code place) m = (empty-is, refl)
+    go : (x : Result (Unit {0}) Refusal) → ¬ ((check_numbers x).code ≡ 0)
+        → ((command_numbers (x and_then Ok (command_of s))).command ≡ no_command) × ((check_numbers x).length ≡ 0)
+    go (Ok u) m = absurd (m refl)
+    go (Err r) m = (empty-is, refl)
 
 -- ---- Writing
 
 module _ (c : Command) (out : List ℕ) (full : Filled c) (k : allowed_command c ≡ true) (room : length (command_text c) ≤ length out) where
-  seen_it : write_seen c (length out) ≡ Fine
+  seen_it : write_seen c (length out) ≡ Ok tt
   seen_it = (written-allowed.writes-allowed c (length out) full).1 (k, room)
 
   wrote_it : write c out ≡ accepted (length (command_text c))
@@ -100,15 +103,15 @@ unwritten : (c : Command) (out : List ℕ) → ¬ ((write c out).code ≡ 0)
     → (written c out ≡ out) × (write c out ≡ answer_of (write c out).code (write c out).place)
 unwritten c out n = go (write_seen c (length out)) n
   where
-    go : (x : Seen) → ¬ ((write_numbers x (length (command_text c))).code ≡ 0)
+    go : (x : Result (Unit {0}) Refusal) → ¬ ((write_numbers x (length (command_text c))).code ≡ 0)
         → (left_by x (command_text c) out ≡ out)
         × (write_numbers x (length (command_text c)) ≡ answer_of (write_numbers x (length (command_text c))).code (write_numbers x (length (command_text c))).place)
-    go Fine m = absurd (m refl)
-    go (Bad code place) m = (refl, refl)
+    go (Ok u) m = absurd (m refl)
+    go (Err r) m = (refl, refl)
 
 -- ---- Both ways
 
-allowed-read : (s : List ℕ) → check_command s ≡ Fine → (allowed_command (command_of s) ≡ true) × Filled (command_of s)
+allowed-read : (s : List ℕ) → check_command s ≡ Ok tt → (allowed_command (command_of s) ≡ true) × Filled (command_of s)
 allowed-read s f =
     let full = written-allowed.read-filled s (acceptedParts s f) in
     (written-allowed.fine-allowed (command_of s) full (round.read-write s f).0, full)

@@ -8,8 +8,6 @@ use native.Mathlib.Omega.{arith}
 use lib.Dec.{leb, eqb}
 use lib.ListN.{length}
 use borrow.Author.Tests.{eqb-true, eqb-false, ne_eqb, not-true, le-leb}
-use Rattle.text.specs.declared.Seen.{Seen}
-use Rattle.text.specs.declared.Seen.TheVariants.{Fine, Bad}
 use Rattle.text.proofs.Cases.{both_left, both_right}
 use Rattle.text.specs.Bytes.{bytes}
 use Rattle.text.specs.Equal.{same_bytes}
@@ -26,9 +24,8 @@ use Rattle.config.proofs.Valid.{applies_valid, reset-valid}
 use Rattle.join.specs.Join.{Joined, join_text, join, joined_over}
 use Rattle.join.specs.Join as J
 use Rattle.join.proofs.Laws.{join-short, join-same}
-use Rattle.commute.specs.Commute.{sets, flag_of, flag_apart, section_apart, flag_numbers, bits_of, bit, by_seen, compared}
+use Rattle.commute.specs.Commute.{sets, flag_of, flag_apart, section_apart, flag_numbers, bits_of, bit, by_seen, compared, all_apart}
 use Rattle.commute.specs.Order.{EitherWay, Agree}
-use Rattle.commute.specs.declared.Compared.TheVariants.{Apart}
 use Rattle.commute.proofs.Order.{either_way, either_joins, reset-agree, join_earlier}
 use Rattle.commute.proofs.Answer.{compared_is, flag-bit, flags-small, section-bit, sections-small, none_either}
 use Rattle.desk.specs.Numbers.{check_numbers}
@@ -41,11 +38,13 @@ use Rattle.promises.specs.Commute.{commute_answer, refusing, answering, BothOrde
 use Rattle.promises.proofs.Codes.{accepted-fine, fine-accepted}
 use Rattle.promises.proofs.Configuration.{valid-zero, zero-valid}
 use Rattle.promises.proofs.Join.{kept-is}
+use Rattle.std.specs.Prelude.{Result, Ok, Err}
+use Rattle.text.specs.declared.Refusal.{Refusal}
 
 -- ---- In the host's words
 
 -- what esk_apply leaves after both
-kept-both : (g : Settings) (a b : List ℕ) → valid g ≡ true → check_command a ≡ Fine → check_command b ≡ Fine
+kept-both : (g : Settings) (a b : List ℕ) → valid g ≡ true → check_command a ≡ (Ok tt) → check_command b ≡ (Ok tt)
     → kept (kept g a) b ≡ apply_to (apply_to g a) b
 kept-both g a b v x y =
     let e = kept-is g a v x in
@@ -77,10 +76,10 @@ module _ (a b : List ℕ) where
 -- ---- The law
 
 module _ (a b : List ℕ) (p : IsAccepted a) (q : IsAccepted b) where
-  abbrev x : check_command a ≡ Fine
+  abbrev x : check_command a ≡ (Ok tt)
   x = accepted-fine a p
 
-  abbrev y : check_command b ≡ Fine
+  abbrev y : check_command b ≡ (Ok tt)
   y = accepted-fine b q
 
   orders_either : BothOrders a b → EitherWay a b
@@ -203,46 +202,46 @@ accepts a b = (
   λ s. rw (accepted-fine a s.0, accepted-fine b s.1),
 )
   where
-    go : (x y : Seen) → check_command a ≡ x → check_command b ≡ y
-        → (commute_numbers (by_seen x y (Apart (bits_of (flag_apart a b) flag_numbers) (bits_of (section_apart a b) numbers)))).code ≡ 0
-        → (x ≡ Fine) × (y ≡ Fine)
-    go (Bad c p) y e f z = let l = (check-coded a c p e).0 in absurd (omega arith)
-    go Fine (Bad c p) e f z = let l = (check-coded b c p f).0 in absurd (omega arith)
-    go Fine Fine e f z = (refl, refl)
+    go : (x y : Result (Unit {0}) Refusal) → check_command a ≡ x → check_command b ≡ y
+        → (commute_numbers (by_seen x y (all_apart a b))).code ≡ 0
+        → (x ≡ (Ok tt)) × (y ≡ (Ok tt))
+    go (Err r) y e f z = let l = (check-coded a r e).0 in absurd (omega arith)
+    go (Ok u) (Err r) e f z = let l = (check-coded b r f).0 in absurd (omega arith)
+    go (Ok u) (Ok v) e f z = (refl, refl)
 
 first-refused : (a b : List ℕ) → ¬ IsAccepted a → commute_answer a b ≡ refusing 1 (check_numbers (check_command a))
 unfolding compared
 first-refused a b n = go (check_command a) n
   where
-    go : (x : Seen) → ¬ ((check_numbers x).code ≡ 0)
-        → commute_numbers (by_seen x (check_command b) (Apart (bits_of (flag_apart a b) flag_numbers) (bits_of (section_apart a b) numbers)))
+    go : (x : Result (Unit {0}) Refusal) → ¬ ((check_numbers x).code ≡ 0)
+        → commute_numbers (by_seen x (check_command b) (all_apart a b))
         ≡ refusing 1 (check_numbers x)
-    go Fine m = absurd (m refl)
-    go (Bad c p) m = refl
+    go (Ok u) m = absurd (m refl)
+    go (Err r) m = refl
 
 second-refused : (a b : List ℕ) → IsAccepted a → ¬ IsAccepted b → commute_answer a b ≡ refusing 2 (check_numbers (check_command b))
 unfolding compared
 second-refused a b x n = rw (accepted-fine a x) (go (check_command b) n)
   where
-    go : (y : Seen) → ¬ ((check_numbers y).code ≡ 0)
-        → commute_numbers (by_seen Fine y (Apart (bits_of (flag_apart a b) flag_numbers) (bits_of (section_apart a b) numbers)))
+    go : (y : Result (Unit {0}) Refusal) → ¬ ((check_numbers y).code ≡ 0)
+        → commute_numbers (by_seen (Ok tt) y (all_apart a b))
         ≡ refusing 2 (check_numbers y)
-    go Fine m = absurd (m refl)
-    go (Bad c p) m = refl
+    go (Ok u) m = absurd (m refl)
+    go (Err r) m = refl
 
 as_join : (a b out : List ℕ) → longest ≤ length out → AsJoin (commute_answer a b) (join_answer a b out)
 unfolding compared join
 as_join a b out l = go (check_command a) (check_command b) refl refl
   where
-    fits : check_command a ≡ Fine → check_command b ≡ Fine → leb (length (join_text a b)) (length out) ≡ true
+    fits : check_command a ≡ (Ok tt) → check_command b ≡ (Ok tt) → leb (length (join_text a b)) (length out) ≡ true
     fits x y = le-leb (length (join_text a b)) (length out) (omega (arith, l, join-short a b x y))
 
-    go : (x y : Seen) → check_command a ≡ x → check_command b ≡ y
-        → AsJoin (commute_numbers (by_seen x y (Apart (bits_of (flag_apart a b) flag_numbers) (bits_of (section_apart a b) numbers))))
+    go : (x y : Result (Unit {0}) Refusal) → check_command a ≡ x → check_command b ≡ y
+        → AsJoin (commute_numbers (by_seen x y (all_apart a b)))
         (join_numbers (J.by_seen x y (join_text a b) (length out)))
-    go (Bad c p) y e f = record { code = refl; place = refl; text = refl }
-    go Fine (Bad c p) e f = record { code = refl; place = refl; text = refl }
-    go Fine Fine e f = rw (fits e f) (record { code = refl; place = refl; text = refl })
+    go (Err r) y e f = record { code = refl; place = refl; text = refl }
+    go (Ok u) (Err r) e f = record { code = refl; place = refl; text = refl }
+    go (Ok u) (Ok v) e f = rw (fits e f) (record { code = refl; place = refl; text = refl })
 
 -- ---- All of it
 

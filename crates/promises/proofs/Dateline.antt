@@ -8,8 +8,6 @@ use native.Mathlib.Omega.{arith}
 use lib.Dec.{eqb}
 use lib.ListN.{length, get_or}
 use borrow.Author.Tests.{leb-false}
-use Rattle.text.specs.declared.Seen.{Seen}
-use Rattle.text.specs.declared.Seen.TheVariants.{Fine, Bad}
 use Rattle.text.proofs.Cases.{by_test}
 use Rattle.field.specs.Boxes.{latitude, line_of, edge_at}
 use Rattle.field.specs.declared.Region.{Region}
@@ -27,10 +25,16 @@ use Rattle.promises.specs.Command.{check, read, write}
 use Rattle.promises.specs.Configuration.{check as checkSettings}
 use Rattle.promises.specs.Dateline.{latitude_at, SouthAbove, Relays, relaid_settings, relaid_command, DatelinePromises}
 use Rattle.promises.specs.Sections.{number_at, past_boxes}
+use Rattle.promises.proofs.Codes.{number_apart}
 use Rattle.promises.proofs.Command.{command_promises}
 use Rattle.promises.proofs.Configuration.{configuration_promises}
 use Rattle.promises.proofs.Relaid.{settings-kept, command-kept, length-kept}
 use Rattle.promises.proofs.Sevens.{Disagrees, check-seven}
+use Rattle.std.specs.Prelude.{Result, Ok, Err}
+use Rattle.text.specs.Checks.{refuse}
+use Rattle.text.specs.declared.Refusal.{Refusal}
+use Rattle.text.specs.declared.Code.TheVariants.{Disagree}
+use Rattle.text.specs.declared.Code.{Code}
 
 -- ---- Where 7 stands
 
@@ -66,9 +70,9 @@ south-above s p d =
 seven : (s : List ℕ) → (check s).code ≡ 7 → SouthAbove s (check s).place
 seven s e = go (check_command s) (λ p f. check-seven s p f) e
   where
-    go : (x : Seen) → ((p : ℕ) → x ≡ Bad 7 p → Disagrees s p) → (check_numbers x).code ≡ 7 → SouthAbove s (check_numbers x).place
-    go Fine f z = absurd (omega arith)
-    go (Bad code place) f z = south-above s place (f place (ap (λ (c : ℕ). Bad c place) z))
+    go : (x : Result (Unit {0}) Refusal) → ((p : ℕ) → x ≡ refuse Disagree p → Disagrees s p) → (check_numbers x).code ≡ 7 → SouthAbove s (check_numbers x).place
+    go (Ok u) f z = absurd (omega arith)
+    go (Err r) f z = south-above s r.place (f r.place (ap (λ (c : Code). refuse c r.place) (number_apart r.code Disagree z)))
 
 -- ---- Other longitudes
 

@@ -9,7 +9,6 @@ use lib.ListN.{length, get_or, drop, replicate, length-append, length-replicate,
 use borrow.Author.Tests.{le-leb, lt-leb}
 use Rattle.text.specs.Bytes.{bytes}
 use Rattle.text.specs.Over.{over}
-use Rattle.text.specs.declared.Seen.TheVariants.{Fine}
 use Rattle.text.proofs.Cases.{by_test, both_left, both_right}
 use Rattle.text.specs.Equal.{same_bytes}
 use Rattle.field.specs.Decimal.{all_digits, value_from, digits_before}
@@ -26,7 +25,6 @@ use Rattle.command.specs.Sections.{is_one_of, place_from}
 use Rattle.command.proofs.Accepted.{accepted}
 use Rattle.config.specs.Config.{new_flags, apply_to, kept}
 use Rattle.config.proofs.Valid.{applies_valid, reset-valid}
-use Rattle.config.proofs.Kept.{applied-zero, applied-digit}
 use Rattle.join.specs.Join.{no_change_text}
 use Rattle.commute.specs.Commute.{sets, flag_of}
 use Rattle.commute.proofs.Numbered.{each_of}
@@ -40,8 +38,9 @@ use Rattle.desk.specs.declared.HostDiffering.{HostDiffering}
 use Rattle.promises.specs.Difference.{difference_answer, Declared, IsListed, ListOf, Makes, SetsFlag, SetsSection, CommandOf, Written, Refused, DifferencePromises}
 use Rattle.promises.proofs.Codes.{accepted-fine, fine-accepted}
 use Rattle.promises.proofs.Commute.{set_is}
-use Rattle.promises.proofs.Configuration.{valid-zero, zero-valid}
+use Rattle.promises.proofs.Configuration.{valid-zero, zero-valid, applied-zero, applied-digit}
 use Rattle.promises.proofs.Join.{kept-is}
+use Rattle.std.specs.Prelude.{Ok}
 
 -- ---- The list
 
@@ -54,7 +53,7 @@ past_end (j ∷ js) m (suc n) h = past_end js m n (omega arith)
 
 -- an answer that lists js
 abbrev told : List ℕ → ℕ → HostDiffering
-told js n = difference_numbers (answered js n)
+told js n = difference_numbers (Ok (answered js n))
 
 module _ (js : List ℕ) (n : ℕ) where
   listed-one : (j : ℕ) → IsListed (told js n) j ↔ (is_one_of js j ≡ true)
@@ -157,7 +156,7 @@ module _ (a b : Settings) (first : Declared a) (second : Declared b) (va : valid
   abbrev ans : HostDiffering
   ans = told (differing a b) n
 
-  fine : check_command c ≡ Fine
+  fine : check_command c ≡ Ok tt
   fine = text-fine a b vb second
 
   done : apply_to a c ≡ b
@@ -261,7 +260,7 @@ module _ (a b : Settings) (out : List ℕ) where
 abbrev sent : List ℕ
 sent = bytes "AWR040999999200000009/2301/"
 
-sent-fine : check_command sent ≡ Fine
+sent-fine : check_command sent ≡ Ok tt
 unfolding check_command check_head check_awr04 same_bytes check_each check_delimiter check_from layout_of table_of check_items check_digits all_digits value_from
 sent-fine = refl
 

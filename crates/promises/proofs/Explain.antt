@@ -11,8 +11,8 @@ use Rattle.decide.specs.Reason.{reason_for, explained, decided_by, decided}
 use Rattle.decide.specs.Why.{When}
 use Rattle.decide.specs.declared.Reason.{Reason}
 use Rattle.decide.specs.declared.Reason.TheVariants.{AmdarOff, Hours, InhibitingBox, NoReportingBox, FlagOn, Digit, FlagOff, AirfieldInhibited, AirfieldNotSelected}
-use Rattle.decide.specs.declared.Explained.{Explained}
-use Rattle.decide.specs.declared.Explained.TheVariants.{Because, Refusal}
+use Rattle.std.specs.Prelude.{Result, Ok, Err}
+use Rattle.text.specs.declared.Code.{Code}
 use Rattle.decide.proofs.Why.{some-reason, exactly}
 use Rattle.desk.specs.Decisions.{decided_numbers, reason_code, reason_number, explained_numbers}
 use Rattle.promises.specs.Explain.{told, Asked, Names, Reasons, ExplainPromises}
@@ -65,23 +65,23 @@ bare_of AirfieldNotSelected a b c d = refl
 -- ---- A question that is not refused
 
 module _ (x : Settings) (q : Question) (a : Asked x q) where
-  is : explained x q ≡ Because (reason_for x q)
+  is : explained x q ≡ Ok (reason_for x q)
   is = some-reason x q a.settings a.range a.airfield
 
-  when : (e : Reason) → (explained x q ≡ Because e) ↔ When x q e
+  when : (e : Reason) → (explained x q ≡ Ok e) ↔ When x q e
   when e = exactly x q a.settings a.range a.airfield e
 
   reason-is : (told x q).reason ≡ reason_code (reason_for x q)
-  reason-is = ap (λ (e : Explained). (explained_numbers e).reason) is
+  reason-is = ap (λ (e : Result Reason Code). (explained_numbers e).reason) is
 
   number_is : (told x q).number ≡ reason_number (reason_for x q)
-  number_is = ap (λ (e : Explained). (explained_numbers e).number) is
+  number_is = ap (λ (e : Result Reason Code). (explained_numbers e).number) is
 
   -- the numbers that were told are those of the reason that was given
-  given_is : {e : Reason} (c n : ℕ) → (told x q).reason ≡ c → (told x q).number ≡ n → reason_of c n ≡ e → explained x q ≡ Because e
+  given_is : {e : Reason} (c n : ℕ) → (told x q).reason ≡ c → (told x q).number ≡ n → reason_of c n ≡ e → explained x q ≡ Ok e
   given_is c n f g k =
       is
-      ∙ ap Because
+      ∙ ap Ok
       (told-apart (reason_for x q)
       ∙ ap (λ (m : ℕ). reason_of m (reason_number (reason_for x q))) (sym reason-is ∙ f)
       ∙ ap (reason_of c) (sym number_is ∙ g)
@@ -91,7 +91,7 @@ module _ (x : Settings) (q : Question) (a : Asked x q) where
   plain : (c : ℕ) (e : Reason) → reason_code e ≡ c → ((n : ℕ) → reason_of c n ≡ e) → ((told x q).reason ≡ c) ↔ When x q e
   plain c e k d = (
     λ h. (when e).0 (given_is c (told x q).number h refl (d (told x q).number)),
-    λ w. ap (λ (z : Explained). (explained_numbers z).reason) ((when e).1 w) ∙ k,
+    λ w. ap (λ (z : Result Reason Code). (explained_numbers z).reason) ((when e).1 w) ∙ k,
   )
 
   -- and one that names a box, a flag or a section
@@ -99,8 +99,8 @@ module _ (x : Settings) (q : Question) (a : Asked x q) where
   naming c n e k m d = (
     λ h. (when e).0 (given_is c n h.0 h.1 d),
     λ w. (
-      ap (λ (z : Explained). (explained_numbers z).reason) ((when e).1 w) ∙ k,
-      ap (λ (z : Explained). (explained_numbers z).number) ((when e).1 w) ∙ m,
+      ap (λ (z : Result Reason Code). (explained_numbers z).reason) ((when e).1 w) ∙ k,
+      ap (λ (z : Result Reason Code). (explained_numbers z).number) ((when e).1 w) ∙ m,
     ),
   )
 
@@ -123,26 +123,26 @@ module _ (x : Settings) (q : Question) (a : Asked x q) where
 
 -- ---- Every question
 
-same_code : (e : Explained) → (explained_numbers e).code ≡ (decided_numbers (decided_by e)).code
-same_code (Because r) = refl
-same_code (Refusal code) = refl
+same_code : (e : Result Reason Code) → (explained_numbers e).code ≡ (decided_numbers (decided_by e)).code
+same_code (Ok r) = refl
+same_code (Err code) = refl
 
-same_place : (e : Explained) → (explained_numbers e).place ≡ (decided_numbers (decided_by e)).place
-same_place (Because r) = refl
-same_place (Refusal code) = refl
+same_place : (e : Result Reason Code) → (explained_numbers e).place ≡ (decided_numbers (decided_by e)).place
+same_place (Ok r) = refl
+same_place (Err code) = refl
 
-same-decision : (e : Explained) → (explained_numbers e).decision ≡ (decided_numbers (decided_by e)).decision
-same-decision (Because r) = refl
-same-decision (Refusal code) = refl
+same-decision : (e : Result Reason Code) → (explained_numbers e).decision ≡ (decided_numbers (decided_by e)).decision
+same-decision (Ok r) = refl
+same-decision (Err code) = refl
 
-unnamed : (e : Explained) → ¬ ((explained_numbers e).code ≡ 0)
+unnamed : (e : Result Reason Code) → ¬ ((explained_numbers e).code ≡ 0)
     → ((explained_numbers e).reason ≡ 0) × ((explained_numbers e).number ≡ 0)
-unnamed (Because r) n = absurd (n refl)
-unnamed (Refusal code) n = (refl, refl)
+unnamed (Ok r) n = absurd (n refl)
+unnamed (Err code) n = (refl, refl)
 
-no-spare : (e : Explained) → (explained_numbers e).spare ≡ 0
-no-spare (Because r) = refl
-no-spare (Refusal code) = refl
+no-spare : (e : Result Reason Code) → (explained_numbers e).spare ≡ 0
+no-spare (Ok r) = refl
+no-spare (Err code) = refl
 
 pub explain_promises : ExplainPromises
 unfolding decided

@@ -9,8 +9,6 @@ use native.Mathlib.Nat.{zero-add}
 use lib.Dec.{leb}
 use lib.ListN.{length, take, drop}
 use borrow.Author.Tests.{leb-true, le-leb, lt-leb}
-use Rattle.text.specs.declared.Seen.{Seen}
-use Rattle.text.specs.declared.Seen.TheVariants.{Fine, Bad}
 use Rattle.text.proofs.Over.{found-over, after-over}
 use Rattle.settings.specs.declared.Settings.{Settings}
 use Rattle.command.specs.Text.{check_command}
@@ -19,25 +17,28 @@ use Rattle.command.proofs.Codes.{check-coded}
 use Rattle.config.specs.Config.{apply_to, applied, kept}
 use Rattle.settings.specs.Valid.{valid}
 use Rattle.config.proofs.Valid.{applies_valid}
-use Rattle.join.specs.Join.{Joined, Joins, Refuses, join_text, no_change_text, by_seen, join, joined_over}
+use Rattle.join.specs.Join.{Joined, join_text, no_change_text, by_seen, join, joined_over}
 use Rattle.join.proofs.Laws.{join-fine, join-short, join-downlink, join-acts, join_groups, no-change-fine, no-change-join, join-no-change}
 use Rattle.desk.specs.Numbers.{answer_of, check_numbers}
 use Rattle.desk.specs.Joins.{join_numbers}
 use Rattle.promises.specs.BoardRuns.{IsAccepted}
 use Rattle.promises.specs.Join.{naming, join_answer, buffer_joined, apply_answer, JoinedInto, ActsAsBoth, JoinPromises}
 use Rattle.promises.proofs.Codes.{accepted-fine, fine-accepted}
+use Rattle.std.specs.Prelude.{Result, Ok, Err}
+use Rattle.text.specs.declared.Refusal.{Refusal}
+use Rattle.join.specs.declared.Fault.TheVariants.{Room}
 
 -- ---- The call
 
 -- accepted texts, given room
-joins-is : (a b : List ℕ) (room : ℕ) → check_command a ≡ Fine → check_command b ≡ Fine → length (join_text a b) ≤ room
-    → join a b room ≡ Joins (join_text a b)
+joins-is : (a b : List ℕ) (room : ℕ) → check_command a ≡ (Ok tt) → check_command b ≡ (Ok tt) → length (join_text a b) ≤ room
+    → join a b room ≡ Ok (join_text a b)
 unfolding join
 joins-is a b room x y l = rw (x, y, le-leb (length (join_text a b)) room l)
 
 joins : (a b out : List ℕ) → IsAccepted a → IsAccepted b → length (join_text a b) ≤ length out → JoinedInto a b out
 joins a b out x y l =
-    let k : join a b (length out) ≡ Joins (join_text a b) = joins-is a b (length out) (accepted-fine a x) (accepted-fine b y) l in
+    let k : join a b (length out) ≡ Ok (join_text a b) = joins-is a b (length out) (accepted-fine a x) (accepted-fine b y) l in
     let t : List ℕ = join_text a b in
     let over-is = ap (λ (j : Joined). joined_over j out) k in
     record {
@@ -46,15 +47,15 @@ joins a b out x y l =
       rest = ap (drop (length t)) over-is ∙ rw zero-add at (after-over out 0 t (rw zero-add l));
     }
 
-zero-only : (a b : List ℕ) (x y : Seen) (room : ℕ) → check_command a ≡ x → check_command b ≡ y
+zero-only : (a b : List ℕ) (x y : Result (Unit {0}) Refusal) (room : ℕ) → check_command a ≡ x → check_command b ≡ y
     → (join_numbers (by_seen x y (join_text a b) room)).code ≡ 0
-    → (x ≡ Fine) × (y ≡ Fine) × (length (join_text a b) ≤ room)
-zero-only a b (Bad c p) y room e f z = let l = (check-coded a c p e).0 in absurd (omega arith)
-zero-only a b Fine (Bad c p) room e f z = let l = (check-coded b c p f).0 in absurd (omega arith)
-zero-only a b Fine Fine room e f z = (refl, refl, go (leb (length (join_text a b)) room) refl z)
+    → (x ≡ (Ok tt)) × (y ≡ (Ok tt)) × (length (join_text a b) ≤ room)
+zero-only a b (Err r) y room e f z = let l = (check-coded a r e).0 in absurd (omega arith)
+zero-only a b (Ok u) (Err r) room e f z = let l = (check-coded b r f).0 in absurd (omega arith)
+zero-only a b (Ok u) (Ok v) room e f z = (refl, refl, go (leb (length (join_text a b)) room) refl z)
   where
     go : (t : Bool) → leb (length (join_text a b)) room ≡ t
-        → (join_numbers (cond t (Joins (join_text a b)) (Refuses 2 0 0))).code ≡ 0 → length (join_text a b) ≤ room
+        → (join_numbers (cond t (Ok (join_text a b)) (Err Room))).code ≡ 0 → length (join_text a b) ≤ room
     go true h q = leb-true (length (join_text a b)) room h
     go false h q = absurd (omega arith)
 
@@ -74,18 +75,18 @@ first-refused : (a b out : List ℕ) → ¬ IsAccepted a → join_answer a b out
 unfolding join
 first-refused a b out n = go (check_command a) n
   where
-    go : (x : Seen) → ¬ ((check_numbers x).code ≡ 0)
+    go : (x : Result (Unit {0}) Refusal) → ¬ ((check_numbers x).code ≡ 0)
         → join_numbers (by_seen x (check_command b) (join_text a b) (length out)) ≡ naming 1 (check_numbers x)
-    go Fine m = absurd (m refl)
-    go (Bad c p) m = refl
+    go (Ok u) m = absurd (m refl)
+    go (Err r) m = refl
 
 second-refused : (a b out : List ℕ) → IsAccepted a → ¬ IsAccepted b → join_answer a b out ≡ naming 2 (check_numbers (check_command b))
 unfolding join
 second-refused a b out x n = rw (accepted-fine a x) (go (check_command b) n)
   where
-    go : (y : Seen) → ¬ ((check_numbers y).code ≡ 0) → join_numbers (by_seen Fine y (join_text a b) (length out)) ≡ naming 2 (check_numbers y)
-    go Fine m = absurd (m refl)
-    go (Bad c p) m = refl
+    go : (y : Result (Unit {0}) Refusal) → ¬ ((check_numbers y).code ≡ 0) → join_numbers (by_seen (Ok tt) y (join_text a b) (length out)) ≡ naming 2 (check_numbers y)
+    go (Ok u) m = absurd (m refl)
+    go (Err r) m = refl
 
 no_room : (a b out : List ℕ) → IsAccepted a → IsAccepted b → length out < length (join_text a b) → join_answer a b out ≡ answer_of 2 0
 unfolding join
@@ -95,12 +96,12 @@ untouched : (a b out : List ℕ) → ¬ ((join_answer a b out).code ≡ 0) → b
 untouched a b out n = go (join a b (length out)) n
   where
     go : (j : Joined) → ¬ ((join_numbers j).code ≡ 0) → joined_over j out ≡ out
-    go (Joins t) m = absurd (m refl)
-    go (Refuses c p k) m = refl
+    go (Ok t) m = absurd (m refl)
+    go (Err f) m = refl
 
 -- ---- Applied
 
-module _ (x : Settings) (t : List ℕ) (v : valid x ≡ true) (k : check_command t ≡ Fine) where
+module _ (x : Settings) (t : List ℕ) (v : valid x ≡ true) (k : check_command t ≡ (Ok tt)) where
   -- what is left where both are accepted
   pub kept-is : kept x t ≡ apply_to x t
   unfolding kept

@@ -8,12 +8,10 @@ use native.Mathlib.Omega.{arith}
 use native.Mathlib.Nat.{zero-add}
 use lib.ListN.{length, take, drop}
 use borrow.Author.Tests.{le-leb, lt-leb}
-use Rattle.text.specs.Checks.{must, ◌and_then◌}
+use Rattle.text.specs.Checks.{must, ◌and_then◌, refuse}
 use Rattle.text.specs.Equal.{same_bytes}
 use Rattle.text.specs.Over.{over}
 use Rattle.text.specs.Parts.{part}
-use Rattle.text.specs.declared.Seen.{Seen}
-use Rattle.text.specs.declared.Seen.TheVariants.{Fine, Bad}
 use Rattle.text.proofs.Cases.{by_test, by_eq, by_le}
 use Rattle.text.proofs.Equal.{same_self, same-equal}
 use Rattle.text.proofs.Over.{before-over, found-over, after-over}
@@ -25,9 +23,8 @@ use Rattle.decide.proofs.Tests.{says_no}
 use Rattle.journal.specs.Journal.{Entry, entry_bytes, journal_bytes, most, entry_at, last_entry, Read, Sound, Broken, entries_in}
 use Rattle.journal.specs.Calls.{seen_of, told, check_journal, taken, new_end, fits_in, add_seen, added, left_by, added_over, dropped, texts_for, replay, replayed}
 use Rattle.journal.specs.Printed.{printed, print_seen, print_told, printed_over}
-use Rattle.journal.specs.declared.Last.{Last}
-use Rattle.journal.specs.declared.Last.TheVariants.{Nothing, Starts, Fails}
-use Rattle.journal.proofs.Ends.{starts, finds, nothing, nothing-there}
+use Rattle.journal.specs.declared.Entry.{Entry as Found}
+use Rattle.journal.proofs.Ends.{starts, finds, nothing, refused, nothing-there}
 use Rattle.journal.proofs.Bytes.{found-bytes, stands-ends}
 use Rattle.journal.proofs.Entries.{read_is, newest, none_left}
 use Rattle.journal.proofs.Unique.{unique}
@@ -36,18 +33,20 @@ use Rattle.journal.proofs.Added.{new_end_lem, one_written, add-fine}
 use Rattle.journal.proofs.Dropped.{first-entries, alone, drop-refused}
 use Rattle.journal.proofs.Lines.{digits_hold, no-leading-zero}
 use Rattle.journal.proofs.Shown.{prints, prints-nothing, one_journal, one_line, one-prints}
-use Rattle.desk.specs.Numbers.{accepted, answer_of, check_numbers}
-use Rattle.desk.specs.Journal.{journal_numbers}
+use Rattle.desk.specs.Numbers.{accepted, answer_of, check_numbers, length_numbers}
 use Rattle.promises.specs.BoardRuns.{IsAccepted, SixAllowed}
 use Rattle.promises.specs.Journal.{check_answer, last_answer, add_answer, drop_answer, replay_answer, settings_after, print_answer, FailsAt, AddedTo, DroppedTo, PrintedTo, JournalPromises}
 use Rattle.promises.specs.JournalBytes.{bytes_of, all_bytes, SoundEntry, AllSound, JournalOf, lines_from}
 use Rattle.promises.proofs.Codes.{designator-said, accepted-fine}
 use Rattle.promises.proofs.JournalBytes.{sound-entry, entry-sound, all_sound, sound-all, entry-same, bytes_same, journal-of, is-journal, reads_of, lines_same, last-sound, texts-last}
+use Rattle.std.specs.Prelude.{Result, Ok, Err, Option, Some, None}
+use Rattle.text.specs.declared.Refusal.{Refusal}
+use Rattle.text.specs.declared.Code.TheVariants.{NoRoom, JournalBroken}
 
 -- ---- Checking
 
-abbrev seen : Read (List Entry) → Seen
-seen r = seen_of r (λ (es : List Entry). Fine)
+abbrev seen : Read (List Entry) → Result (Unit {0}) Refusal
+seen r = seen_of r (λ (es : List Entry). (Ok tt))
 
 is-sound : (s : List ℕ) (end : ℕ) → (check_answer s end).code ≡ 0 → (es : List Entry) × (entries_in s end ≡ Sound es)
 unfolding check_journal
@@ -77,7 +76,7 @@ one_list es fs x y e = unique es fs (sound-all es x) (sound-all fs y) (sym (byte
 
 -- ---- Where reading fails
 
-module _ (s : List ℕ) (here place : ℕ) (e : last_entry s here ≡ Fails place) where
+module _ (s : List ℕ) (here place : ℕ) (e : last_entry s here ≡ refuse JournalBroken place) where
   some_left : 1 ≤ here
   some_left =
       by_eq here 0
@@ -131,14 +130,16 @@ module _ (s : List ℕ) (end place : ℕ) (x : FailsAt s end place) where
   place_is q (Limits z (inl (inr many))) = z ∙ sym (x.limits.1 many)
   place_is q (Limits z (inr beyond)) = z ∙ sym (x.limits.2 beyond)
 
-  step-fails : (l : Last) → last_entry s x.here ≡ l → l ≡ Fails place
-  step-fails Nothing e = let z = nothing s x.here e in absurd (omega (arith, x.some))
-  step-fails (Starts at n) e =
-      let h = starts s x.here at n e in
+  step-fails : (l : Result (Option Found) Refusal) → last_entry s x.here ≡ l → l ≡ refuse JournalBroken place
+  step-fails (Ok None) e = let z = nothing s x.here e in absurd (omega (arith, x.some))
+  step-fails (Ok (Some f)) e =
+      let h = starts s x.here f.at f.length e in
       absurd
-      (x.none h.few h.inside (take at s) (entry_at s at n) (sound-entry (entry_at s at n) h.fine)
-      (found-bytes s x.here at n h ∙ rw (entry-same (entry_at s at n))))
-  step-fails (Fails q) e = ap Fails (place_is q (why s x.here q e))
+      (x.none h.few h.inside (take f.at s) (entry_at s f.at f.length) (sound-entry (entry_at s f.at f.length) h.fine)
+      (found-bytes s x.here f.at f.length h ∙ rw (entry-same (entry_at s f.at f.length))))
+  step-fails (Err r) e =
+      let broken : ◌≡◌ {A = Result (Option Found) Refusal} (Err r) (refuse JournalBroken r.place) = ap Err (refused s x.here r e) in
+      broken ∙ ap (refuse JournalBroken) (place_is r.place (why s x.here r.place (e ∙ broken)))
 
   fails-broken : entries_in s end ≡ Broken place
   fails-broken =
@@ -222,10 +223,10 @@ module _ (s : List ℕ) (end : ℕ) (d t : List ℕ) where
   unfolding added add_seen check_journal
   add-own z six n = rw ((is-sound s end z).1, (designator-said d).so_yes six) (go (check_command t) n)
     where
-      go : (x : Seen) → ¬ ((check_numbers x).code ≡ 0)
-          → journal_numbers (told (x and_then must (fits_in s (new_end end e)) 2 0) (new_end end e)) ≡ check_numbers x
-      go Fine m = absurd (m refl)
-      go (Bad code place) m = refl
+      go : (x : Result (Unit {0}) Refusal) → ¬ ((check_numbers x).code ≡ 0)
+          → length_numbers (told (x and_then must (fits_in s (new_end end e)) NoRoom 0) (new_end end e)) ≡ check_numbers x
+      go (Ok u) m = absurd (m refl)
+      go (Err r) m = refl
 
   add-two : (check_answer s end).code ≡ 0 → SixAllowed d → IsAccepted t
       → ((end + (9 + length t) ≤ 65535) × (end + (9 + length t) ≤ length s) → ⊥) → add_answer s end d t ≡ answer_of 2 0
@@ -243,9 +244,9 @@ module _ (s : List ℕ) (end : ℕ) (d t : List ℕ) where
   unfolding added added_over
   add-untouched n = go (add_seen s end d t) n
     where
-      go : (x : Seen) → ¬ ((journal_numbers (told x (new_end end e))).code ≡ 0) → left_by x s end (entry_bytes e) ≡ s
-      go Fine m = absurd (m refl)
-      go (Bad code place) m = refl
+      go : (x : Result (Unit {0}) Refusal) → ¬ ((length_numbers (told x (new_end end e))).code ≡ 0) → left_by x s end (entry_bytes e) ≡ s
+      go (Ok u) m = absurd (m refl)
+      go (Err r) m = refl
 
 -- ---- Replaying
 
@@ -325,7 +326,7 @@ module _ (s : List ℕ) (end : ℕ) (es : List Entry) (out : List ℕ) (j : Jour
       let over-is : printed_over s end out ≡ over out 0 t = f.1 ∙ rw same in
       let fits : 0 + length t ≤ length out = rw zero-add h in
       record {
-        answer = ap journal_numbers f.0 ∙ rw same;
+        answer = ap length_numbers f.0 ∙ rw same;
         text = ap (take (length t)) over-is ∙ found-over out 0 t fits;
         rest = ap (drop (length t)) over-is ∙ rw zero-add at (after-over out 0 t fits);
       }
@@ -340,13 +341,13 @@ unfolding check_journal
 print_broken s end out n =
     let f = not_sound s end n in
     let g = prints-nothing s end f.0 out f.1 in
-    (ap journal_numbers g.0 ∙ rw f.1, g.1)
+    (ap length_numbers g.0 ∙ rw f.1, g.1)
 
 one-printed : (out : List ℕ) → 32 ≤ length out
     → (print_answer one_journal 31 out ≡ accepted 32) × (take 32 (printed_over one_journal 31 out) ≡ one_line)
 one-printed out h =
     let f = one-prints out h in
-    (ap journal_numbers f.0, ap (take 32) f.1 ∙ found-over out 0 one_line (omega arith))
+    (ap length_numbers f.0, ap (take 32) f.1 ∙ found-over out 0 one_line (omega arith))
 
 -- ---- All of it
 

@@ -10,10 +10,8 @@ use borrow.Author.Tests.{ne_eqb, eqb-true}
 use Rattle.text.specs.Names.{is_designator}
 use Rattle.text.specs.Checks.{is_fine}
 use Rattle.text.specs.Equal.{same_bytes}
-use Rattle.text.specs.declared.Seen.TheVariants.{Fine}
 use Rattle.text.proofs.Cases.{by_test, both_left}
 use Rattle.command.specs.Text.{check_command}
-use Rattle.command.proofs.Codes.{check-coded}
 use Rattle.board.specs.Board.{Move, Stay, past_refusals, placed, add, is_valid, reply_of}
 use Rattle.board.specs.History.{onto, joined}
 use Rattle.board.specs.Lent.{board_of, is_shaped, is_valid_lent, add_lent, on_slots, on_area}
@@ -52,6 +50,10 @@ use Rattle.promises.specs.OfficeRuns.{
   accepted_own,
 }
 use Rattle.promises.proofs.OfficeWords.{apart-no, apart-turned}
+use Rattle.std.specs.Prelude.{Ok}
+use Rattle.text.specs.declared.Code.TheVariants.{BoardInvalid, NotGranted, NotAllowed}
+use Rattle.text.specs.Codes.{number_of}
+use Rattle.text.proofs.Codes.{numbered}
 
 -- ---- One call
 
@@ -79,7 +81,7 @@ free-call g x (TakeAny d out) n = (refl, refl)
 abbrev Refuses : Lent → Move → Type 0
 Refuses x m = (((reply_numbers (reply_of m)).code ≡ 0) → ⊥) × (record { slots = on_slots m x.slots; area = on_area m x.area } ≡ x)
 
-refuses : (x : Lent) (a b : Bool) → Refuses x (cond a (cond b (Stay 13 0) (Stay 4 0)) (Stay 10 0))
+refuses : (x : Lent) (a b : Bool) → Refuses x (cond a (cond b (Stay NotGranted 0) (Stay NotAllowed 0)) (Stay BoardInvalid 0))
 refuses x true true = (λ (z : ◌≡◌ {A = ℕ} 13 0). omega arith, refl)
 refuses x true false = (λ (z : ◌≡◌ {A = ℕ} 4 0). omega arith, refl)
 refuses x false b = (λ (z : ◌≡◌ {A = ℕ} 10 0). omega arith, refl)
@@ -159,12 +161,12 @@ add-past x d t =
     refusals-shaped Stay (is_shaped x.slots x.area) (is_valid (board_of x.slots x.area)) (is_designator d) (check_command t)
     (placed (board_of x.slots x.area) d t)
 
-added-fine : (x : Lent) (d t : List ℕ) → (answer_to x (Add d t)).code ≡ 0 → check_command t ≡ Fine
+added-fine : (x : Lent) (d t : List ℕ) → (answer_to x (Add d t)).code ≡ 0 → check_command t ≡ (Ok tt)
 added-fine x d t =
-    subst (λ (m : Move). (reply_numbers (reply_of m)).code ≡ 0 → check_command t ≡ Fine) (sym (add-past x d t))
-    (refusals-all (λ m. (reply_numbers (reply_of m)).code ≡ 0 → check_command t ≡ Fine) Stay (is_valid_lent x.slots x.area) (is_designator d)
+    subst (λ (m : Move). (reply_numbers (reply_of m)).code ≡ 0 → check_command t ≡ (Ok tt)) (sym (add-past x d t))
+    (refusals-all (λ m. (reply_numbers (reply_of m)).code ≡ 0 → check_command t ≡ (Ok tt)) Stay (is_valid_lent x.slots x.area) (is_designator d)
     (check_command t) (placed (board_of x.slots x.area) d t) (λ (z : ◌≡◌ {A = ℕ} 10 0). absurd (omega arith)) (λ (z : ◌≡◌ {A = ℕ} 4 0). absurd (omega arith))
-    (λ code place k (z : code ≡ 0). let l = (check-coded t code place k).0 in absurd (omega arith)) (λ v n s z. s))
+    (λ code place k (z : number_of code ≡ 0). let l = (numbered code).least in absurd (omega arith)) (λ v n s z. s))
 
 -- is an accepted command within its office's grant
 accepted-inside : (g : Grants) (x : Lent) (o : Office) (d t : List ℕ) → (call_answer g x (AddFrom o d t)).code ≡ 0
@@ -174,7 +176,7 @@ accepted-inside g x o d t z =
     by_test (is_barred g (AddFrom o d t))
     (λ n. absurd ((barred-call g x (AddFrom o d t) n).0 z))
     (λ n.
-    let f : check_command t ≡ Fine =
+    let f : check_command t ≡ (Ok tt) =
     added-fine x d t (ap (λ (a : Answer). a.code) (sym (free-call g x (AddFrom o d t) n).0) ∙ z) in
     (ap is_fine f, rw f at n))
 

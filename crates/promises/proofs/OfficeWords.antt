@@ -9,7 +9,6 @@ use lib.ListN.{length, get_or, drop, length-drop}
 use lib.Seq.{length-take-le}
 use borrow.Author.Tests.{not-true, eqb-true, ne_eqb}
 use Rattle.text.specs.Parts.{part}
-use Rattle.text.specs.declared.Seen.TheVariants.{Fine}
 use Rattle.text.proofs.Cases.{by_test, both_left, both_right}
 use Rattle.field.proofs.Local.{part-byte}
 use Rattle.section.specs.Layout.{layout_of, is_empty}
@@ -24,6 +23,7 @@ use Rattle.offices.specs.Own.{grants_flag, grants_section, Full}
 use Rattle.offices.specs.declared.Grant.{Grant}
 use Rattle.offices.proofs.Places.{neither_left, neither_right, none-at, at_none}
 use Rattle.promises.specs.OfficeRuns.{Apart, Outside, Flag, Section, Downlink}
+use Rattle.std.specs.Prelude.{Ok}
 
 not_together : (s t : Bool) → (s ≡ true → t ≡ true → ⊥) → (s && t) ≡ false
 not_together true true f = absurd (f refl refl)
@@ -101,7 +101,7 @@ named-byte k b i n = both_right (not (is_empty (layout_of k))) (eqb b (48 + k)) 
 named_other : (k b : ℕ) → 2 ≤ k → eqb b (48 + k) ≡ true → not (eqb b 48) ≡ true
 named_other k b lo s = let z = eqb-true b (48 + k) s in rw (ne_eqb b 48 (λ (y : b ≡ 48). omega arith))
 
-module _ (g : Grant) (t : List ℕ) (full : Full g) (fine : check_command t ≡ Fine) where
+module _ (g : Grant) (t : List ℕ) (full : Full g) (fine : check_command t ≡ (Ok tt)) where
   ok : Accepted t
   ok = accepted t fine
 

@@ -7,8 +7,6 @@ use native.Mathlib.Omega.{arith}
 use lib.ListN.{length}
 use Rattle.text.specs.Names.{is_designator}
 use Rattle.text.specs.Checks.{is_fine}
-use Rattle.text.specs.declared.Seen.{Seen}
-use Rattle.text.specs.declared.Seen.TheVariants.{Fine, Bad}
 use Rattle.text.proofs.Cases.{by_test, both_left, both_right}
 use Rattle.command.specs.Text.{check_command}
 use Rattle.board.specs.Board.{Move, Stay, past_refusals, placed, is_valid, reply_of}
@@ -36,6 +34,9 @@ use Rattle.promises.proofs.Codes.{designator-said, accepted-fine, fine-accepted}
 use Rattle.promises.proofs.InRun.{joined_is}
 use Rattle.promises.proofs.OfficeWords.{apart-no, no-apart, outside-said}
 use Rattle.promises.proofs.OfficeRuns.{apart_of, is_barred, free-call, after-admitted, heard-admitted, admitted, admitted-next, admitted-same, base, full-of, own-kept}
+use Rattle.std.specs.Prelude.{Result, Ok, Err}
+use Rattle.text.specs.declared.Refusal.{Refusal}
+use Rattle.text.specs.declared.Code.TheVariants.{NotGranted, NotAllowed}
 
 abbrev numbers_of : Move → Answer
 numbers_of m = reply_numbers (reply_of m)
@@ -76,9 +77,9 @@ module _ (own other : Grant) (full : Full own) (full' : Full other) (x : Lent) (
       → numbers_of (past_refusals Stay true true (admission own t) m) ≡ check_numbers (check_command t)
   command-numbers n e m = rw e (go (check_command t) refl)
     where
-      go : (s : Seen) → check_command t ≡ s → numbers_of (past_refusals Stay true true s m) ≡ check_numbers s
-      go Fine k = absurd (n (fine-accepted t k))
-      go (Bad code place) k = refl
+      go : (s : Result (Unit {0}) Refusal) → check_command t ≡ s → numbers_of (past_refusals Stay true true s m) ≡ check_numbers s
+      go (Ok u) k = absurd (n (fine-accepted t k))
+      go (Err r) k = refl
 
   answers : OfficeAnswers own other x d t
   answers =
@@ -135,12 +136,12 @@ module _ (r : OfficeRun) where
 
   -- what a barred adding is answered: the board of a run is valid
   barred-told : (o : Office) (d t : List ℕ) → barred (grant_of r.grants o) t ≡ true
-      → answered r (AddFrom o d t) ≡ numbers_of (cond (is_designator d) (Stay 13 0) (Stay 4 0))
+      → answered r (AddFrom o d t) ≡ numbers_of (cond (is_designator d) (Stay NotGranted 0) (Stay NotAllowed 0))
   barred-told o d t b =
       let own = grant_of r.grants o in
       ap numbers_of (past own (other_of r.grants o) (lent_now r) d t (apart_of r.grants o)) ∙ rw (run-valid, is-barred own t b) (designated (is_designator d))
     where
-      designated : (n : Bool) → numbers_of (cond n (Stay 13 0) (Stay 4 0)) ≡ numbers_of (cond n (Stay 13 0) (Stay 4 0))
+      designated : (n : Bool) → numbers_of (cond n (Stay NotGranted 0) (Stay NotAllowed 0)) ≡ numbers_of (cond n (Stay NotGranted 0) (Stay NotAllowed 0))
       designated n = refl
 
   as_run : RunsAs r (base r)

@@ -9,18 +9,18 @@ use lib.ListN.{length}
 use borrow.Author.Tests.{le-leb, lt-leb, leb-true}
 use Rattle.text.specs.Names.{between}
 use Rattle.text.specs.Parts.{part}
-use Rattle.text.specs.declared.Seen.TheVariants.{Fine}
 use Rattle.text.proofs.Cases.{by_test, both_left, both_right}
-use Rattle.field.specs.declared.Step.TheVariants.{Next, Stop}
 use Rattle.section.specs.Layout.{Item, layout_of, items_size, Accepted}
 use Rattle.section.specs.Contents.{contents_at}
 use Rattle.section.proofs.Local.{items-some}
 use Rattle.section.proofs.Own.{cut_length, cut_contents}
 use Rattle.command.specs.Text.{check_head, is_named, longest, check_command}
 use Rattle.command.specs.Sections.{place_of}
-use Rattle.finder.specs.declared.Found.{Found}
-use Rattle.finder.specs.declared.Found.TheVariants.{Part, Refused}
-use Rattle.finder.specs.Finding.{find_section}
+use Rattle.finder.specs.declared.Part.{Part}
+use Rattle.text.specs.Codes.{number_of}
+use Rattle.text.specs.declared.Refusal.{Refusal}
+use Rattle.text.specs.declared.Code.TheVariants.{WrongEnd}
+use Rattle.finder.specs.Finding.{part_at, find_section}
 use Rattle.finder.specs.Words.{count_seen, behind, CountsFine, OnTheWay}
 use Rattle.finder.proofs.Codes.{refused-coded}
 use Rattle.finder.proofs.Finds.{found-accepted, place-accepted, last-accepted, number-between, part-inside}
@@ -31,10 +31,13 @@ use Rattle.promises.specs.BoardRuns.{IsAccepted}
 use Rattle.promises.specs.Command.{check}
 use Rattle.promises.specs.Part.{told, given, refusal, nothing, IsSection, SameSection, PartPromises}
 use Rattle.promises.proofs.Codes.{accepted-fine}
+use Rattle.std.specs.Prelude.{Result, Ok, Err}
+use Rattle.text.specs.Checks.{refuse}
+use Rattle.text.specs.declared.Code.{Code}
 
 -- ---- Accepted texts
 
-module _ (k : ℕ) (s : List ℕ) (b : between 2 9 k ≡ true) (f : check_command s ≡ Fine) where
+module _ (k : ℕ) (s : List ℕ) (b : between 2 9 k ≡ true) (f : check_command s ≡ (Ok tt)) where
   abbrev at : ℕ
   at = place_of s k
 
@@ -43,7 +46,7 @@ module _ (k : ℕ) (s : List ℕ) (b : between 2 9 k ≡ true) (f : check_comman
 
   same-named : is_named s k ≡ true → SameSection k s
   same-named n =
-      let e : find_section k s ≡ Part at size = found-accepted k s b f ∙ rw n in
+      let e : find_section k s ≡ Ok (part_at at size) = found-accepted k s b f ∙ rw n in
       let a : Accepted k s at = place-accepted k s b f n in
       let bytes : given k s ≡ part at size s = rw e in
       record {
@@ -63,7 +66,7 @@ module _ (k : ℕ) (s : List ℕ) (b : between 2 9 k ≡ true) (f : check_comman
 
   same-unnamed : is_named s k ≡ false → SameSection k s
   same-unnamed n =
-      let e : find_section k s ≡ Part 0 0 = found-accepted k s b f ∙ rw n in
+      let e : find_section k s ≡ Ok (part_at 0 0) = found-accepted k s b f ∙ rw n in
       let bytes : given k s ≡ [] = rw e in
       record {
         code = rw e;
@@ -94,13 +97,13 @@ module _ (k : ℕ) (s : List ℕ) (i : IsSection k) where
   unfolding find_section
   long h = rw (number-between k i.0 i.1, lt-leb (length s) longest h)
 
-  header : (code place : ℕ) → length s ≤ longest → check_head s ≡ Stop code place
-      → (told k s ≡ refusal code place) × (check s ≡ answer_of code place)
+  header : (code : Code) (place : ℕ) → length s ≤ longest → check_head s ≡ refuse code place
+      → (told k s ≡ refusal (number_of code) place) × (check s ≡ answer_of (number_of code) place)
   unfolding find_section check_command
   header code place h e =
       (rw (number-between k i.0 i.1, le-leb (length s) longest h, e), rw (le-leb (length s) longest h, e))
 
-  unnamed : length s ≤ longest → check_head s ≡ Next 22 → is_named s k ≡ false → told k s ≡ nothing
+  unnamed : length s ≤ longest → check_head s ≡ Ok 22 → is_named s k ≡ false → told k s ≡ nothing
   unfolding find_section
   unnamed h e n = rw (number-between k i.0 i.1, le-leb (length s) longest h, e, n)
 
@@ -110,33 +113,33 @@ module _ (h k : ℕ) (s : List ℕ) (o : OnTheWay h k s) where
   abbrev start : ℕ
   start = place_of s h
 
-  count : (is rest : List Item) (i : Item) (code place : ℕ) → layout_of h ≡ is ++ (i ∷ rest) → CountsFine is s start
-      → behind is s start ≤ length s → count_seen i s (behind is s start) ≡ Stop code place → told k s ≡ refusal code place
+  count : (is rest : List Item) (i : Item) (code : Code) (place : ℕ) → layout_of h ≡ is ++ (i ∷ rest) → CountsFine is s start
+      → behind is s start ≤ length s → count_seen i s (behind is s start) ≡ refuse code place → told k s ≡ refusal (number_of code) place
   count is rest i code place split fine l e =
-      ap part_numbers (way_refused h k s code place o (count-passed h s start is (i ∷ rest) split fine i rest code place refl l e))
+      ap part_numbers (way_refused h k s (record { code = code; place = place }) o (count-passed h s start is (i ∷ rest) split fine i rest (record { code = code; place = place }) refl l e))
 
   past : (is js : List Item) → layout_of h ≡ is ++ js → CountsFine is s start → length s < behind is s start → told k s ≡ refusal 8 start
-  past is js split fine l = ap part_numbers (way_refused h k s 8 start o (past-passed h s start is js split fine l))
+  past is js split fine l = ap part_numbers (way_refused h k s (record { code = WrongEnd; place = start }) o (past-passed h s start is js split fine l))
 
   no-delimiter : CountsFine (layout_of h) s start → behind (layout_of h) s start ≡ length s → told k s ≡ refusal 8 start
-  no-delimiter fine e = ap part_numbers (way_refused h k s 8 start o (bare-passed h s start fine e))
+  no-delimiter fine e = ap part_numbers (way_refused h k s (record { code = WrongEnd; place = start }) o (bare-passed h s start fine e))
 
 -- ---- Every text
 
 empty : (k : ℕ) (s : List ℕ) → ¬ ((told k s).code ≡ 0) → ((told k s).length ≡ 0) × (given k s ≡ [])
 empty k s n = go (find_section k s) n
   where
-    go : (x : Found) → ¬ ((part_numbers x).code ≡ 0)
+    go : (x : Result Part Refusal) → ¬ ((part_numbers x).code ≡ 0)
         → ((part_numbers x).length ≡ 0) × (part (part_numbers x).place (part_numbers x).length s ≡ [])
-    go (Part at n) m = absurd (m refl)
-    go (Refused code place) m = (refl, refl)
+    go (Ok p) m = absurd (m refl)
+    go (Err r) m = (refl, refl)
 
 inside : (k : ℕ) (s : List ℕ) → (told k s).code ≡ 0 → (told k s).place + (told k s).length ≤ length s
 inside k s e = go (find_section k s) refl e
   where
-    go : (x : Found) → find_section k s ≡ x → (part_numbers x).code ≡ 0 → (part_numbers x).place + (part_numbers x).length ≤ length s
-    go (Part at n) f z = part-inside k s at n f
-    go (Refused code place) f z = let c = refused-coded k s code place f in absurd (omega arith)
+    go : (x : Result Part Refusal) → find_section k s ≡ x → (part_numbers x).code ≡ 0 → (part_numbers x).place + (part_numbers x).length ≤ length s
+    go (Ok p) f z = part-inside k s p f
+    go (Err r) f z = let c = refused-coded k s r f in absurd (omega arith)
 
 -- ---- All of it
 

@@ -7,21 +7,20 @@ use native.Mathlib.Nat.{zero-add}
 use lib.Dec.{leb}
 use lib.ListN.{length, take, drop, length-map}
 use lib.Seq.{take_at, drop_at}
-use borrow.Author.Tests.{le-leb, leb-true, ltb-true}
+use borrow.Author.Tests.{le-leb, leb-true}
 use Rattle.text.specs.Over.{over}
 use Rattle.text.specs.Checks.{must}
-use Rattle.text.specs.declared.Seen.{Seen}
-use Rattle.text.specs.declared.Seen.TheVariants.{Fine, Bad}
+use Rattle.text.specs.Codes.{number_of}
 use Rattle.text.proofs.Checks.{must-held, both-fine}
+use Rattle.text.proofs.Codes.{numbered}
 use Rattle.report.specs.Report.{check_text, got, read_report, report_of}
 use Rattle.report.specs.Record.{report_text, left_by}
 use Rattle.report.proofs.RoundTrip.{report_sized, report_seven}
-use Rattle.caller.specs.Records.{no_host, host_observation, host_seat, host_report, record_of}
+use Rattle.caller.specs.Records.{no_host, host_observation, host_later, host_report, record_of}
 use Rattle.caller.specs.Forms.{check_host, host_seen}
 use Rattle.caller.specs.Allowed.{Allowed, Held}
 use Rattle.caller.specs.Printed.{printed}
 use Rattle.caller.specs.declared.HostReport.{HostReport}
-use Rattle.caller.proofs.Codes.{Coded, text-coded, host_coded}
 use Rattle.caller.proofs.Whole.{allowed-fine, fine-allowed}
 use Rattle.caller.proofs.Carried as carried
 use Rattle.caller.proofs.Meaning as meaning
@@ -30,22 +29,25 @@ use Rattle.desk.specs.Numbers.{accepted, answer_of, check_numbers, write_numbers
 use Rattle.desk.specs.Reports.{report_numbers}
 use Rattle.desk.specs.declared.Answer.{Answer}
 use Rattle.promises.specs.Report.{check, read, write, written, no_report, ReportPromises}
+use Rattle.std.specs.Prelude.{Result, Ok, Err}
+use Rattle.text.specs.declared.Refusal.{Refusal}
+use Rattle.text.specs.declared.Code.TheVariants.{NoRoom}
 
 -- ---- What was seen, by the code
 
 -- code 0 is no refusal
-pub fine-zero : (x : Seen) (n : ℕ) → Coded x → (write_numbers x n).code ≡ 0 → x ≡ Fine
-fine-zero Fine n c e = refl
-fine-zero (Bad code place) n c e = let l = ltb-true 0 code c.coded in let z : code ≡ 0 = e in absurd (omega arith)
+fine-zero : (x : Result (Unit {0}) Refusal) (n : ℕ) → (write_numbers x n).code ≡ 0 → x ≡ (Ok tt)
+fine-zero (Ok u) n e = refl
+fine-zero (Err r) n e = let l = (numbered r.code).least in let z : number_of r.code ≡ 0 = e in absurd (omega arith)
 
-pub check-fine : (s : List ℕ) → (check s).code ≡ 0 → check_text s ≡ Fine
-check-fine s e = go (check_text s) (text-coded s) e
+pub check-fine : (s : List ℕ) → (check s).code ≡ 0 → check_text s ≡ (Ok tt)
+check-fine s e = go (check_text s) e
   where
-    go : (x : Seen) → Coded x → (check_numbers x).code ≡ 0 → x ≡ Fine
-    go Fine c z = refl
-    go (Bad code place) c z = fine-zero (Bad code place) 0 c z
+    go : (x : Result (Unit {0}) Refusal) → (check_numbers x).code ≡ 0 → x ≡ (Ok tt)
+    go (Ok u) z = refl
+    go (Err r) z = fine-zero (Err r) 0 z
 
-fine-check : (s : List ℕ) → check_text s ≡ Fine → check s ≡ accepted 0
+fine-check : (s : List ℕ) → check_text s ≡ (Ok tt) → check s ≡ accepted 0
 fine-check s e = rw e
 
 -- ---- Reading
@@ -54,11 +56,11 @@ one_answer : (s : List ℕ) → (read s).answer ≡ check s
 unfolding report_numbers read_report
 one_answer s = go (check_text s)
   where
-    go : (x : Seen) → answer_of (got x (report_of s)).code (got x (report_of s)).place ≡ check_numbers x
-    go Fine = refl
-    go (Bad code place) = refl
+    go : (x : Result (Unit {0}) Refusal) → (report_numbers (got x (report_of s))).answer ≡ check_numbers x
+    go (Ok u) = refl
+    go (Err r) = refl
 
-pub read_is : (s : List ℕ) → check_text s ≡ Fine → (read s).report ≡ host_report (report_of s)
+pub read_is : (s : List ℕ) → check_text s ≡ (Ok tt) → (read s).report ≡ host_report (report_of s)
 unfolding report_numbers read_report
 read_is s e = rw e
 
@@ -66,11 +68,11 @@ refused : (s : List ℕ) → ¬ ((check s).code ≡ 0) → ((read s).report ≡ 
 unfolding report_numbers read_report host_report host_observation no_host
 refused s n = go (check_text s) n
   where
-    go : (x : Seen) → ¬ ((check_numbers x).code ≡ 0) → (host_report (got x (report_of s)).report ≡ no_report) × ((check_numbers x).length ≡ 0)
-    go Fine m = absurd (m refl)
-    go (Bad code place) m = (refl, refl)
+    go : (x : Result (Unit {0}) Refusal) → ¬ ((check_numbers x).code ≡ 0) → ((report_numbers (got x (report_of s))).report ≡ no_report) × ((check_numbers x).length ≡ 0)
+    go (Ok u) m = absurd (m refl)
+    go (Err r) m = (refl, refl)
 
-held : (s : List ℕ) → check_text s ≡ Fine → Held (host_report (report_of s))
+held : (s : List ℕ) → check_text s ≡ (Ok tt) → Held (host_report (report_of s))
 unfolding host_report
 held s e =
     let z = report_sized s e in
@@ -78,16 +80,16 @@ held s e =
       departure = z.departure;
       arrival = z.arrival;
       designator = z.designator;
-      later = length-map (report_of s).later host_seat ∙ report_seven s e;
+      later = length-map (report_of s).later host_later ∙ report_seven s e;
     }
 
 -- ---- Writing
 
-host_fine : (h : HostReport) (out : List ℕ) → (write h out).code ≡ 0 → host_seen h (length out) ≡ Fine
-host_fine h out e = fine-zero (host_seen h (length out)) 220 (host_coded h (length out)) e
+host_fine : (h : HostReport) (out : List ℕ) → (write h out).code ≡ 0 → host_seen h (length out) ≡ (Ok tt)
+host_fine h out e = fine-zero (host_seen h (length out)) 220 e
 
 module _ (h : HostReport) (out : List ℕ) (k : Allowed h) (room : 220 ≤ length out) where
-  seen_it : host_seen h (length out) ≡ Fine
+  seen_it : host_seen h (length out) ≡ (Ok tt)
   unfolding host_seen
   seen_it = rw (allowed-fine h k, le-leb 220 (length out) room)
 
@@ -101,17 +103,17 @@ module _ (h : HostReport) (out : List ℕ) (k : Allowed h) (room : 220 ≤ lengt
 writes : (h : HostReport) (out : List ℕ) → (write h out).code ≡ 0 → Allowed h × (220 ≤ length out)
 unfolding host_seen
 writes h out e =
-    let b = both-fine (check_host h) (must (leb 220 (length out)) 2 0) (host_fine h out e) in
-    (fine-allowed h b.0, leb-true 220 (length out) (must-held (leb 220 (length out)) 2 0 b.1))
+    let b = both-fine (check_host h) (must (leb 220 (length out)) NoRoom 0) tt (host_fine h out e) in
+    (fine-allowed h b.0, leb-true 220 (length out) (must-held (leb 220 (length out)) NoRoom 0 b.1))
 
 unwritten : (h : HostReport) (out : List ℕ) → ¬ ((write h out).code ≡ 0)
     → (written h out ≡ out) × (write h out ≡ answer_of (write h out).code (write h out).place)
 unwritten h out n = go (host_seen h (length out)) n
   where
-    go : (x : Seen) → ¬ ((write_numbers x 220).code ≡ 0)
+    go : (x : Result (Unit {0}) Refusal) → ¬ ((write_numbers x 220).code ≡ 0)
         → (left_by x (report_text (record_of h)) out ≡ out) × (write_numbers x 220 ≡ answer_of (write_numbers x 220).code (write_numbers x 220).place)
-    go Fine m = absurd (m refl)
-    go (Bad code place) m = (refl, refl)
+    go (Ok u) m = absurd (m refl)
+    go (Err r) m = (refl, refl)
 
 -- ---- Both ways
 

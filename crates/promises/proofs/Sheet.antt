@@ -10,15 +10,14 @@ use lib.ListN.{length, take, drop}
 use lib.Seq.{take_at, drop_at}
 use borrow.Author.Tests.{le-leb, lt-leb}
 use Rattle.text.specs.Bytes.{is_one_of}
+use Rattle.text.specs.Codes.{number_of}
 use Rattle.text.specs.Parts.{part}
 use Rattle.text.specs.Over.{over}
 use Rattle.text.specs.Checks.{must, ◌and_then◌}
-use Rattle.text.specs.declared.Seen.{Seen}
-use Rattle.text.specs.declared.Seen.TheVariants.{Fine, Bad}
 use Rattle.text.proofs.Cases.{by_le}
 use Rattle.packed.specs.Packed.{trim}
 use Rattle.sheet.specs.Layout.{cell_at}
-use Rattle.sheet.specs.Sheet.{check_sheet, check_cell, each, fixed_code, got_from, read_sheet, sheet_at, no_sheet, sheet_text, allowed_sheet, write_seen, left_by, label_of, field_at, name_cell, numeral, Has, begins_at}
+use Rattle.sheet.specs.Sheet.{check_sheet, check_cell, each, fixed_code, read_sheet, sheet_at, no_sheet, sheet_text, allowed_sheet, write_seen, left_by, label_of, field_at, name_cell, numeral, Has, begins_at}
 use Rattle.sheet.specs.Allowed.{Allowed, Sized}
 use Rattle.sheet.specs.Printed.{printed, printed_sheet}
 use Rattle.sheet.specs.declared.Sheet.{Sheet}
@@ -34,22 +33,25 @@ use Rattle.desk.specs.Sheets.{sheet_numbers}
 use Rattle.desk.specs.declared.Answer.{Answer}
 use Rattle.desk.specs.declared.SheetAnswer.{SheetAnswer}
 use Rattle.promises.specs.Sheet.{check, read, write, written, SheetPromises}
+use Rattle.std.specs.Prelude.{Result, Ok, Err}
+use Rattle.text.specs.declared.Refusal.{Refusal}
+use Rattle.text.specs.declared.Code.TheVariants.{NoRoom}
 
 -- ---- What was seen, by the code
 
 -- a refusal's code is one of these, so 0 is no refusal
-zero-fine : (codes : List ℕ) (x : Seen) (n : ℕ) → is_one_of codes 0 ≡ false → coded codes x ≡ true → (write_numbers x n).code ≡ 0 → x ≡ Fine
-zero-fine codes Fine n f c e = refl
-zero-fine codes (Bad code place) n f c e = not-held (sym f ∙ ap (is_one_of codes) (sym e) ∙ c)
+zero-fine : (codes : List ℕ) (x : Result (Unit {0}) Refusal) (n : ℕ) → is_one_of codes 0 ≡ false → coded codes x ≡ true → (write_numbers x n).code ≡ 0 → x ≡ (Ok tt)
+zero-fine codes (Ok u) n f c e = refl
+zero-fine codes (Err r) n f c e = not-held (sym f ∙ ap (is_one_of codes) (sym e) ∙ c)
 
 not-given : (codes : List ℕ) (code m : ℕ) → is_one_of codes m ≡ false → is_one_of codes code ≡ true → ¬ (code ≡ m)
 not-given codes code m f c = λ (e : code ≡ m). not-held (sym f ∙ ap (is_one_of codes) (sym e) ∙ c)
 
-check-is : (x : Seen) → check_numbers x ≡ write_numbers x 0
-check-is Fine = refl
-check-is (Bad code place) = refl
+check-is : (x : Result (Unit {0}) Refusal) → check_numbers x ≡ write_numbers x 0
+check-is (Ok u) = refl
+check-is (Err r) = refl
 
-check-fine : (s : List ℕ) → (check s).code ≡ 0 → check_sheet s ≡ Fine
+check-fine : (s : List ℕ) → (check s).code ≡ 0 → check_sheet s ≡ (Ok tt)
 unfolding is_one_of
 check-fine s e = zero-fine codes_of_text (check_sheet s) 0 refl (text_codes s) (ap (λ (a : Answer). a.code) (sym (check-is (check_sheet s))) ∙ e)
 
@@ -59,36 +61,40 @@ one_answer : (s : List ℕ) → (read s).answer ≡ check s
 unfolding sheet_numbers read_sheet
 one_answer s = go (check_sheet s)
   where
-    go : (x : Seen) → answer_of (got_from x s).code (got_from x s).place ≡ check_numbers x
-    go Fine = refl
-    go (Bad code place) = refl
+    go : (x : Result (Unit {0}) Refusal) → (sheet_numbers (x and_then Ok (sheet_at s))).answer ≡ check_numbers x
+    go (Ok u) = refl
+    go (Err r) = refl
 
-read_is : (s : List ℕ) → check_sheet s ≡ Fine → read s ≡ record { answer = accepted 0; sheet = sheet_at s; spare = 0 }
+read_is : (s : List ℕ) → check_sheet s ≡ (Ok tt) → read s ≡ record { answer = accepted 0; sheet = sheet_at s; spare = 0 }
 unfolding sheet_numbers read_sheet
 read_is s e = rw e
 
-sheet_is : (s : List ℕ) → check_sheet s ≡ Fine → (read s).sheet ≡ sheet_at s
+sheet_is : (s : List ℕ) → check_sheet s ≡ (Ok tt) → (read s).sheet ≡ sheet_at s
 sheet_is s e = ap (λ (a : SheetAnswer). a.sheet) (read_is s e)
 
 refused : (s : List ℕ) → ¬ ((check s).code ≡ 0) → ((read s).sheet ≡ no_sheet) × ((check s).length ≡ 0)
 unfolding sheet_numbers read_sheet
 refused s n = go (check_sheet s) n
   where
-    go : (x : Seen) → ¬ ((check_numbers x).code ≡ 0) → ((got_from x s).sheet ≡ no_sheet) × ((check_numbers x).length ≡ 0)
-    go Fine m = absurd (m refl)
-    go (Bad code place) m = (refl, refl)
+    go : (x : Result (Unit {0}) Refusal) → ¬ ((check_numbers x).code ≡ 0) → ((sheet_numbers (x and_then Ok (sheet_at s))).sheet ≡ no_sheet) × ((check_numbers x).length ≡ 0)
+    go (Ok u) m = absurd (m refl)
+    go (Err r) m = (refl, refl)
 
 spare : (s : List ℕ) → (read s).spare ≡ 0
 unfolding sheet_numbers
-spare s = refl
+spare s = go (read_sheet s)
+  where
+    go : (x : Result Sheet Refusal) → (sheet_numbers x).spare ≡ 0
+    go (Ok y) = refl
+    go (Err r) = refl
 
 allowed : (s : List ℕ) → (check s).code ≡ 0 → Sized (read s).sheet × Allowed (read s).sheet
 allowed s e = let f = check-fine s e in rw (sheet_is s f) (read-sized s f, read-allowed s f)
 
 -- ---- Writing
 
-module _ (x : Sheet) (out : List ℕ) (fine : allowed_sheet x ≡ Fine) (room : 913 ≤ length out) where
-  seen_it : write_seen x (length out) ≡ Fine
+module _ (x : Sheet) (out : List ℕ) (fine : allowed_sheet x ≡ (Ok tt)) (room : 913 ≤ length out) where
+  seen_it : write_seen x (length out) ≡ (Ok tt)
   unfolding write_seen
   seen_it = rw (fine, le-leb 913 (length out) room)
 
@@ -136,28 +142,28 @@ accepted_so s p = rw (p.1.2, text-accepted p.0 p.1.0 (allowed-fine p.0 p.1.0 p.1
 
 -- ---- The record first, then the room
 
-record Wrote (x : Sheet) (room : ℕ) (code : ℕ) : Type 0 where
-  zero_so : code ≡ 0 → (allowed_sheet x ≡ Fine) × (913 ≤ room)
-  two_so : code ≡ 2 → (allowed_sheet x ≡ Fine) × (room < 913)
+record Wrote (x : Sheet) (room code : ℕ) : Type 0 where
+  zero_so : code ≡ 0 → (allowed_sheet x ≡ (Ok tt)) × (913 ≤ room)
+  two_so : code ≡ 2 → (allowed_sheet x ≡ (Ok tt)) × (room < 913)
   given : is_one_of (0 ∷ 2 ∷ 4 ∷ 5 ∷ []) code ≡ true
 
 wrote : (x : Sheet) (room : ℕ) → Wrote x room (write_numbers (write_seen x room) 913).code
 unfolding write_seen is_one_of
 wrote x room = go (allowed_sheet x) refl (record_codes x)
   where
-    go : (a : Seen) → allowed_sheet x ≡ a → coded codes_of_record a ≡ true → Wrote x room (write_numbers (a and_then must (leb 913 room) 2 0) 913).code
-    go Fine e c =
+    go : (a : Result (Unit {0}) Refusal) → allowed_sheet x ≡ a → coded codes_of_record a ≡ true → Wrote x room (write_numbers (a and_then must (leb 913 room) NoRoom 0) 913).code
+    go (Ok u) e c =
         by_le 913 room
         (λ (h : 913 ≤ room). rw (le-leb 913 room h) (record { zero_so = λ z. (e, h); two_so = λ z. absurd (omega arith); given = refl }))
         (λ (h : room < 913). rw (lt-leb 913 room h) (record { zero_so = λ z. absurd (omega arith); two_so = λ z. (e, h); given = refl }))
-    go (Bad code place) e c =
+    go (Err r) e c =
         record {
-          zero_so = λ (z : code ≡ 0). absurd (not-given codes_of_record code 0 refl c z);
-          two_so = λ (z : code ≡ 2). absurd (not-given codes_of_record code 2 refl c z);
-          given = among (eqb code 0) (eqb code 2) c;
+          zero_so = λ (z : number_of r.code ≡ 0). absurd (not-given codes_of_record (number_of r.code) 0 refl c z);
+          two_so = λ (z : number_of r.code ≡ 2). absurd (not-given codes_of_record (number_of r.code) 2 refl c z);
+          given = among (eqb (number_of r.code) 0) (eqb (number_of r.code) 2) c;
         }
       where
-        among : (p q : Bool) → is_one_of codes_of_record code ≡ true → (p || (q || is_one_of codes_of_record code)) ≡ true
+        among : (p q : Bool) → is_one_of codes_of_record (number_of r.code) ≡ true → (p || (q || is_one_of codes_of_record (number_of r.code))) ≡ true
         among true q c = refl
         among false true c = refl
         among false false c = c
@@ -176,10 +182,10 @@ unwritten : (x : Sheet) (out : List ℕ) → ¬ ((write x out).code ≡ 0)
     → (written x out ≡ out) × (write x out ≡ answer_of (write x out).code (write x out).place)
 unwritten x out n = go (write_seen x (length out)) n
   where
-    go : (a : Seen) → ¬ ((write_numbers a 913).code ≡ 0)
+    go : (a : Result (Unit {0}) Refusal) → ¬ ((write_numbers a 913).code ≡ 0)
         → (left_by a (sheet_text x) out ≡ out) × (write_numbers a 913 ≡ answer_of (write_numbers a 913).code (write_numbers a 913).place)
-    go Fine m = absurd (m refl)
-    go (Bad code place) m = (refl, refl)
+    go (Ok u) m = absurd (m refl)
+    go (Err r) m = (refl, refl)
 
 -- ---- The codes
 
@@ -187,11 +193,11 @@ text-given : (s : List ℕ) → is_one_of (0 ∷ codes_of_text) (check s).code �
 unfolding is_one_of
 text-given s = go (check_sheet s) (text_codes s)
   where
-    go : (x : Seen) → coded codes_of_text x ≡ true → is_one_of (0 ∷ codes_of_text) (check_numbers x).code ≡ true
-    go Fine c = refl
-    go (Bad code place) c = among (eqb code 0) c
+    go : (x : Result (Unit {0}) Refusal) → coded codes_of_text x ≡ true → is_one_of (0 ∷ codes_of_text) (check_numbers x).code ≡ true
+    go (Ok u) c = refl
+    go (Err r) c = among (eqb (number_of r.code) 0) c
       where
-        among : (p : Bool) → is_one_of codes_of_text code ≡ true → (p || is_one_of codes_of_text code) ≡ true
+        among : (p : Bool) → is_one_of codes_of_text (number_of r.code) ≡ true → (p || is_one_of codes_of_text (number_of r.code)) ≡ true
         among true c = refl
         among false c = c
 
@@ -229,9 +235,9 @@ eight : (s : List ℕ) → (check s).code ≡ 8 → ¬ (length s ≡ 913)
 unfolding is_one_of
 eight s e = λ (l : length s ≡ 913). go (check_sheet s) (whole_codes_lem s l) e
   where
-    go : (x : Seen) → coded whole_codes x ≡ true → (check_numbers x).code ≡ 8 → ⊥
-    go Fine c z = let y : ◌≡◌ {A = ℕ} 0 8 = z in omega arith
-    go (Bad code place) c z = not-given whole_codes code 8 refl c z
+    go : (x : Result (Unit {0}) Refusal) → coded whole_codes x ≡ true → (check_numbers x).code ≡ 8 → ⊥
+    go (Ok u) c z = let y : ◌≡◌ {A = ℕ} 0 8 = z in omega arith
+    go (Err r) c z = not-given whole_codes (number_of r.code) 8 refl c z
 
 names : (s : List ℕ) (n : ℕ) → (check s).code ≡ 0 → n < 50
     → (part (5 * n) 4 (read s).sheet.airports ≡ part (field_at (cell_at (name_cell n))) 4 s)

@@ -10,7 +10,6 @@ use lib.Seq.{get_or-set_same, get_or-set_other}
 use borrow.Author.Tests.{eq-eqb}
 use Rattle.text.specs.Names.{is_designator}
 use Rattle.text.proofs.Cases.{by_eq, by_lt, by_test, both_right}
-use Rattle.text.specs.declared.Seen.TheVariants.{Fine}
 use Rattle.command.specs.Text.{check_command}
 use Rattle.join.specs.Join.{join_text}
 use Rattle.board.specs.Board.{Move, Stay, Put, Free, reply_of, is_valid, is_for, is_free, any, lowest, waiting, placed, handed_out, add, take_out}
@@ -21,19 +20,21 @@ use Rattle.board.specs.Words.{slot_at, InUse, ValidBoard}
 use Rattle.board.specs.declared.Slot.{Slot}
 use Rattle.board.proofs.Calls.{call-ten}
 use Rattle.board.proofs.Refusals.{refusals-all, placing-all, handing-all}
-use Rattle.board.proofs.LentWords.{formed, valid-said}
-use Rattle.tails.specs.Tails.{list_of}
-use Rattle.tails.specs.Keys.{keys_of, is_list_of}
+use Rattle.board.proofs.LentWords.{form, formed, valid-said}
+use Rattle.tails.specs.Tails.{below, listed, list_of, find_in}
+use Rattle.tails.specs.Keys.{rank_of, keys_of, is_list_of}
 use Rattle.tails.specs.Words.{all_bytes, SixBytes, ListOf}
-use Rattle.tails.specs.Calls.{has_list, made_lent, add_listed, take_listed, on_list}
+use Rattle.tails.specs.Calls.{search_lent, has_list, made_lent, add_listed, take_listed, on_list}
 use Rattle.tails.proofs.Said.{list-said, said-list, one-count}
 use Rattle.tails.proofs.Valid.{well_bytes, valid-list, one-list-of, list-is, valid-kept, search_own, search_none, search_four, search_ten, search_before}
 use Rattle.desk.specs.Numbers.{answer_of}
 use Rattle.desk.specs.Waiting.{reply_numbers, board_numbers}
-use Rattle.desk.specs.Tails.{tail_numbers}
+use Rattle.desk.specs.Tails.{slot_numbers, tail_numbers}
 use Rattle.promises.specs.BoardRuns.{Call, Add, Take, move_of, BeganEmpty, after_all, Told, log_from}
-use Rattle.promises.specs.Tails.{listed_move, listed_lent, list_after, listed_all, list_all, listed_log, make_answer, AsWithout, Disagrees, TailPromises}
+use Rattle.promises.specs.Tails.{listed_move, listed_lent, list_after, listed_all, list_all, listed_log, found, make_answer, AsWithout, Disagrees, TailPromises}
 use Rattle.promises.proofs.Asked.{asked, move-asked}
+use Rattle.std.specs.Prelude.{Option, Some, None, Ok}
+use Rattle.text.specs.declared.Code.TheVariants.{BoardInvalid}
 
 -- ---- A list that is the board's, and one that is not
 
@@ -45,7 +46,7 @@ unfolding add_listed take_listed
 listed_same x ts (Add d t) h = rw h
 listed_same x ts (Take d out) h = rw h
 
-listed-ten : (x : Lent) (ts : List ℕ) (c : Call) → is_list_of x.slots ts ≡ false → listed_move x ts c ≡ Stay 10 0
+listed-ten : (x : Lent) (ts : List ℕ) (c : Call) → is_list_of x.slots ts ≡ false → listed_move x ts c ≡ Stay BoardInvalid 0
 unfolding add_listed take_listed
 listed-ten x ts (Add d t) h = rw h
 listed-ten x ts (Take d out) h = rw h
@@ -64,7 +65,7 @@ without x ts (Take d out) e =
       buffer = ap (λ (m : Move). on_out m out) e;
     }
 
-stays : (x : Lent) (ts : List ℕ) (c : Call) → is_list_of x.slots ts ≡ false → listed_move x ts c ≡ Stay 10 0 → Disagrees x ts c
+stays : (x : Lent) (ts : List ℕ) (c : Call) → is_list_of x.slots ts ≡ false → listed_move x ts c ≡ Stay BoardInvalid 0 → Disagrees x ts c
 unfolding on_list
 stays x ts (Add d t) h e =
     record {
@@ -109,7 +110,7 @@ unfolding add_lent take_lent add take_out
 six-kept x (AddFor d t) six =
     let b = board_of x.slots x.area in
     let P : Move → Type 0 = λ (m : Move). SixBytes (on_slots m x.slots) in
-    either P (is_shaped x.slots x.area) (add b d t) (Stay 10 0)
+    either P (is_shaped x.slots x.area) (add b d t) (Stay BoardInvalid 0)
     (refusals-all P Stay (is_valid b) (is_designator d) (check_command t) (placed b d t) six six (λ code place k. six)
     (λ v n s.
     placing-all P Stay (any (is_for d) b) (any is_free b) (Put (lowest (is_for d) b) d (join_text (waiting d b) t)) (Put (lowest is_free b) d t) six
@@ -120,8 +121,8 @@ six-kept x (TakeFor d room) six =
     let b = board_of x.slots x.area in
     let P : Move → Type 0 = λ (m : Move). SixBytes (on_slots m x.slots) in
     let i = lowest (is_for d) b in
-    either P (is_shaped x.slots x.area) (take_out b d room) (Stay 10 0)
-    (refusals-all P Stay (is_valid b) (is_designator d) Fine (handed_out b d room) six six (λ code place k. six)
+    either P (is_shaped x.slots x.area) (take_out b d room) (Stay BoardInvalid 0)
+    (refusals-all P Stay (is_valid b) (is_designator d) (Ok tt) (handed_out b d room) six six (λ code place k. six)
     (λ v n s.
     handing-all P Stay (any (is_for d) b) (leb (length (waiting d b)) room) (Free i (waiting d b)) six six
     (λ k l. set-six x.slots i (record { designator = (slot_at x.slots i).designator; length = 0 }) six (at-six x.slots i six))))
@@ -218,6 +219,17 @@ began_so x b =
       blank = λ i h k. blank-at n i (omega (arith, k, length-replicate {A = ℕ} n 255));
     }
 
+-- ---- A search
+
+slot-at : (slot : Option ℕ) (at : ℕ) → (slot_numbers slot at).at ≡ at
+slot-at (Some slot) at = refl
+slot-at None at = refl
+
+found-before : (ss : List Slot) (ts d : List ℕ) → is_list_of ss ts ≡ true → is_designator d ≡ true
+    → (found ss ts d).at ≡ below (keys_of ss) (rank_of d) (listed ts)
+unfolding search_lent
+found-before ss ts d h w = rw (h, w) (slot-at (find_in (keys_of ss) (rank_of d) (listed ts)) (below (keys_of ss) (rank_of d) (listed ts)))
+
 -- ---- All of them
 
 pub tail_promises : TailPromises
@@ -238,9 +250,9 @@ tail_promises =
       as_walk = λ ss area ts d six v l.
           let h = said-list ss ts six l in
           record {
-            own = search_own ss area ts d v h;
-            none = search_none ss area ts d v h;
+            own = λ j o. let e = search_own ss area ts d v h j o in (ap (λ a. (tail_numbers a).code) e, ap (λ a. (tail_numbers a).slot) e);
+            none = λ w n. let e = search_none ss area ts d v h w n in (ap (λ a. (tail_numbers a).code) e, ap (λ a. (tail_numbers a).slot) e);
             malformed = λ n. ap tail_numbers (search_four ss ts d h n);
-            before = λ m w i k. search_before ss area ts d v h w i (one-count ss ts six m h i k);
+            before = λ m w i k. rw (found-before ss ts d h (form d w)) (search_before ss area ts d v h w i (one-count ss ts six m h i k));
           };
     }

@@ -6,8 +6,6 @@ use Prim.Native.Nat.{ℕ, ◌≤◌}
 use native.Mathlib.Omega.{arith}
 use lib.ListN.{length}
 use Rattle.text.specs.Checks.{is_fine}
-use Rattle.text.specs.declared.Seen.{Seen}
-use Rattle.text.specs.declared.Seen.TheVariants.{Fine, Bad}
 use Rattle.text.proofs.Cases.{by_test}
 use Rattle.settings.specs.declared.Settings.{Settings}
 use Rattle.command.specs.Text.{longest, check_command}
@@ -22,6 +20,8 @@ use Rattle.board.proofs.Joined.{all_fine, accepted-short, joined-fine, joined-ac
 use Rattle.promises.specs.BoardRuns.{Run, now, accepted_for, join_of, NothingWaits, Waits}
 use Rattle.promises.proofs.Waits.{waits_in, nothing_said}
 use Rattle.promises.proofs.InRun.{joined_is, in_run, none_said}
+use Rattle.std.specs.Prelude.{Result, Ok, Err}
+use Rattle.text.specs.declared.Refusal.{Refusal}
 
 -- ---- Applied one after the other
 
@@ -29,9 +29,9 @@ kept-act : (x : Settings) (t : List ℕ) → valid x ≡ true → kept x t ≡ a
 unfolding kept
 kept-act x t v = rw v (go (check_command t))
   where
-    go : (s : Seen) → kept_by s x t ≡ cond (is_fine s) (apply_to x t) x
-    go Fine = refl
-    go (Bad code place) = refl
+    go : (s : Result (Unit {0}) Refusal) → kept_by s x t ≡ cond (is_fine s) (apply_to x t) x
+    go (Ok u) = refl
+    go (Err r) = refl
 
 act-valid : (x : Settings) (t : List ℕ) → valid x ≡ true → valid (act x t) ≡ true
 act-valid x t v =
@@ -66,10 +66,10 @@ module _ (r : Run) (d : List ℕ) where
       (nothing_said (now r) i.shaped d i.valid).yes_so (ap is_none (i.waits d) ∙ (none_said r d).so_yes e)
 
   -- they are an accepted command
-  pub fine : ¬ (accepted_for r d ≡ []) → check_command (join_of (accepted_for r d)) ≡ Fine
+  pub fine : ¬ (accepted_for r d ≡ []) → check_command (join_of (accepted_for r d)) ≡ (Ok tt)
   fine n = go (accepted_for r d) n ((in_run r).fine d)
     where
-      go : (ts : List (List ℕ)) → ¬ (ts ≡ []) → all_fine ts ≡ true → check_command (join_of ts) ≡ Fine
+      go : (ts : List (List ℕ)) → ¬ (ts ≡ []) → all_fine ts ≡ true → check_command (join_of ts) ≡ (Ok tt)
       go [] n a = absurd (n refl)
       go (t ∷ ts) n a =
           ap check_command (sym (joined_is (t ∷ ts) a)) ∙ is-fine (check_command (joined (t ∷ ts))) (joined-fine t ts a)

@@ -1,8 +1,8 @@
 -- Document 02, §10, "Gusts worked out here": what is promised of esk_gust. The formula is said in gust/specs/Words, each
 -- quotient by the two products that it lies between.
-use Rattle.std.specs.Prelude.{◌≡◌, map, ℕ, ◌≤◌, ◌<◌, length, get_or, ℤ, pos, negsuc}
-use Rattle.gust.specs.declared.Derived.{Derived}
-use Rattle.gust.specs.declared.Derived.TheVariants.{Gust, Refused}
+use Rattle.std.specs.Prelude.{◌≡◌, map, ℕ, ◌≤◌, ◌<◌, length, get_or, ℤ, pos, negsuc, Result, Ok, Err}
+use Rattle.text.specs.Codes.{number_of}
+use Rattle.text.specs.declared.Code.{Code}
 use Rattle.gust.specs.Rows.{row, rows}
 use Rattle.gust.specs.Printed.{printed_rows}
 use Rattle.gust.specs.Gust.{gust_of, row_at, derived}
@@ -23,9 +23,9 @@ answer gust code = record { gust = gust; code = code; spare = 0; rest = 0 }
 abbrev pub refused : HostGust
 refused = answer (pos 0) 5
 
-abbrev pub expected : Derived → HostGust
-expected (Gust g) = answer g 0
-expected (Refused code) = answer (pos 0) code
+abbrev pub expected : Result ℤ Code → HostGust
+expected (Ok g) = answer g 0
+expected (Err code) = answer (pos 0) (number_of code)
 
 -- g is the gust of row k at these inputs, below zero or beyond the greatest too
 abbrev pub Gusts : ℕ → ℤ → ℕ → ℕ → ℕ → ℤ → Type 0

@@ -11,8 +11,8 @@ use Rattle.field.specs.Decimal.{value}
 use Rattle.journal.specs.Journal.{Entry, last_entry}
 use Rattle.journal.specs.Calls.{check_journal, added, added_over, dropped, texts_for, replayed}
 use Rattle.journal.specs.Printed.{offset_text, print_told, printed_over}
-use Rattle.desk.specs.Numbers.{accepted, answer_of, check_numbers}
-use Rattle.desk.specs.Journal.{journal_numbers, entry_numbers, replay_numbers, kept_replay}
+use Rattle.desk.specs.Numbers.{accepted, answer_of, check_numbers, length_numbers}
+use Rattle.desk.specs.Journal.{entry_numbers, replay_numbers, kept_replay}
 use Rattle.desk.specs.declared.Answer.{Answer}
 use Rattle.desk.specs.declared.HostEntry.{HostEntry}
 use Rattle.promises.specs.BoardRuns.{IsAccepted, SixAllowed}
@@ -27,10 +27,10 @@ abbrev pub last_answer : List ℕ → ℕ → HostEntry
 last_answer s end = entry_numbers (last_entry s end)
 
 abbrev pub add_answer : List ℕ → ℕ → List ℕ → List ℕ → Answer
-add_answer s end d t = journal_numbers (added s end d t)
+add_answer s end d t = length_numbers (added s end d t)
 
 abbrev pub drop_answer : List ℕ → ℕ → ℕ → Answer
-drop_answer s end n = journal_numbers (dropped s end n)
+drop_answer s end n = length_numbers (dropped s end n)
 
 abbrev pub replay_answer : List ℕ → ℕ → List ℕ → Answer
 replay_answer s end d = replay_numbers (replayed s end d)
@@ -39,7 +39,7 @@ abbrev pub settings_after : Settings → List ℕ → ℕ → List ℕ → Setti
 settings_after x s end d = kept_replay x (replayed s end d)
 
 abbrev pub print_answer : List ℕ → ℕ → List ℕ → Answer
-print_answer s end out = journal_numbers (print_told s end (length out))
+print_answer s end out = length_numbers (print_told s end (length out))
 
 -- ---- The sentences
 

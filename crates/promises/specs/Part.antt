@@ -1,8 +1,7 @@
 -- Document 02, §7, "Just the ascent part": what is promised of esk_section. Which section is whole and which count is on the way is
 -- said in finder/specs/Words.
-use Rattle.std.specs.Prelude.{◌≡◌, ◌↔◌, true, false, List, [], ◌∷◌, ◌++◌, ℕ, ◌+◌, ◌-◌, ◌≤◌, ◌<◌, length, get_or}
+use Rattle.std.specs.Prelude.{◌≡◌, ◌↔◌, true, false, List, [], ◌∷◌, ◌++◌, ℕ, ◌+◌, ◌-◌, ◌≤◌, ◌<◌, length, get_or, Ok}
 use Rattle.text.specs.Parts.{part}
-use Rattle.field.specs.declared.Step.TheVariants.{Next, Stop}
 use Rattle.section.specs.Layout.{Item, layout_of, items_size}
 use Rattle.section.specs.Contents.{contents_at}
 use Rattle.command.specs.Text.{check_head, is_named, longest}
@@ -14,6 +13,9 @@ use Rattle.desk.specs.Parts.{part_or_refusal, part_numbers}
 use Rattle.desk.specs.declared.HostPart.{HostPart}
 use Rattle.promises.specs.BoardRuns.{IsAccepted}
 use Rattle.promises.specs.Command.{check}
+use Rattle.text.specs.Checks.{refuse}
+use Rattle.text.specs.Codes.{number_of}
+use Rattle.text.specs.declared.Code.{Code}
 
 -- what C is told
 abbrev pub told : ℕ → List ℕ → HostPart
@@ -51,15 +53,15 @@ pub record PartPromises : Type 0 where
   pub number : (k : ℕ) (s : List ℕ) → ¬ IsSection k → told k s ≡ refusal 5 0
   -- "code 1 and the header's refusals come as in document 01"
   pub long : (k : ℕ) (s : List ℕ) → IsSection k → longest < length s → told k s ≡ refusal 1 0
-  pub header : (k : ℕ) (s : List ℕ) (code place : ℕ) → IsSection k → length s ≤ longest → check_head s ≡ Stop code place
-      → (told k s ≡ refusal code place) × (check s ≡ answer_of code place)
+  pub header : (k : ℕ) (s : List ℕ) (code : Code) (place : ℕ) → IsSection k → length s ≤ longest → check_head s ≡ refuse code place
+      → (told k s ≡ refusal (number_of code) place) × (check s ≡ answer_of (number_of code) place)
   -- "a section that the header doesn't name then gives code 0 with an empty part"
-  pub unnamed : (k : ℕ) (s : List ℕ) → IsSection k → length s ≤ longest → check_head s ≡ Next 22 → is_named s k ≡ false
+  pub unnamed : (k : ℕ) (s : List ℕ) → IsSection k → length s ≤ longest → check_head s ≡ Ok 22 → is_named s k ≡ false
       → told k s ≡ nothing
   -- "A count on the way is checked as there, 8 at the count if it begins no later than the text's end and is cut"
-  pub count : (h k : ℕ) (s : List ℕ) (is rest : List Item) (i : Item) (code place : ℕ) → OnTheWay h k s
+  pub count : (h k : ℕ) (s : List ℕ) (is rest : List Item) (i : Item) (code : Code) (place : ℕ) → OnTheWay h k s
       → layout_of h ≡ is ++ (i ∷ rest) → CountsFine is s (place_of s h) → behind is s (place_of s h) ≤ length s
-      → count_seen i s (behind is s (place_of s h)) ≡ Stop code place → told k s ≡ refusal code place
+      → count_seen i s (behind is s (place_of s h)) ≡ refuse code place → told k s ≡ refusal (number_of code) place
   -- "else a section passed over or asked for that runs past the end is 8 at its start": the next of its items would begin past
   -- the end, or all of them end there and its delimiter is missing
   pub past : (h k : ℕ) (s : List ℕ) (is js : List Item) → OnTheWay h k s → layout_of h ≡ is ++ js → CountsFine is s (place_of s h)

@@ -6,7 +6,6 @@ use native.Mathlib.Omega.{arith}
 use Rattle.field.specs.Decimal.{value}
 use Rattle.field.specs.Fields.{check_delimiter, check_airfield}
 use Rattle.field.specs.Boxes.{check_box}
-use Rattle.field.specs.declared.Step.TheVariants.{Next}
 use Rattle.field.proofs.Local.{Local, Reads, Sized, after-cases, reads_fixed, reads_with}
 use Rattle.field.proofs.LocalThen.{bound_local, bound-first, bound-second, bound-sized}
 use Rattle.field.proofs.LocalFields.{digits_local, digits-reads, digits-sized, delimiter_local, delimiter-sized}
@@ -14,6 +13,7 @@ use Rattle.lists.specs.Lists.{check_airfields, airfields_at, check_boxes, boxes_
 use Rattle.lists.proofs.Local.{airfields_local, airfields-sized, airfields-reads, boxes_local, boxes-sized, boxes-reads, count_most}
 use Rattle.section.specs.Layout.{Item, Digits, AirfieldList, BoxList, check_item, check_items, item_size, items_size, item_most, items_most}
 use Rattle.section.specs.Contents.{Amount, Names, Areas, content_at, contents_at}
+use Rattle.std.specs.Prelude.{Ok}
 
 -- ---- One item
 
@@ -30,7 +30,7 @@ item_sized AirfieldList = airfields-sized
 item_sized BoxList = boxes-sized
 
 -- and no longer than it can be
-pub item_most_lem : (i : Item) (s : List ℕ) (at p : ℕ) → check_item i s at ≡ Next p → item_size i s at ≤ item_most i
+pub item_most_lem : (i : Item) (s : List ℕ) (at p : ℕ) → check_item i s at ≡ Ok p → item_size i s at ≤ item_most i
 item_most_lem (Digits r) s at p e = omega arith
 item_most_lem AirfieldList s at p e = omega (arith, count_most 20 check_airfield s at p e)
 item_most_lem BoxList s at p e = omega (arith, count_most 16 check_box s at p e)
@@ -72,12 +72,12 @@ items-reads (i ∷ is) =
     (λ a. items-reads is))
 
 -- no accepted section is longer than its longest
-pub items-most : (is : List Item) (s : List ℕ) (at p : ℕ) → check_items is s at ≡ Next p → items_size is s at ≤ items_most is
+pub items-most : (is : List Item) (s : List ℕ) (at p : ℕ) → check_items is s at ≡ Ok p → items_size is s at ≤ items_most is
 unfolding check_items items_size items_most
 items-most [] s at p e = omega arith
 items-most (i ∷ is) s at q e =
     after-cases (check_item i s at) (check_items is s) q e
-    (λ p (d : check_item i s at ≡ Next p) (c : check_items is s p ≡ Next q).
+    (λ p (d : check_item i s at ≡ Ok p) (c : check_items is s p ≡ Ok q).
     let k : p ≡ at + item_size i s at = (item_sized i).passes s at p d in
     omega (arith, item_most_lem i s at p d, items-most is s (at + item_size i s at) q (rw k at c)))
 

@@ -8,17 +8,17 @@ use lib.ListN.{length, take, drop, length-drop, take-append-drop}
 use lib.Seq.{length-take-le, take_at, drop_at}
 use Rattle.text.specs.Parts.{part}
 use Rattle.text.proofs.Parts.{part-rest}
-use Rattle.field.specs.declared.Step.{Step}
-use Rattle.field.specs.declared.Step.TheVariants.{Next, Stop}
-use Rattle.field.proofs.Accepted.{stop_next}
+use Rattle.text.proofs.Checks.{err_ok}
 use Rattle.field.proofs.Local.{shifted}
 use Rattle.section.specs.Layout.{Item, check_items, items_size, items_most}
 use Rattle.section.specs.Contents.{contents_at}
 use Rattle.section.proofs.Local.{items_local, items-sized, items-reads, items-most, items-some}
+use Rattle.std.specs.Prelude.{Result, Ok, Err}
+use Rattle.text.specs.declared.Refusal.{Refusal}
 
 -- the bytes b are a section by themselves: accepted from their first to their last
 abbrev pub Own : List Item → List ℕ → Type 0
-Own is b = check_items is b 0 ≡ Next (length b)
+Own is b = check_items is b 0 ≡ Ok (length b)
 
 module _ (is : List Item) (b : List ℕ) (own : Own is b) where
   -- they are as many as their counts say
@@ -37,9 +37,9 @@ module _ (is : List Item) (b : List ℕ) (own : Own is b) where
 
 module _ (is : List Item) (x b y : List ℕ) (at : ℕ) (starts : length x ≡ at) (own : Own is b) where
   -- they are accepted there
-  pub put_check : check_items is (x ++ (b ++ y)) at ≡ Next (at + length b)
+  pub put_check : check_items is (x ++ (b ++ y)) at ≡ Ok (at + length b)
   put_check =
-      let e : check_items is (b ++ y) 0 ≡ Next (length b) = (items_local is).extend b y 0 (length b) own in
+      let e : check_items is (b ++ y) 0 ≡ Ok (length b) = (items_local is).extend b y 0 (length b) own in
       rw (← starts)
       (ap (check_items is (x ++ (b ++ y))) (sym (add-zero (length x))) ∙ (items_local is).shift x (b ++ y) 0 ∙ ap (shifted (length x)) e)
 
@@ -68,11 +68,11 @@ module _ (is : List Item) (x b y : List ℕ) (at : ℕ) (starts : length x ≡ a
 
 -- ---- Cut out of a text
 
-shifted_next : (n p : ℕ) (r : Step) → shifted n r ≡ Next p → (q : ℕ) × (r ≡ Next q) × (p ≡ n + q)
-shifted_next n p (Next q) e = (q, refl, cc)
-shifted_next n p (Stop code q) e = stop_next code (n + q) p e
+shifted_next : (n p : ℕ) (r : Result ℕ Refusal) → shifted n r ≡ Ok p → (q : ℕ) × (r ≡ Ok q) × (p ≡ n + q)
+shifted_next n p (Ok q) e = (q, refl, cc)
+shifted_next n p (Err r) e = err_ok (record { code = r.code; place = n + r.place }) p e
 
-module _ (is : List Item) (s : List ℕ) (at p : ℕ) (e : check_items is s at ≡ Next p) where
+module _ (is : List Item) (s : List ℕ) (at p : ℕ) (e : check_items is s at ≡ Ok p) where
   -- an accepted section ends where its counts say
   pub cut_end : p ≡ at + items_size is s at
   cut_end = (items-sized is).passes s at p e
@@ -104,7 +104,7 @@ module _ (is : List Item) (s : List ℕ) (at p : ℕ) (e : check_items is s at �
       let x = take at s in
       let b = part at n s in
       let y = drop (at + n) s in
-      let f : check_items is (x ++ (b ++ y)) (length x + 0) ≡ Next p = rw (← cut_text, cut_starts, add-zero at) e in
+      let f : check_items is (x ++ (b ++ y)) (length x + 0) ≡ Ok p = rw (← cut_text, cut_starts, add-zero at) e in
       let g = shifted_next (length x) p (check_items is (b ++ y) 0) (sym ((items_local is).shift x (b ++ y) 0) ∙ f) in
       let l = cut_length in
       let k : g.0 ≡ length b = omega (arith, g.2, cut_end, cut_starts) in

@@ -7,8 +7,10 @@ use native.Mathlib.Omega.{arith}
 use lib.Dec.{leb, ltb, eqb}
 use lib.ListN.{length, get_or, drop}
 use lib.Seq.{drop-nil, get_or-take}
-use borrow.Author.Tests.{leb-true, ltb-true, eqb-true, ne_eqb}
+use borrow.Author.Tests.{leb-true, ltb-true, ne_eqb}
 use Rattle.text.proofs.Cases.{by_test, both_left, both_right}
+use Rattle.text.specs.declared.Code.{Code}
+use Rattle.text.specs.declared.Code.TheVariants.{NotAllowed, OutOfRange, WrongLength}
 use Rattle.section.specs.declared.Row.{Row}
 use Rattle.section.specs.declared.Layout.{Layout}
 use Rattle.section.specs.Layout.{Item, Digits, AirfieldList, BoxList, Section, no_row, look, sections, none, is_empty, items_of, table_of, layout_of}
@@ -49,7 +51,7 @@ table-past k h = look-past 10 k sections none refl h
 
 -- what an array of rows has past its end
 abbrev pub zero_row : Row
-zero_row = record { code = 0; width = 0; least = 0; most = 0 }
+zero_row = record { code = WrongLength; width = 0; least = 0; most = 0 }
 
 -- the rows from the i-th on
 abbrev pub rows_from : List Row → ℕ → List Item
@@ -97,7 +99,19 @@ table-small k =
     let small = all_small (table_of k).rows in
     (leb-true (length (table_of k).rows) 8 (both_left few small (is-small k)), both_right few small (is-small k))
 
-any_default : (rows : List Row) (i : ℕ) (d e : Row) → i < length rows → get_or rows i d ≡ get_or rows i e
+-- rows that are a section's are few
+pub few_rows : (k : ℕ) (rows : List Row) → rows ≡ (table_of k).rows → length rows ≤ 8
+few_rows k rows e = rw e (table-small k).0
+
+-- and each is small
+pub near_row : (k : ℕ) (rows : List Row) (i : ℕ) → rows ≡ (table_of k).rows → i < length rows
+    → (length rows ≤ 8) × (((get_or rows i zero_row).width ≤ 3) × ((get_or rows i zero_row).most ≤ 999))
+near_row k rows i e h =
+    let t = table-small k in
+    let small : all_small rows ≡ true = rw e t.1 in
+    (few_rows k rows e, small_row rows i zero_row h small)
+
+pub any_default : (rows : List Row) (i : ℕ) (d e : Row) → i < length rows → get_or rows i d ≡ get_or rows i e
 any_default [] i d e h = absurd (omega arith)
 any_default (r ∷ rows) zero d e h = refl
 any_default (r ∷ rows) (suc i) d e h = any_default rows i d e (omega arith)
@@ -131,20 +145,27 @@ table-some k =
 
 -- ---- Codes
 
--- the code of another number is 4, a mark's, or 5
+-- a mark's code, and any other number's
+abbrev pub fits_code : Code → Bool
+fits_code NotAllowed = true
+fits_code OutOfRange = true
+fits_code _ = false
+
+-- the code of another number is one of the two
 unfoldable pub codes_fit : List Item → Bool
 codes_fit [] = true
-codes_fit (Digits r ∷ is) = (eqb r.code 4 || eqb r.code 5) && codes_fit is
+codes_fit (Digits r ∷ is) = fits_code r.code && codes_fit is
 codes_fit (AirfieldList ∷ is) = codes_fit is
 codes_fit (BoxList ∷ is) = codes_fit is
 
 -- what is so of both is so of it
-pub four-or-five : (test : ℕ → Bool) (code : ℕ) → test 4 ≡ true → test 5 ≡ true → (eqb code 4 || eqb code 5) ≡ true → test code ≡ true
-four-or-five test code a b e =
-    by_test (eqb code 4)
-    (λ (y : eqb code 4 ≡ true). rw (eqb-true code 4 y) a)
-    (λ (y : eqb code 4 ≡ false). rw (eqb-true code 5 (rw y at e)) b)
+pub four-or-five : (test : Code → Bool) (code : Code) → test NotAllowed ≡ true → test OutOfRange ≡ true → fits_code code ≡ true → test code ≡ true
+four-or-five test NotAllowed a b e = a
+four-or-five test OutOfRange a b e = b
+four-or-five test _ a b e = let z : ◌≡◌ {A = Bool} false true = e in cc
 
 pub table-coded : (k : ℕ) → codes_fit (layout_of k) ≡ true
 unfolding layout_of table_of codes_fit
 table-coded k = look-passes (λ l. codes_fit (items_of l)) k sections none refl refl
+
+pub ruleset tables = (table-some)

@@ -1,14 +1,13 @@
 -- What a section holds: read out of its text, checked as a record, written as its text.
-use Rattle.std.specs.Prelude.{◌&&◌, List, [], ◌∷◌, ◌++◌, ℕ, ◌+◌, leb, length}
+use Rattle.std.specs.Prelude.{◌&&◌, List, [], ◌∷◌, ◌++◌, ℕ, ◌+◌, leb, length, Result, Ok}
 use Rattle.text.specs.Parts.{part}
 use Rattle.text.specs.Checks.{must, ◌and_then◌}
-use Rattle.text.specs.declared.Seen.{Seen}
-use Rattle.text.specs.declared.Seen.TheVariants.{Fine}
 use Rattle.field.specs.Decimal.{value, decimal}
 use Rattle.lists.specs.Lists.{airfields_at, airfields_allowed, airfields_text, no_airfields, boxes_at, boxes_allowed, boxes_text, no_boxes}
 use Rattle.lists.specs.declared.Airfields.{Airfields}
 use Rattle.lists.specs.declared.Boxes.{Boxes}
 use Rattle.section.specs.Layout.{Item, Digits, AirfieldList, BoxList, item_size}
+use Rattle.text.specs.declared.Refusal.{Refusal}
 
 -- what an item holds
 pub data Content : Type 0 where
@@ -56,13 +55,13 @@ contents_text (i ∷ is) (c ∷ cs) = content_text i c ++ contents_text is cs
 
 -- ---- A record's own check, with the places where the fields would stand
 
-abbrev pub content_allowed : Item → ℕ → Content → Seen
+abbrev pub content_allowed : Item → ℕ → Content → Result (Unit {0}) Refusal
 content_allowed (Digits r) at c = must (leb r.least (amount_of c) && leb (amount_of c) r.most) r.code at
 content_allowed AirfieldList at c = airfields_allowed at (names_of c)
 content_allowed BoxList at c = boxes_allowed at (areas_of c)
 
-unfoldable pub contents_allowed : List Item → ℕ → List Content → Seen
-contents_allowed [] at cs = Fine
-contents_allowed (i ∷ is) at [] = Fine
+unfoldable pub contents_allowed : List Item → ℕ → List Content → Result (Unit {0}) Refusal
+contents_allowed [] at cs = (Ok tt)
+contents_allowed (i ∷ is) at [] = (Ok tt)
 contents_allowed (i ∷ is) at (c ∷ cs) =
     content_allowed i at c and_then contents_allowed is (at + length (content_text i c)) cs

@@ -1,13 +1,10 @@
 -- What the inner functions ask for and answer. No promise to a caller rests on these names.
-use Rattle.std.specs.Prelude.{◌≡◌, Bool, true, ◌&&◌, List, [], ◌∷◌, ◌++◌, map, ℕ, ◌+◌, ◌-◌, ◌≤◌, leb, length, get_or, take, replicate}
-use Rattle.text.specs.declared.Seen.{Seen}
-use Rattle.text.specs.declared.Seen.TheVariants.{Fine, Bad}
-use Rattle.field.specs.declared.Step.{Step}
-use Rattle.field.specs.declared.Step.TheVariants.{Next, Stop}
+use Rattle.std.specs.Prelude.{◌≡◌, Bool, true, ◌&&◌, List, [], ◌∷◌, ◌++◌, map, ℕ, ◌+◌, ◌-◌, ◌≤◌, leb, length, get_or, take, replicate, Result, Ok, Err}
 use Rattle.section.specs.declared.Row.{Row}
 use Rattle.section.specs.declared.Layout.{Layout}
 use Rattle.section.specs.Layout.{Item, Section, no_row}
 use Rattle.section.specs.Contents.{Content, amount_of, contents_text, contents_allowed}
+use Rattle.text.specs.declared.Refusal.{Refusal}
 
 -- ---- Rows
 
@@ -35,15 +32,15 @@ Fit x v = (i : ℕ) → (get_or x.rows i no_row).most ≤ 255 → get_or v i 0 �
 -- ---- A record's section: where what follows it would begin, or the refusal
 
 -- what a check saw, and where it goes on from there
-abbrev pub going_on : Seen → ℕ → Step
-going_on Fine next = Next next
-going_on (Bad code place) next = Stop code place
+abbrev pub going_on : Result (Unit {0}) Refusal → ℕ → Result ℕ Refusal
+going_on (Ok u) next = Ok next
+going_on (Err r) next = Err r
 
 -- allowed contents are followed by what stands behind their text
-abbrev pub pass_contents : List Item → ℕ → List Content → Step
+abbrev pub pass_contents : List Item → ℕ → List Content → Result ℕ Refusal
 pass_contents is at cs = going_on (contents_allowed is at cs) (at + length (contents_text is cs))
 
 -- no further than a place
-abbrev pub Reaches : ℕ → Step → Type 0
-Reaches most (Next p) = p ≤ most
-Reaches most (Stop code place) = Unit
+abbrev pub Reaches : ℕ → Result ℕ Refusal → Type 0
+Reaches most (Ok p) = p ≤ most
+Reaches most (Err r) = Unit

@@ -1,10 +1,11 @@
 -- Document 01, "The command": each section number has its own length and its own limits.
-use Rattle.std.specs.Prelude.{◌≡◌, Bool, true, false, cond, List, [], ◌∷◌, map, ℕ, zero, suc, ◌+◌, ◌*◌, eqb}
-use Rattle.field.specs.Fields.{after, check_digits, check_delimiter}
-use Rattle.field.specs.declared.Step.{Step}
-use Rattle.field.specs.declared.Step.TheVariants.{Next}
+use Rattle.std.specs.Prelude.{◌≡◌, Bool, true, false, cond, List, [], ◌∷◌, map, ℕ, zero, suc, ◌+◌, ◌*◌, eqb, Result, Ok}
+use Rattle.field.specs.Fields.{check_digits, check_delimiter}
+use Rattle.text.specs.Checks.{after}
 use Rattle.lists.specs.Lists.{most_boxes, most_airfields, check_airfields, check_boxes, count_at}
 use Rattle.section.specs.declared.Row.{Row}
+use Rattle.text.specs.declared.Refusal.{Refusal}
+use Rattle.text.specs.declared.Code.TheVariants.{NotAllowed, OutOfRange}
 
 -- what a section is made of
 pub data Item : Type 0 where
@@ -14,11 +15,11 @@ pub data Item : Type 0 where
 
 -- a number of w digits: one that doesn't fit is 5
 abbrev pub number : ℕ → ℕ → ℕ → Row
-number w least most = record { code = 5; width = w; least = least; most = most }
+number w least most = record { code = OutOfRange; width = w; least = least; most = most }
 
 -- a mark, one byte, a digit from the first to the second: another is 4
 abbrev pub mark : ℕ → ℕ → Row
-mark least most = record { code = 4; width = 1; least = least; most = most }
+mark least most = record { code = NotAllowed; width = 1; least = least; most = most }
 
 abbrev pub no_row : Row
 no_row = number 0 0 0
@@ -98,16 +99,16 @@ is_empty (i ∷ is) = false
 
 -- ---- A section's text, from a place on
 
-abbrev pub check_item : Item → List ℕ → ℕ → Step
+abbrev pub check_item : Item → List ℕ → ℕ → Result ℕ Refusal
 check_item (Digits r) s at = check_digits r.code r.width r.least r.most s at
 check_item AirfieldList s at = check_airfields s at
 check_item BoxList s at = check_boxes s at
 
-unfoldable pub check_items : List Item → List ℕ → ℕ → Step
+unfoldable pub check_items : List Item → List ℕ → ℕ → Result ℕ Refusal
 check_items [] s at = check_delimiter s at
 check_items (i ∷ is) s at = after (check_item i s at) (check_items is s)
 
-abbrev pub check_section : ℕ → List ℕ → ℕ → Step
+abbrev pub check_section : ℕ → List ℕ → ℕ → Result ℕ Refusal
 check_section k s at = check_items (layout_of k) s at
 
 -- ---- How long a section is, from its counts alone
@@ -135,4 +136,4 @@ items_most (i ∷ is) = item_most i + items_most is
 -- ---- An accepted section, which ends where its counts say
 
 abbrev pub Accepted : ℕ → List ℕ → ℕ → Type 0
-Accepted k s at = check_section k s at ≡ Next (at + items_size (layout_of k) s at)
+Accepted k s at = check_section k s at ≡ Ok (at + items_size (layout_of k) s at)

@@ -2,103 +2,67 @@
 ghost use Rattle.std.specs.Prelude.{◌≡◌, ◌≤◌, length};
 ghost use Rattle.field.specs.Fields.{repeat};
 ghost use Rattle.lists.specs.Lists.{check_airfields, check_boxes};
-ghost use Rattle.section.specs.Layout.{table_of, check_items, check_section, digits_of, lists_and_digits};
+ghost use Rattle.section.specs.Layout.{table_of, check_items, check_section, digits_of};
 
 use crate::table::layout_of;
-use field::Step;
 use field::check::{delimiter, digits};
-use field::record::{middle, wide};
 use lists::check::{airfields, boxes};
+use text::Refusal;
 
 // n lists of boxes.
-fn box_lists(s: &[u8], at: usize, n: usize) -> Step
+#[tactic(auto, using(field::proofs::Repeat::repeat_end, field::proofs::Repeat::repeat_turn, field::proofs::Repeat::repeat_stop))]
+fn box_lists(s: &[u8], at: usize, n: usize) -> Result<usize, Refusal>
     requires { at ≤ length s.now }
     ensures { result ≡ repeat (check_boxes s.now) n at }
 {
     let mut p = at;
-    let mut i: usize = 0;
-    while i < n {
-        let q = match boxes(s, p) {
-            Step::Stop(code, place) => {
-                return Step::Stop(code, place);
-            }
-            Step::Next(q) => q,
-        };
-        p = q;
-        i += 1;
+    for _ in 0..n {
+        p = boxes(s, p)?;
     }
-    Step::Next(p)
+    Ok(p)
 }
 
 // n lists of airfields.
-fn airfield_lists(s: &[u8], at: usize, n: usize) -> Step
+#[tactic(auto, using(field::proofs::Repeat::repeat_end, field::proofs::Repeat::repeat_turn, field::proofs::Repeat::repeat_stop))]
+fn airfield_lists(s: &[u8], at: usize, n: usize) -> Result<usize, Refusal>
     requires { at ≤ length s.now }
     ensures { result ≡ repeat (check_airfields s.now) n at }
 {
     let mut p = at;
-    let mut i: usize = 0;
-    while i < n {
-        let q = match airfields(s, p) {
-            Step::Stop(code, place) => {
-                return Step::Stop(code, place);
-            }
-            Step::Next(q) => q,
-        };
-        p = q;
-        i += 1;
+    for _ in 0..n {
+        p = airfields(s, p)?;
     }
-    Step::Next(p)
+    Ok(p)
 }
 
 // The digits of a section, row by row, and `/`.
-fn all_digits(s: &[u8], at: usize, k: usize) -> Step
+#[tactic(auto, using(crate::proofs::Come::come_rest, crate::proofs::Come::come_stop, crate::proofs::Rows::rows_end), unfolding(crate::specs::Layout::check_items))]
+fn all_digits(s: &[u8], at: usize, k: usize) -> Result<usize, Refusal>
     requires { at ≤ length s.now }
     ensures { result ≡ check_items (digits_of (table_of k)) s.now at }
 {
     let l = layout_of(k);
-    let n = l.count;
-    let rows = l.rows;
     let mut p = at;
-    let mut i: usize = 0;
-    while i < n {
-        let row = rows[i];
-        let q = match digits(
+    for row in &l.rows[..l.count] {
+        p = digits(
             s,
             p,
-            wide(row.width),
-            middle(row.least),
-            middle(row.most),
+            row.width as usize,
+            row.least as usize,
+            row.most as usize,
             row.code,
-        ) {
-            Step::Stop(code, place) => {
-                return Step::Stop(code, place);
-            }
-            Step::Next(q) => q,
-        };
-        p = q;
-        i += 1;
+        )?;
     }
     delimiter(s, p)
 }
 
-// Lists of airfields, and then digits.
-fn behind_boxes(s: &[u8], at: usize, k: usize) -> Step
-    requires { at ≤ length s.now }
-    ensures { result ≡ check_items (lists_and_digits (table_of k)) s.now at }
-{
-    match airfield_lists(s, at, layout_of(k).airfields) {
-        Step::Stop(code, place) => Step::Stop(code, place),
-        Step::Next(p) => all_digits(s, p, k),
-    }
-}
-
 // A section as its layout says.
-pub fn check_section(s: &[u8], at: usize, k: usize) -> Step
+pub fn check_section(s: &[u8], at: usize, k: usize) -> Result<usize, Refusal>
     requires { at ≤ length s.now }
     ensures { result ≡ check_section k s.now at }
 {
-    match box_lists(s, at, layout_of(k).boxes) {
-        Step::Stop(code, place) => Step::Stop(code, place),
-        Step::Next(p) => behind_boxes(s, p, k),
-    }
+    let l = layout_of(k);
+    let behind_boxes = box_lists(s, at, l.boxes)?;
+    let behind_lists = airfield_lists(s, behind_boxes, l.airfields)?;
+    all_digits(s, behind_lists, k)
 }

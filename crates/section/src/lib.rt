@@ -5,10 +5,12 @@ pub mod check;
 pub mod numbers;
 pub mod table;
 
+use text::Code;
+
 // Digits: how many, the least and the most that they spell, and the code of another number.
 #[derive(Clone, Copy)]
 pub struct Row {
-    pub code: u8,
+    pub code: Code,
     pub width: u8,
     pub least: u16,
     pub most: u16,

@@ -1,59 +1,47 @@
 // The numbers of a section, by the rows of its layout: out of a text, checked as a record, into a text.
-ghost use Rattle.std.specs.Prelude.{◌≡◌, map, ◌+◌, ◌≤◌, length};
+ghost use Rattle.std.specs.Prelude.{◌≡◌, map, ◌+◌, ◌≤◌, length, Ok};
 ghost use Rattle.text.specs.Over.{over};
 ghost use Rattle.lists.specs.Lists.{all_zero};
-ghost use Rattle.field.specs.declared.Step.TheVariants.{Next};
 ghost use Rattle.section.specs.Layout.{table_of, digits_of, check_items, items_size};
 ghost use Rattle.section.specs.Contents.{Amount, contents_at, contents_text};
 ghost use Rattle.section.specs.Inner.{Fit, numbers_of, pass_contents, Reaches};
 
 use crate::table::layout_of;
-use field::Step;
 use field::digits::value_at;
-use field::record::{middle, wide};
 use field::write::put_decimal;
+use text::Refusal;
 
 // What the digits of an accepted section spell, and zeros behind them. They stand at a place, behind the section's lists.
 pub fn numbers_at(s: &[u8], at: usize, k: usize) -> [u16; 8]
-    requires { check_items (digits_of (table_of k)) s.now at ≡ Next (at + items_size (digits_of (table_of k)) s.now at) }
+    requires { check_items (digits_of (table_of k)) s.now at ≡ Ok (at + items_size (digits_of (table_of k)) s.now at) }
     ensures { (result ≡ numbers_of (contents_at (digits_of (table_of k)) s.now at)) × Fit (table_of k) result }
 {
     let l = layout_of(k);
-    let n = l.count;
-    let rows = l.rows;
-    let mut numbers: [u16; 8] = [0; 8];
+    let mut numbers = [0; 8];
     let mut p = at;
-    let mut i: usize = 0;
-    while i < n {
-        let row = rows[i];
-        let w = wide(row.width);
+    for (i, row) in l.rows[..l.count].iter().enumerate() {
+        let w = row.width as usize;
         numbers[i] = value_at(s, p, w) as u16;
         p += w;
-        i += 1;
     }
     numbers
 }
 
 // Each number within its row's limits, else the row's code where it would stand; else where the text would go on behind them and `/`.
-pub fn pass_numbers(v: [u16; 8], k: usize, at: usize) -> Step
+pub fn pass_numbers(v: [u16; 8], k: usize, at: usize) -> Result<usize, Refusal>
     requires { at ≤ 1000 }
     ensures { (result ≡ pass_contents (digits_of (table_of k)) at (map Amount v)) × Reaches (at + 25) result }
 {
     let l = layout_of(k);
-    let n = l.count;
-    let rows = l.rows;
     let mut p = at;
-    let mut i: usize = 0;
-    while i < n {
-        let row = rows[i];
+    for (i, row) in l.rows[..l.count].iter().enumerate() {
         let x = v[i];
         if !((row.least <= x) & (x <= row.most)) {
-            return Step::Stop(row.code, p);
+            return Err(row.code.at(p));
         }
-        p += wide(row.width);
-        i += 1;
+        p += row.width as usize;
     }
-    Step::Next(p + 1)
+    Ok(p + 1)
 }
 
 // Whether all are zero, as those of a section that isn't named are.
@@ -61,10 +49,8 @@ pub fn are_zero(v: [u16; 8]) -> bool
     ensures { result ≡ all_zero v }
 {
     let mut zero = true;
-    let mut i: usize = 0;
-    while i < 8 {
-        zero = zero & (v[i] == 0);
-        i += 1;
+    for x in v {
+        zero &= x == 0;
     }
     zero
 }
@@ -76,16 +62,11 @@ pub fn put_numbers(v: [u16; 8], k: usize, d: &mut [u8]) -> usize
         × (d.new ≡ over d.old 0 (contents_text (digits_of (table_of k)) (map Amount v))) }
 {
     let l = layout_of(k);
-    let n = l.count;
-    let rows = l.rows;
     let mut p = 0;
-    let mut i: usize = 0;
-    while i < n {
-        let row = rows[i];
-        let end = p + wide(row.width);
-        put_decimal(&mut d[p..end], middle(v[i]));
+    for (i, row) in l.rows[..l.count].iter().enumerate() {
+        let end = p + row.width as usize;
+        put_decimal(&mut d[p..end], v[i] as usize);
         p = end;
-        i += 1;
     }
     d[p] = b'/';
     p + 1

@@ -5,11 +5,12 @@ ghost use Rattle.section.specs.Layout.{table_of, layout_of, is_empty};
 ghost use Rattle.section.specs.Inner.{Laid};
 
 use crate::{Layout, Row};
+use text::Code;
 
-// ---- Rows. A number that doesn't fit is 5; a mark is one byte that is one of few digits, and any other is 4.
+// ---- Rows. A number that doesn't fit is `OutOfRange`; a mark is one byte that is one of few digits, and any other is `NotAllowed`.
 
 const NO_ROW: Row = Row {
-    code: 5,
+    code: Code::OutOfRange,
     width: 0,
     least: 0,
     most: 0,
@@ -17,7 +18,7 @@ const NO_ROW: Row = Row {
 
 // Routine, and maximum wind.
 const DIGIT: Row = Row {
-    code: 5,
+    code: Code::OutOfRange,
     width: 1,
     least: 0,
     most: 1,
@@ -25,7 +26,7 @@ const DIGIT: Row = Row {
 
 // Section 4: the interval.
 const MINUTES: Row = Row {
-    code: 5,
+    code: Code::OutOfRange,
     width: 2,
     least: 1,
     most: 60,
@@ -33,49 +34,49 @@ const MINUTES: Row = Row {
 
 // Section 5, in its order; the mark of its timer is that of its mode.
 const MODE: Row = Row {
-    code: 4,
+    code: Code::NotAllowed,
     width: 1,
     least: 0,
     most: 1,
 };
 
 const INTERVAL1: Row = Row {
-    code: 5,
+    code: Code::OutOfRange,
     width: 2,
     least: 3,
     most: 20,
 };
 
 const DURATION: Row = Row {
-    code: 5,
+    code: Code::OutOfRange,
     width: 3,
     least: 30,
     most: 600,
 };
 
 const INTERVAL2: Row = Row {
-    code: 5,
+    code: Code::OutOfRange,
     width: 2,
     least: 3,
     most: 60,
 };
 
 const TOTAL: Row = Row {
-    code: 5,
+    code: Code::OutOfRange,
     width: 3,
     least: 51,
     most: 111,
 };
 
 const TOP: Row = Row {
-    code: 5,
+    code: Code::OutOfRange,
     width: 3,
     least: 150,
     most: 350,
 };
 
 const LIST: Row = Row {
-    code: 4,
+    code: Code::NotAllowed,
     width: 1,
     least: 1,
     most: 2,
@@ -83,7 +84,7 @@ const LIST: Row = Row {
 
 // Section 7: its interval; its other rows are section 5's.
 const DESCENT_INTERVAL: Row = Row {
-    code: 5,
+    code: Code::OutOfRange,
     width: 3,
     least: 10,
     most: 300,
@@ -91,7 +92,7 @@ const DESCENT_INTERVAL: Row = Row {
 
 // Section 9: start and end.
 const HOUR: Row = Row {
-    code: 5,
+    code: Code::OutOfRange,
     width: 2,
     least: 0,
     most: 23,
@@ -109,6 +110,7 @@ fn laid_out(boxes: usize, airfields: usize, count: usize, rows: [Row; 8]) -> Lay
 }
 
 // What each section is made of.
+#[tactic(auto, unfolding(crate::specs::Layout::table_of))]
 pub fn layout_of(k: usize) -> Layout
     ensures { Laid (table_of k) result }
 {
@@ -136,6 +138,7 @@ pub fn layout_of(k: usize) -> Layout
 }
 
 // Whether there is a section of this number.
+#[tactic(auto, using(crate::proofs::Rows::tables), unfolding(crate::specs::Layout::layout_of))]
 pub fn is_section(k: usize) -> bool
     ensures { result ≡ not (is_empty (layout_of k)) }
 {

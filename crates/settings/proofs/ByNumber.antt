@@ -192,3 +192,6 @@ module _ (x : Fixed) where
   pub zero-eight : (k : ℕ) → 4 ≤ k → ZeroAt k
   unfolding fixed_hold numbers_of all_zero are_zero
   zero-eight = from-four ZeroAt refl refl refl refl refl refl zero-past
+
+-- for a function's check
+pub ruleset written = (text-eight, pass_eight, zero-eight)

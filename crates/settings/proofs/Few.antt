@@ -4,7 +4,6 @@ use mathlib.Core.List.{List, [], ◌∷◌, ◌++◌}
 use Prim.Native.Nat.{ℕ, ◌+◌, ◌≤◌}
 use native.Mathlib.Omega.{arith}
 use lib.ListN.{length, length-append}
-use Rattle.text.specs.declared.Seen.TheVariants.{Fine}
 use Rattle.text.proofs.Checks.{both-fine}
 use Rattle.field.specs.Decimal.{decimal}
 use Rattle.field.proofs.Decimal.{decimal-length}
@@ -15,15 +14,16 @@ use Rattle.section.specs.Contents.{Content, Areas, content_text, contents_text, 
 use Rattle.settings.specs.Settings.{regions_hold, airports_hold}
 use Rattle.settings.specs.declared.Regions.{Regions}
 use Rattle.settings.specs.declared.Airports.{Airports}
+use Rattle.std.specs.Prelude.{Ok}
 
 -- one item more of an allowed section
-one_more : (i : Item) (is : List Item) (at : ℕ) (c : Content) (cs : List Content) → contents_allowed (i ∷ is) at (c ∷ cs) ≡ Fine
-    → (content_allowed i at c ≡ Fine) × (contents_allowed is (at + length (content_text i c)) cs ≡ Fine)
+one_more : (i : Item) (is : List Item) (at : ℕ) (c : Content) (cs : List Content) → contents_allowed (i ∷ is) at (c ∷ cs) ≡ (Ok tt)
+    → (content_allowed i at c ≡ (Ok tt)) × (contents_allowed is (at + length (content_text i c)) cs ≡ (Ok tt))
 unfolding contents_allowed
-one_more i is at c cs e = both-fine (content_allowed i at c) (contents_allowed is (at + length (content_text i c)) cs) e
+one_more i is at c cs e = both-fine (content_allowed i at c) (contents_allowed is (at + length (content_text i c)) cs) tt e
 
 -- section 2 has at most 16 boxes in each list
-pub regions-few : (x : Regions) (at : ℕ) → contents_allowed (layout_of 2) at (regions_hold x) ≡ Fine
+pub regions-few : (x : Regions) (at : ℕ) → contents_allowed (layout_of 2) at (regions_hold x) ≡ (Ok tt)
     → (x.reporting.count ≤ 16) × (x.inhibiting.count ≤ 16)
 unfolding layout_of table_of
 regions-few x at e =
@@ -32,7 +32,7 @@ regions-few x at e =
     ((boxes-held _ _ a.0).few, (boxes-held _ _ b.0).few)
 
 -- section 3 at most 20 airfields in each
-pub airports-few : (x : Airports) (at : ℕ) → contents_allowed (layout_of 3) at (airports_hold x) ≡ Fine
+pub airports-few : (x : Airports) (at : ℕ) → contents_allowed (layout_of 3) at (airports_hold x) ≡ (Ok tt)
     → ((x.selected.ascent.count ≤ 20) × (x.selected.descent.count ≤ 20))
     × ((x.inhibited.ascent.count ≤ 20) × (x.inhibited.descent.count ≤ 20))
 unfolding layout_of table_of

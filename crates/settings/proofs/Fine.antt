@@ -8,17 +8,18 @@ use lib.ListN.{get_or}
 use Rattle.lists.specs.declared.Boxes.{Boxes}
 use Rattle.lists.specs.Lists.{boxes_allowed}
 use Rattle.text.specs.Checks.{must, ◌and_then◌, is_fine}
-use Rattle.text.specs.declared.Seen.{Seen}
-use Rattle.text.specs.declared.Seen.TheVariants.{Fine}
 use Rattle.text.proofs.Checks.{fine-must, fine_then}
 use Rattle.section.proofs.Held.{and-fine}
+use Rattle.std.specs.Prelude.{Result, Ok}
+use Rattle.text.specs.declared.Refusal.{Refusal}
+use Rattle.text.specs.declared.Code.{Code}
 
-pub two-fine : (a b : Seen) → is_fine (a and_then (b and_then Fine)) ≡ (is_fine a && is_fine b)
-two-fine a b = fine_then a (b and_then Fine) ∙ rw (and-fine b)
+pub two-fine : (a b : Result (Unit {0}) Refusal) → is_fine (a and_then (b and_then (Ok (tt {0})))) ≡ (is_fine a && is_fine b)
+two-fine a b = fine_then a (b and_then (Ok (tt {0}))) ∙ rw (and-fine b)
 
 -- two pairs of lists, and the routine digit behind them
-pub four-fine : (a b d e : Seen) (t : Bool) (code place : ℕ)
-    → is_fine (a and_then (b and_then (d and_then (e and_then (must t code place and_then Fine)))))
+pub four-fine : (a b d e : Result (Unit {0}) Refusal) (t : Bool) (code : Code) (place : ℕ)
+    → is_fine (a and_then (b and_then (d and_then (e and_then (must t code place and_then (Ok (tt {0})))))))
     ≡ ((is_fine a && is_fine b) && (is_fine d && is_fine e) && t)
 four-fine a b d e t code place =
     let last = must t code place in
@@ -37,3 +38,5 @@ all_fine at (suc n) ls = all_fine at n ls && is_fine (boxes_allowed (at n) (get_
 pub all_turn : (at : ℕ → ℕ) (n : ℕ) (ls : List Boxes)
     → (all_fine at n ls && is_fine (boxes_allowed (at n) (get_or ls n (record { count = 0; regions = [] })))) ≡ all_fine at (n + 1) ls
 all_turn at n ls = let e : n + 1 ≡ suc n = omega arith in rw e
+
+pub ruleset fine = (four-fine, two-fine)

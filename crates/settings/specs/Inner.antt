@@ -1,8 +1,6 @@
 -- What the inner functions ask for and answer. No promise to a caller rests on these names.
-use Rattle.std.specs.Prelude.{Bool, true, false, cond, ◌&&◌, List, [], ℕ, zero, suc, ◌+◌, ◌*◌, ◌≤◌, eqb, get_or}
-use Rattle.text.specs.Checks.{must}
-use Rattle.field.specs.declared.Step.{Step}
-use Rattle.field.specs.declared.Step.TheVariants.{Next, Stop}
+use Rattle.std.specs.Prelude.{Bool, true, cond, ◌&&◌, List, [], ℕ, zero, suc, ◌+◌, ◌*◌, ◌≤◌, eqb, get_or, Result}
+use Rattle.text.specs.Checks.{must, is_fine}
 use Rattle.lists.specs.Lists.{count_at}
 use Rattle.section.specs.Layout.{no_row, table_of, layout_of}
 use Rattle.section.specs.Contents.{Content, contents_text}
@@ -11,6 +9,8 @@ use Rattle.settings.specs.Settings.{fixed_hold}
 use Rattle.settings.specs.Valid.{are_zero}
 use Rattle.settings.specs.declared.Fixed.{Fixed}
 use Rattle.settings.specs.declared.places.ListPlaces.{ListPlaces}
+use Rattle.text.specs.declared.Refusal.{Refusal}
+use Rattle.text.specs.declared.Code.TheVariants.{Disagree}
 
 -- ---- Where the lists of section 3 stand
 
@@ -46,8 +46,8 @@ Bytes v = (i : ℕ) → get_or v i 0 ≤ 255
 -- ---- A record's section, named or not
 
 -- where what follows it would begin: a named one by its own limits, one that isn't named is zero, else 7 where it would begin
-abbrev pub pass_section : Bool → ℕ → ℕ → List Content → Step
-pass_section named k at cs = cond named (pass_contents (layout_of k) at cs) (going_on (must (are_zero cs) 7 at) at)
+abbrev pub pass_section : Bool → ℕ → ℕ → List Content → Result ℕ Refusal
+pass_section named k at cs = cond named (pass_contents (layout_of k) at cs) (going_on (must (are_zero cs) Disagree at) at)
 
 -- its text, none where it isn't named
 abbrev pub text_if : Bool → ℕ → List Content → List ℕ
@@ -55,11 +55,7 @@ text_if named k cs = cond named (contents_text (layout_of k) cs) []
 
 -- ---- Validity of the sections of numbers
 
-abbrev pub is_next : Step → Bool
-is_next (Next p) = true
-is_next (Stop code place) = false
-
 -- n sections from the k-th on
 unfoldable pub fixed_valid : ℕ → ℕ → Fixed → Bool
 fixed_valid zero k x = true
-fixed_valid (suc n) k x = is_next (pass_contents (layout_of k) 0 (fixed_hold x k)) && fixed_valid n (suc k) x
+fixed_valid (suc n) k x = is_fine (pass_contents (layout_of k) 0 (fixed_hold x k)) && fixed_valid n (suc k) x

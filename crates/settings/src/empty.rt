@@ -23,7 +23,7 @@ fn no_phases() -> ByPhase
 {
     let none = Airfields {
         count: 0,
-        names: [0u8; NAME_BYTES],
+        names: [0; NAME_BYTES],
     };
     ByPhase {
         ascent: none,
@@ -31,6 +31,7 @@ fn no_phases() -> ByPhase
     }
 }
 
+#[tactic(auto, unfolding(crate::specs::Settings::ascent_from))]
 fn no_ascent() -> Ascent
     ensures { result ≡ ascent_from [] }
 {
@@ -46,6 +47,7 @@ fn no_ascent() -> Ascent
     }
 }
 
+#[tactic(auto, unfolding(crate::specs::Settings::regions_from))]
 pub fn no_regions() -> Regions
     ensures { result ≡ regions_from [] }
 {
@@ -55,6 +57,7 @@ pub fn no_regions() -> Regions
     }
 }
 
+#[tactic(auto, unfolding(crate::specs::Settings::airports_from))]
 pub fn no_airports() -> Airports
     ensures { result ≡ airports_from [] }
 {
@@ -66,16 +69,16 @@ pub fn no_airports() -> Airports
 }
 
 // The sections of numbers.
+#[tactic(auto, unfolding(crate::specs::Valid::no_settings, crate::specs::Settings::settings_from, crate::specs::Settings::enroute_from, crate::specs::Settings::hours_from))]
 pub fn no_fixed() -> Fixed
     ensures { result ≡ fixed_of no_settings }
 {
-    let ascent = no_ascent();
     Fixed {
         enroute: Enroute {
             interval: 0,
             wind: 0,
         },
-        ascent,
+        ascent: no_ascent(),
         descent: Descent {
             mode: 0,
             interval: 0,
@@ -90,23 +93,20 @@ pub fn no_fixed() -> Fixed
 }
 
 // The settings that every refusal carries.
+#[tactic(auto, unfolding(crate::specs::Valid::no_settings, crate::specs::Settings::settings_from))]
 pub fn no_settings() -> Settings
     ensures { result ≡ no_settings }
 {
     let fixed = no_fixed();
-    let enroute = fixed.enroute;
-    let ascent = fixed.ascent;
-    let descent = fixed.descent;
-    let hours = fixed.hours;
     Settings {
-        flags: [0u8; 7],
+        flags: [0; 7],
         regions: no_regions(),
         airports: no_airports(),
-        enroute,
-        ascent,
-        descent,
+        enroute: fixed.enroute,
+        ascent: fixed.ascent,
+        descent: fixed.descent,
         routine6: fixed.routine6,
         routine8: fixed.routine8,
-        hours,
+        hours: fixed.hours,
     }
 }

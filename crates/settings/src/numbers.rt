@@ -8,53 +8,50 @@ ghost use Rattle.settings.specs.Inner.{Held, Bytes, pass_section, text_if};
 
 use crate::places::pass_zero;
 use crate::{Ascent, Descent, Enroute, Fixed, Hours, Settings};
-use field::Step;
-use field::record::short;
 use section::numbers::{are_zero, pass_numbers, put_numbers};
+use text::Refusal;
 
 pub fn fixed_of(x: Settings) -> Fixed
     ensures { result ≡ fixed_of x }
 {
-    let enroute = x.enroute;
-    let ascent = x.ascent;
-    let descent = x.descent;
-    let hours = x.hours;
     Fixed {
-        enroute,
-        ascent,
-        descent,
+        enroute: x.enroute,
+        ascent: x.ascent,
+        descent: x.descent,
         routine6: x.routine6,
         routine8: x.routine8,
-        hours,
+        hours: x.hours,
     }
 }
 
 // ---- Members as numbers
 
+#[tactic(auto, using(crate::proofs::ByNumber::one_byte, crate::proofs::ByNumber::same_bytes_lem), unfolding(section::specs::Inner::numbers_of))]
 fn one(a: u8) -> [u16; 8]
     ensures { (result ≡ numbers_of (Amount a ∷ [])) × Bytes result }
 {
-    [short(a), 0, 0, 0, 0, 0, 0, 0]
+    [a as u16, 0, 0, 0, 0, 0, 0, 0]
 }
 
+#[tactic(auto, using(crate::proofs::ByNumber::two_bytes, crate::proofs::ByNumber::same_bytes_lem), unfolding(section::specs::Inner::numbers_of))]
 fn two(a: u8, b: u8) -> [u16; 8]
     ensures { (result ≡ numbers_of (Amount a ∷ Amount b ∷ [])) × Bytes result }
 {
-    [short(a), short(b), 0, 0, 0, 0, 0, 0]
+    [a as u16, b as u16, 0, 0, 0, 0, 0, 0]
 }
 
 fn ascent_numbers(x: Ascent) -> [u16; 8]
     ensures { (result ≡ numbers_of (ascent_hold x)) × Held 5 result }
 {
     [
-        short(x.mode),
-        short(x.interval1),
+        x.mode as u16,
+        x.interval1 as u16,
         x.duration,
-        short(x.interval2),
-        short(x.total),
+        x.interval2 as u16,
+        x.total as u16,
         x.top,
-        short(x.list),
-        short(x.timer),
+        x.list as u16,
+        x.timer as u16,
     ]
 }
 
@@ -65,8 +62,8 @@ fn descent_numbers(x: Descent) -> [u16; 8]
         x.mode,
         x.interval,
         x.top,
-        short(x.list),
-        short(x.timer),
+        x.list as u16,
+        x.timer as u16,
         0,
         0,
         0,
@@ -74,20 +71,17 @@ fn descent_numbers(x: Descent) -> [u16; 8]
 }
 
 // The numbers of section k.
+#[tactic(auto, using(crate::proofs::ByNumber::no_bytes), unfolding(crate::specs::Settings::fixed_hold, section::specs::Inner::numbers_of))]
 pub fn numbers_of(x: Fixed, k: usize) -> [u16; 8]
     ensures { (result ≡ numbers_of (fixed_hold x k)) × Held k result }
 {
-    let enroute = x.enroute;
-    let ascent = x.ascent;
-    let descent = x.descent;
-    let hours = x.hours;
     match k {
-        4 => two(enroute.interval, enroute.wind),
-        5 => ascent_numbers(ascent),
+        4 => two(x.enroute.interval, x.enroute.wind),
+        5 => ascent_numbers(x.ascent),
         6 => one(x.routine6),
-        7 => descent_numbers(descent),
+        7 => descent_numbers(x.descent),
         8 => one(x.routine8),
-        9 => two(hours.start, hours.end),
+        9 => two(x.hours.start, x.hours.end),
         _ => [0; 8],
     }
 }
@@ -101,6 +95,7 @@ fn byte(n: u16) -> u8
     n as u8
 }
 
+#[tactic(auto, using(crate::proofs::ByNumber::amount_at), unfolding(section::specs::Layout::table_of, crate::specs::Settings::enroute_from))]
 pub fn enroute_from(v: [u16; 8]) -> Enroute
     requires { Held 4 v }
     ensures { result ≡ enroute_from (map Amount v) }
@@ -111,6 +106,7 @@ pub fn enroute_from(v: [u16; 8]) -> Enroute
     }
 }
 
+#[tactic(auto, using(crate::proofs::ByNumber::amount_at), unfolding(section::specs::Layout::table_of, crate::specs::Settings::ascent_from))]
 pub fn ascent_from(v: [u16; 8]) -> Ascent
     requires { Held 5 v }
     ensures { result ≡ ascent_from (map Amount v) }
@@ -127,6 +123,7 @@ pub fn ascent_from(v: [u16; 8]) -> Ascent
     }
 }
 
+#[tactic(auto, using(crate::proofs::ByNumber::amount_at), unfolding(section::specs::Layout::table_of))]
 pub fn descent_from(v: [u16; 8]) -> Descent
     requires { Held 7 v }
     ensures { result ≡ descent_from (map Amount v) }
@@ -141,6 +138,7 @@ pub fn descent_from(v: [u16; 8]) -> Descent
 }
 
 // Sections 6 and 8.
+#[tactic(auto, using(crate::proofs::ByNumber::amount_at), unfolding(section::specs::Layout::table_of))]
 pub fn digit_from(v: [u16; 8]) -> u8
     requires { Held 6 v }
     ensures { result ≡ amount_in (map Amount v) 0 }
@@ -148,6 +146,7 @@ pub fn digit_from(v: [u16; 8]) -> u8
     byte(v[0])
 }
 
+#[tactic(auto, using(crate::proofs::ByNumber::amount_at), unfolding(section::specs::Layout::table_of, crate::specs::Settings::hours_from))]
 pub fn hours_from(v: [u16; 8]) -> Hours
     requires { Held 9 v }
     ensures { result ≡ hours_from (map Amount v) }
@@ -161,24 +160,28 @@ pub fn hours_from(v: [u16; 8]) -> Hours
 // ---- One section of a record, named or not
 
 // Where what follows section k would begin, or its refusal.
-pub fn pass_fixed(named: bool, x: Fixed, k: usize, at: usize) -> Step
+#[tactic(auto, using(crate::proofs::Pieces::pass_unnamed, crate::proofs::Pieces::pass_named, crate::proofs::ByNumber::written))]
+pub fn pass_fixed(named: bool, x: Fixed, k: usize, at: usize) -> Result<usize, Refusal>
     requires { (4 ≤ k) × (at ≤ 1000) }
     ensures { (result ≡ pass_section named k at (fixed_hold x k)) × Reaches (at + 25) result }
 {
     let v = numbers_of(x, k);
     if named {
-        return pass_numbers(v, k, at);
+        pass_numbers(v, k, at)
+    } else {
+        pass_zero(are_zero(v), at)
     }
-    pass_zero(are_zero(v), at)
 }
 
 // Section k over the start of `d`, where it is named; the answer is how many bytes that is.
+#[tactic(auto, using(text::proofs::Over::over_none, crate::proofs::ByNumber::written))]
 pub fn put_fixed(named: bool, x: Fixed, k: usize, d: &mut [u8]) -> usize
     requires { (4 ≤ k) × (length (text_if named k (fixed_hold x k)) ≤ length d.old) }
     ensures { (result ≡ length (text_if named k (fixed_hold x k))) × (d.new ≡ over d.old 0 (text_if named k (fixed_hold x k))) }
 {
     if named {
-        return put_numbers(numbers_of(x, k), k, d);
+        put_numbers(numbers_of(x, k), k, d)
+    } else {
+        0
     }
-    0
 }

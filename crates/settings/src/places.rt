@@ -6,10 +6,11 @@ ghost use Rattle.field.specs.Decimal.{all_digits};
 ghost use Rattle.lists.specs.Lists.{most_airfields, count_at};
 ghost use Rattle.section.specs.Layout.{Accepted};
 ghost use Rattle.section.specs.Inner.{going_on};
+ghost use Rattle.text.specs.declared.Code.TheVariants.{Disagree};
 ghost use Rattle.settings.specs.Inner.{lists_at};
 
-use field::Step;
 use field::digits::value_at;
+use text::{Code, Refusal};
 
 // Where the four lists of section 3 stand, and the digit behind them.
 #[derive(Clone, Copy)]
@@ -22,6 +23,7 @@ pub struct ListPlaces {
 }
 
 // Where a list ends that stands at a place: a count, and as many entries of w bytes.
+#[tactic(auto, using(crate::proofs::Pieces::products))]
 pub fn list_end(s: &[u8], at: usize, w: usize) -> usize
     requires at_in_bounds { at + 2 ≤ length s.now }
     requires s_value { all_digits (part at 2 s.now) ≡ true }
@@ -49,12 +51,13 @@ pub fn lists_at(s: &[u8], at: usize) -> ListPlaces
     }
 }
 
-// A section that isn't named is zero, else 7 where it would begin.
-pub fn pass_zero(zero: bool, at: usize) -> Step
-    ensures { result ≡ going_on (must zero 7 at) at }
+// A section that isn't named is zero, else `Disagree` where it would begin.
+pub fn pass_zero(zero: bool, at: usize) -> Result<usize, Refusal>
+    ensures { result ≡ going_on (must zero Disagree at) at }
 {
     if zero {
-        return Step::Next(at);
+        Ok(at)
+    } else {
+        Err(Code::Disagree.at(at))
     }
-    Step::Stop(7, at)
 }

@@ -6,6 +6,7 @@ ghost use Rattle.settings.specs.Valid.{reset_holds, reset};
 use crate::empty::{no_airports, no_regions};
 use crate::{Ascent, Descent, Enroute, Hours, Settings};
 
+#[tactic(auto, unfolding(crate::specs::Settings::ascent_from))]
 fn reset_ascent() -> Ascent
     ensures { result ≡ ascent_from (reset_holds 5) }
 {
@@ -22,11 +23,12 @@ fn reset_ascent() -> Ascent
 }
 
 // The lists are empty; what each section holds is document 01's.
+#[tactic(auto, unfolding(crate::specs::Valid::reset, crate::specs::Settings::settings_from, crate::specs::Settings::enroute_from, crate::specs::Settings::hours_from))]
 pub fn after_reset() -> Settings
     ensures { result ≡ reset }
 {
     Settings {
-        flags: [1u8, 0, 0, 0, 1, 1, 1],
+        flags: [1, 0, 0, 0, 1, 1, 1],
         regions: no_regions(),
         airports: no_airports(),
         enroute: Enroute {

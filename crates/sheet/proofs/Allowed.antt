@@ -9,15 +9,13 @@ use lib.ListN.{get_or}
 use borrow.Author.Tests.{le-leb, lt-leb, leb-true, ltb-true, eqb-true}
 use Rattle.text.specs.Parts.{part}
 use Rattle.text.specs.Names.{between, all_allowed}
-use Rattle.text.specs.declared.Seen.TheVariants.{Fine}
 use Rattle.text.proofs.Cases.{by_test, by_eq, by_lt, both_left, both_right}
 use Rattle.field.proofs.Decimal.{part-long}
 use Rattle.sheet.specs.declared.Limits.{Limits}
 use Rattle.sheet.specs.declared.Form.{Form}
 use Rattle.sheet.specs.declared.Form.TheVariants.{Name, Switch, Digit, Number}
-use Rattle.sheet.specs.declared.Word.{Word}
 use Rattle.sheet.specs.declared.Sheet.{Sheet}
-use Rattle.sheet.specs.Number.{is_below, size_of, within}
+use Rattle.sheet.specs.Number.{word_in, is_below, size_of, within}
 use Rattle.sheet.specs.Layout.{width_of, cell_at, box_cell, airport_cell}
 use Rattle.sheet.specs.Inner.{small_form}
 use Rattle.sheet.specs.Sheet.{field_at, switch_read, digit_read, bytes_read, check_sheet, word_at, airport_byte, name_cell, airport_of, sheet_at, held_at, held_code, allowed_cell, allowed_sheet}
@@ -29,6 +27,9 @@ use Rattle.sheet.proofs.Contents.{is_word, is_four, word_cell, name_cell_lem, st
 use Rattle.sheet.proofs.Checked.{checked-length, checked-cell}
 use Rattle.sheet.proofs.Spelling.{read-within}
 use Rattle.sheet.proofs.TextOfRead.{content_of, field-there, field-fine, first_cell, held_back, word-is}
+use Rattle.std.specs.Prelude.{Result, Ok, Err, is_ok}
+use Rattle.text.specs.declared.Code.{Code}
+use Rattle.text.specs.declared.Code.TheVariants.{NotAllowed, OutOfRange}
 
 -- ---- a word's limits, by its form
 
@@ -90,27 +91,27 @@ few-within most w few word =
 
 -- a word is taken just where it is in its form's range
 module _ (form : Form) (w : ℕ) (is : is_word form ≡ true) (small : small_form form ≡ true) (word : w < 65536) where
-  in_range_lem : held_code form (w ∷ []) ≡ 0 → InRange (limits_of form) w
+  in_range_lem : held_code form (w ∷ []) ≡ Ok tt → InRange (limits_of form) w
   unfolding held_code
   in_range_lem code = go form is small code
     where
-      go : (form : Form) → is_word form ≡ true → small_form form ≡ true → held_code form (w ∷ []) ≡ 0 → InRange (limits_of form) w
+      go : (form : Form) → is_word form ≡ true → small_form form ≡ true → held_code form (w ∷ []) ≡ Ok tt → InRange (limits_of form) w
       go (Name n) is small code = not-held is
-      go Switch is small code = few-within 1 w (omega arith) word ∙ code-held (leb w 1) 3 code
-      go (Digit most) is small code = few-within most w (omega (arith, small-digit most small)) word ∙ code-held (leb w most) 3 code
-      go (Number n l) is small code = code-held (within l (is_below w) (size_of w)) 4 code
+      go Switch is small code = few-within 1 w (omega arith) word ∙ code-held (leb w 1) NotAllowed code
+      go (Digit most) is small code = few-within most w (omega (arith, small-digit most small)) word ∙ code-held (leb w most) NotAllowed code
+      go (Number n l) is small code = code-held (within l (is_below w) (size_of w)) OutOfRange code
 
-  range_in : InRange (limits_of form) w → held_code form (w ∷ []) ≡ 0
+  range_in : InRange (limits_of form) w → held_code form (w ∷ []) ≡ Ok tt
   unfolding held_code
   range_in r = go form is small r
     where
-      go : (form : Form) → is_word form ≡ true → small_form form ≡ true → InRange (limits_of form) w → held_code form (w ∷ []) ≡ 0
+      go : (form : Form) → is_word form ≡ true → small_form form ≡ true → InRange (limits_of form) w → held_code form (w ∷ []) ≡ Ok tt
       go (Name n) is small r = not-held is
       go Switch is small r = rw (sym (few-within 1 w (omega arith) word) ∙ r)
       go (Digit most) is small r = rw (sym (few-within most w (omega (arith, small-digit most small)) word) ∙ r)
       go (Number n l) is small r = rw r
 
-status-fine : (form : Form) (w : ℕ) → is_status form ≡ true → w ≤ 1 → held_code form (w ∷ []) ≡ 0
+status-fine : (form : Form) (w : ℕ) → is_status form ≡ true → w ≤ 1 → held_code form (w ∷ []) ≡ Ok tt
 unfolding held_code
 status-fine (Name n) w e h = not-held e
 status-fine Switch w e h = not-held e
@@ -119,7 +120,7 @@ status-fine (Number n l) w e h = not-held e
 
 -- ---- a name
 
-name_code : (form : Form) (v : List ℕ) → is_word form ≡ false → held_code form v ≡ cond (all_allowed v) 0 4
+name_code : (form : Form) (v : List ℕ) → is_word form ≡ false → held_code form v ≡ cond (all_allowed v) (Ok tt) (Err NotAllowed)
 unfolding held_code
 name_code (Name w) v e = refl
 name_code Switch v e = not-held (sym e)
@@ -142,7 +143,7 @@ small-form k h = (small-parts (cell_at k) (cell-small k h)).1.1
 -- ---- the record's ranges, cell by cell
 
 module _ (x : Sheet) (sized : Sized x) (a : Allowed x) where
-  held-fine : (k : ℕ) → k < 167 → held_code (cell_at k).form (held_at x k) ≡ 0
+  held-fine : (k : ℕ) → k < 167 → held_code (cell_at k).form (held_at x k) ≡ Ok tt
   held-fine k h =
       by_eq k 0
       (λ (e : k ≡ 0). rw (e, first_of x) (name_code (cell_at 0).form x.designator first_name ∙ rw a.designator))
@@ -171,17 +172,17 @@ module _ (x : Sheet) (sized : Sized x) (a : Allowed x) where
       (λ (e : (k - 67) % 2 ≡ 0 → ⊥). rw (status-of x k q e) (status-fine (cell_at k).form (get_or x.airports (5 * n + 4) 0) (status-is k q h e) (a.statuses n few))))))
 
   -- an allowed record passes the writer's check
-  pub allowed-fine : allowed_sheet x ≡ Fine
+  pub allowed-fine : allowed_sheet x ≡ (Ok tt)
   unfolding allowed_sheet allowed_cell
   allowed-fine = each_all (allowed_cell x) 167 0 (λ (j : ℕ) (l : 0 ≤ j) (m : j < 0 + 167). rw (held-fine j (omega arith)))
 
-module _ (x : Sheet) (sized : Sized x) (fine : allowed_sheet x ≡ Fine) where
+module _ (x : Sheet) (sized : Sized x) (fine : allowed_sheet x ≡ (Ok tt)) where
   -- and no other does
   pub fine-allowed : Allowed x
   fine-allowed =
       record {
         designator =
-            code-held (all_allowed x.designator) 3
+            code-held (all_allowed x.designator) NotAllowed
             (sym (name_code (cell_at 0).form x.designator first_name) ∙ ap (held_code (cell_at 0).form) (sym (first_of x)) ∙ allowed-held x fine 0 (omega arith));
         numbers = numbers;
         boxes = boxes;
@@ -213,7 +214,7 @@ module _ (x : Sheet) (sized : Sized x) (fine : allowed_sheet x ≡ Fine) where
           let even : (k - 67) % 2 ≡ 0 = omega arith in
           let back : airport_of (k - 67) ≡ n = eqb-true (airport_of (name_cell n - 67)) n (airport_back n h) in
           let held = name_of x k low even ∙ ap (λ (m : ℕ). part (5 * m) 4 x.airports) back in
-          code-held (all_allowed (part (5 * n) 4 x.airports)) 3
+          code-held (all_allowed (part (5 * n) 4 x.airports)) NotAllowed
           (sym (name_code (cell_at k).form (part (5 * n) 4 x.airports) (four_name (cell_at k).form (name_cell_lem k low high even)))
           ∙ ap (held_code (cell_at k).form) (sym held)
           ∙ allowed-held x fine k high)
@@ -232,28 +233,28 @@ module _ (x : Sheet) (sized : Sized x) (fine : allowed_sheet x ≡ Fine) where
 -- ---- the record of an accepted text
 
 -- a field's word, of 16 bits and in its form's range; a name's bytes
-switch-few : (b : ℕ) → (switch_read b).word ≤ 1
+switch-few : (b : ℕ) → word_in (switch_read b) ≤ 1
 switch-few b =
     by_test (eqb b 68)
     (λ (p : eqb b 68 ≡ true). rw p (omega arith))
     (λ (p : eqb b 68 ≡ false).
     by_test (eqb b 82) (λ (q : eqb b 82 ≡ true). rw (p, q) (omega arith)) (λ (q : eqb b 82 ≡ false). rw (p, q) (omega arith)))
 
-digit-few : (most b : ℕ) → (digit_read most b).word ≤ most
+digit-few : (most b : ℕ) → word_in (digit_read most b) ≤ most
 digit-few most b =
     by_test (between 48 (48 + most) b)
     (λ (p : between 48 (48 + most) b ≡ true). rw p (omega (arith, leb-true b (48 + most) (both_right (leb 48 b) (leb b (48 + most)) p))))
     (λ (p : between 48 (48 + most) b ≡ false). rw p (omega arith))
 
-content_held : (form : Form) (f : List ℕ) → small_form form ≡ true → (bytes_read form f).code ≡ 0 → held_code form (content_of form f) ≡ 0
+content_held : (form : Form) (f : List ℕ) → small_form form ≡ true → is_ok (bytes_read form f) ≡ true → held_code form (content_of form f) ≡ Ok tt
 unfolding held_code content_of bytes_read
 content_held (Name w) f small e =
-    by_test (all_allowed f) (λ (p : all_allowed f ≡ true). rw p) (λ (p : all_allowed f ≡ false). absurd (omega (arith, rw p at e)))
-content_held Switch f small e = rw (le-leb (switch_read (get_or f 0 0)).word 1 (switch-few (get_or f 0 0)))
-content_held (Digit most) f small e = rw (le-leb (digit_read most (get_or f 0 0)).word most (digit-few most (get_or f 0 0)))
+    by_test (all_allowed f) (λ (p : all_allowed f ≡ true). rw p) (λ (p : all_allowed f ≡ false). not-held (rw p at e))
+content_held Switch f small e = rw (le-leb (word_in (switch_read (get_or f 0 0))) 1 (switch-few (get_or f 0 0)))
+content_held (Digit most) f small e = rw (le-leb (word_in (digit_read most (get_or f 0 0))) most (digit-few most (get_or f 0 0)))
 content_held (Number w l) f small e = rw (read-within l f (small-number w l small).1 e).1
 
-word_held : (form : Form) (f : List ℕ) → small_form form ≡ true → (bytes_read form f).code ≡ 0 → (bytes_read form f).word < 65536
+word_held : (form : Form) (f : List ℕ) → small_form form ≡ true → is_ok (bytes_read form f) ≡ true → word_in (bytes_read form f) < 65536
 unfolding bytes_read
 word_held (Name w) f small e =
     by_test (all_allowed f) (λ (p : all_allowed f ≡ true). rw p (omega arith)) (λ (p : all_allowed f ≡ false). rw p (omega arith))
@@ -261,14 +262,14 @@ word_held Switch f small e = omega (arith, switch-few (get_or f 0 0))
 word_held (Digit most) f small e = omega (arith, digit-few most (get_or f 0 0), small-digit most small)
 word_held (Number w l) f small e = (read-within l f (small-number w l small).1 e).0
 
-module _ (s : List ℕ) (fine : check_sheet s ≡ Fine) where
-  field-code : (k : ℕ) → k < 167 → (bytes_read (cell_at k).form (part (field_at (cell_at k)) (width_of (cell_at k).form) s)).code ≡ 0
+module _ (s : List ℕ) (fine : check_sheet s ≡ (Ok tt)) where
+  field-code : (k : ℕ) → k < 167 → is_ok (bytes_read (cell_at k).form (part (field_at (cell_at k)) (width_of (cell_at k).form) s)) ≡ true
   field-code k h =
       let code = field-fine s (cell_at k) (checked-cell s fine k h) in
-      ap (λ (w : Word). w.code) (sym (field-there (cell_at k).form s (field_at (cell_at k)) code).1) ∙ code
+      ap (λ (w : Result ℕ Code). is_ok w) (sym (field-there (cell_at k).form s (field_at (cell_at k)) code).1) ∙ code
 
   -- it passes the writer's check
-  pub read-fine : allowed_sheet (sheet_at s) ≡ Fine
+  pub read-fine : allowed_sheet (sheet_at s) ≡ (Ok tt)
   unfolding allowed_sheet allowed_cell
   read-fine =
       each_all (allowed_cell (sheet_at s)) 167 0

@@ -20,13 +20,15 @@ use Rattle.sheet.specs.Number.{is_below, size_of, blanked, marked, number_text}
 use Rattle.sheet.specs.Layout.{width_of, cell_at, box_cell, airport_cell}
 use Rattle.sheet.specs.Inner.{held_is, held_form, size_of_cell}
 use Rattle.sheet.specs.Sheet.{seen, field_at, name_cell, airport_of, allowed_sheet, allowed_cell, held_at, held_code, field_text, cell_text, line_end, label_of, joined}
-use Rattle.text.specs.declared.Seen.TheVariants.{Fine}
 use Rattle.text.specs.Parts.{part}
 use Rattle.text.proofs.Parts.{part_bytes}
-use Rattle.text.proofs.Cases.{by_eq, by_le, both_left, both_right}
-use Rattle.text.proofs.Checks.{bad_fine}
-use Rattle.sheet.proofs.Small.{every, not-held, is_status}
+use Rattle.text.proofs.Cases.{by_le, both_left, both_right}
+use Rattle.text.proofs.Checks.{err_ok}
+use Rattle.sheet.proofs.Small.{every, not-held, no_err, is_status}
 use Rattle.sheet.proofs.Each.{each-fine}
+use Rattle.std.specs.Prelude.{Result, Ok, Err, is_ok}
+use Rattle.text.specs.declared.Code.{Code}
+use Rattle.text.specs.declared.Code.TheVariants.{NotAllowed}
 
 -- ---- by form
 
@@ -212,34 +214,43 @@ label_length k h =
     let few = leb-true (cell_at k).labelled 16 (both_right (eqb (length (cell_at k).label) 16) (leb (cell_at k).labelled 16) both) in
     length-take-le (cell_at k).labelled (cell_at k).label (omega arith)
 
-pub seen-fine : (code place : ℕ) → seen code place ≡ Fine → code ≡ 0
-seen-fine code place e =
-    by_eq code 0 (λ (q : code ≡ 0). q) (λ (n : code ≡ 0 → ⊥). bad_fine code place (rw (ne_eqb code 0 n) at e))
+-- no refusal was seen: there was none
+pub seen-fine : (x : Result (Unit {0}) Code) (place : ℕ) → seen x place ≡ Ok tt → x ≡ Ok tt
+seen-fine (Ok u) place e = refl
+seen-fine (Err code) place e = err_ok (record { code = code; place = place }) tt e
+
+pub seen-ok : {A : Type 0} (x : Result A Code) (place : ℕ) → seen x place ≡ Ok tt → is_ok x ≡ true
+seen-ok (Ok x) place e = refl
+seen-ok (Err code) place e = err_ok (record { code = code; place = place }) tt e
+
+pub ok-seen : {A : Type 0} (x : Result A Code) (place : ℕ) → is_ok x ≡ true → seen x place ≡ Ok tt
+ok-seen (Ok x) place e = refl
+ok-seen (Err code) place e = not-held e
 
 -- in an allowed record each cell's contents are
-pub allowed-held : (x : Sheet) → allowed_sheet x ≡ Fine → (k : ℕ) → k < 167 → held_code (cell_at k).form (held_at x k) ≡ 0
+pub allowed-held : (x : Sheet) → allowed_sheet x ≡ (Ok tt) → (k : ℕ) → k < 167 → held_code (cell_at k).form (held_at x k) ≡ Ok tt
 unfolding allowed_sheet allowed_cell
 allowed-held x e k h = seen-fine (held_code (cell_at k).form (held_at x k)) (field_at (cell_at k)) (each-fine (allowed_cell x) 0 167 e k (omega arith) (omega arith))
 
 -- a digit of an allowed record
-pub digit-held : (most : ℕ) (v : List ℕ) → held_form (Digit most) ≡ true → held_code (Digit most) v ≡ 0 → get_or v 0 0 ≤ 9
+pub digit-held : (most : ℕ) (v : List ℕ) → held_form (Digit most) ≡ true → held_code (Digit most) v ≡ Ok tt → get_or v 0 0 ≤ 9
 unfolding held_form held_code
 digit-held most v e code =
     by_le (get_or v 0 0) most
     (λ (h : get_or v 0 0 ≤ most). omega (arith, leb-true most 9 e))
-    (λ (h : most < get_or v 0 0). let z : ◌≡◌ {A = ℕ} 4 0 = rw (lt-leb (get_or v 0 0) most h) at code in absurd (omega arith))
+    (λ (h : most < get_or v 0 0). no_err NotAllowed tt (rw (lt-leb (get_or v 0 0) most h) at code))
 
--- a code that is 0 was given by a test that held
-pub code-held : (t : Bool) (n : ℕ) → cond t 0 (suc n) ≡ 0 → t ≡ true
-code-held true n e = refl
-code-held false n e = absurd (omega arith)
+-- where there is no refusal, the test held
+pub code-held : (t : Bool) (code : Code) → ◌≡◌ {A = Result (Unit {0}) Code} (cond t (Ok tt) (Err code)) (Ok tt) → t ≡ true
+code-held true code e = refl
+code-held false code e = no_err code tt e
 
 -- a status of an allowed record
-pub status-held : (f : Form) (w : ℕ) → is_status f ≡ true → held_code f (w ∷ []) ≡ 0 → w ≤ 1
+pub status-held : (f : Form) (w : ℕ) → is_status f ≡ true → held_code f (w ∷ []) ≡ Ok tt → w ≤ 1
 unfolding held_code
 status-held (Name n) w e code = not-held e
 status-held Switch w e code = not-held e
-status-held (Digit most) w e code = omega (arith, leb-true w most (code-held (leb w most) 3 code), eqb-true most 1 e)
+status-held (Digit most) w e code = omega (arith, leb-true w most (code-held (leb w most) NotAllowed code), eqb-true most 1 e)
 status-held (Number n l) w e code = not-held e
 
 -- CR LF behind a text

@@ -15,8 +15,10 @@ use Rattle.packed.proofs.Scan.{next, trim_space, trim-other, trim_end}
 use Rattle.field.specs.Decimal.{is_digit, all_digits, value, value_from}
 use Rattle.sheet.specs.declared.Limits.{Limits}
 use Rattle.sheet.specs.declared.Found.{Found}
-use Rattle.sheet.specs.Number.{refused, digits_read, signed_read, number_read}
+use Rattle.sheet.specs.Number.{digits_read, signed_read, number_read}
 use Rattle.sheet.specs.Inner.{digit_count, FoundIn}
+use Rattle.std.specs.Prelude.{Err}
+use Rattle.text.specs.declared.Code.TheVariants.{NotAllowed}
 
 -- ---- the spaces: n of the first i bytes, and where n is less, no more of them count
 
@@ -141,7 +143,7 @@ value-behind f = value_trimmed f ∙ value-unsigned (trim f)
 -- ---- by the count of its digits
 
 -- none, or not all: 4
-digits_wrong : (l : Limits) (below : Bool) (ds : List ℕ) → (0 < digit_count ds → digit_count ds ≡ length ds → ⊥) → digits_read l below ds ≡ refused 4
+digits_wrong : (l : Limits) (below : Bool) (ds : List ℕ) → (0 < digit_count ds → digit_count ds ≡ length ds → ⊥) → digits_read l below ds ≡ Err NotAllowed
 unfolding digits_read
 digits_wrong l below ds wrong = rw fails
   where
@@ -206,9 +208,9 @@ module _ (f : List ℕ) (r : Found) (found : FoundIn f r) where
   pub tail-long : 0 < r.digits → from + r.digits ≡ length f → length tail ≡ r.digits
   tail-long h e = omega (arith, length-drop from f)
 
-  pub tail_none : (l : Limits) → r.digits ≡ 0 → number_read l f ≡ refused 4
+  pub tail_none : (l : Limits) → r.digits ≡ 0 → number_read l f ≡ Err NotAllowed
   tail_none l e = tail-read l ∙ digits_wrong l minus tail (λ (h : 0 < digit_count tail) (q : digit_count tail ≡ length tail). omega (arith, tail-count))
 
-  pub tail_wrong : (l : Limits) → 0 < r.digits → (from + r.digits ≡ length f → ⊥) → number_read l f ≡ refused 4
+  pub tail_wrong : (l : Limits) → 0 < r.digits → (from + r.digits ≡ length f → ⊥) → number_read l f ≡ Err NotAllowed
   tail_wrong l some e =
       tail-read l ∙ digits_wrong l minus tail (λ (h : 0 < digit_count tail) (q : digit_count tail ≡ length tail). e (omega (arith, tail-count, length-drop from f, tail_near some)))

@@ -9,22 +9,23 @@ use lib.ListN.{length, take, drop, length-append, length-drop}
 use lib.Seq.{take-append-le, drop-append-le}
 use borrow.Author.Tests.{ne_eqb, lt-ltb, le-ltb, le-leb, lt-leb, eqb-true}
 use Rattle.text.specs.Parts.{part}
-use Rattle.text.specs.Checks.{◌and_then◌}
+use Rattle.text.specs.Checks.{◌and_then◌, refuse}
 use Rattle.text.specs.Equal.{same_bytes}
 use Rattle.text.specs.Bytes.{is_one_of}
-use Rattle.text.specs.declared.Seen.TheVariants.{Fine, Bad}
 use Rattle.text.proofs.Cases.{by_lt}
 use Rattle.sheet.specs.declared.Form.{Form}
 use Rattle.sheet.specs.declared.Cell.{Cell}
-use Rattle.sheet.specs.declared.Word.{Word}
 use Rattle.sheet.specs.Layout.{width_of, cell_at}
 use Rattle.sheet.specs.Inner.{size_of_cell}
 use Rattle.sheet.specs.Sheet.{seen, field_at, field_end, cell_end, begins_at, Has, label_of, line_end, fixed_code, field_read, each, check_cell, check_sheet, bytes_read}
 use Rattle.sheet.proofs.Codes.{coded, seen-coded, then_coded, each-coded, bytes-given}
 use Rattle.sheet.proofs.Each.{each_first, each_all}
 use Rattle.sheet.proofs.Checked.{checked-length, checked-cell}
-use Rattle.sheet.proofs.Contents.{seen-fine, sizes, sizes-more, sizes-add, sizes-all, label_length}
+use Rattle.sheet.proofs.Contents.{seen-fine, ok-seen, sizes, sizes-more, sizes-add, sizes-all, label_length}
 use Rattle.sheet.proofs.TextOfRead.{places, three, field-fine}
+use Rattle.std.specs.Prelude.{Result, Ok, Err, is_ok}
+use Rattle.text.specs.declared.Code.{Code}
+use Rattle.text.specs.declared.Code.TheVariants.{WrongFixed, WrongEnd}
 
 -- ---- which cell a byte stands in
 
@@ -80,8 +81,8 @@ module _ (f g : List ℕ) where
   field-front form at h =
       rw (le-leb (at + width_of form) (length f) h, le-leb (at + width_of form) (length (f ++ g)) (omega (arith, length-append f g)), front at (width_of form) h)
 
-  ends-front : (t : Bool) (at : ℕ) → at + cond t 2 0 ≤ length f → cond t (seen (fixed_code line_end f at) at) Fine ≡ cond t (seen (fixed_code line_end (f ++ g) at) at) Fine
-  ends-front true at h = ap (λ (x : ℕ). seen x at) (fixed_front line_end at h)
+  ends-front : (t : Bool) (at : ℕ) → at + cond t 2 0 ≤ length f → cond t (seen (fixed_code line_end f at) at) (Ok tt) ≡ cond t (seen (fixed_code line_end (f ++ g) at) at) (Ok tt)
+  ends-front true at h = ap (λ (x : Result (Unit {0}) Code). seen x at) (fixed_front line_end at h)
   ends-front false at h = refl
 
   module _ (c : Cell) (long : length (label_of c) ≡ c.labelled) where
@@ -92,21 +93,21 @@ module _ (f g : List ℕ) where
 
 -- ---- and what is not
 
-short_fixed : (t s : List ℕ) (at : ℕ) → length s < at + length t → fixed_code t s at ≡ 8
+short_fixed : (t s : List ℕ) (at : ℕ) → length s < at + length t → fixed_code t s at ≡ Err WrongEnd
 unfolding fixed_code
 short_fixed t s at h = rw (lt-leb (at + length t) (length s) h)
 
-short-field : (form : Form) (s : List ℕ) (at : ℕ) → length s < at + width_of form → (field_read form s at).code ≡ 8
+short-field : (form : Form) (s : List ℕ) (at : ℕ) → length s < at + width_of form → field_read form s at ≡ Err WrongEnd
 unfolding field_read
 short-field form s at h = rw (lt-leb (at + width_of form) (length s) h)
 
-short_end : (t : Bool) (s : List ℕ) (at : ℕ) → at ≤ length s → length s < at + cond t 2 0 → cond t (seen (fixed_code line_end s at) at) Fine ≡ Bad 8 at
+short_end : (t : Bool) (s : List ℕ) (at : ℕ) → at ≤ length s → length s < at + cond t 2 0 → cond t (seen (fixed_code line_end s at) at) (Ok tt) ≡ refuse WrongEnd at
 short_end true s at low high = rw (short_fixed line_end s at high)
 short_end false s at low high = absurd (omega arith)
 
 -- a cell of an accepted text, cut off
-module _ (f g : List ℕ) (c : Cell) (long : length (label_of c) ≡ c.labelled) (fine : check_cell (f ++ g) c ≡ Fine) where
-  cell_cut : c.at ≤ length f → length f < cell_end c → check_cell f c ≡ Bad 8 (begins_at c (length f))
+module _ (f g : List ℕ) (c : Cell) (long : length (label_of c) ≡ c.labelled) (fine : check_cell (f ++ g) c ≡ (Ok tt)) where
+  cell_cut : c.at ≤ length f → length f < cell_end c → check_cell f c ≡ refuse WrongEnd (begins_at c (length f))
   unfolding check_cell
   cell_cut low high =
       let parts = three (f ++ g) c fine in
@@ -117,28 +118,28 @@ module _ (f g : List ℕ) (c : Cell) (long : length (label_of c) ≡ c.labelled)
       by_lt (length f) (field_end c)
       (λ (l : length f < field_end c). rw (label, short-field c.form f (field_at c) l, le-ltb (length f) (field_at c) h, lt-ltb (length f) (field_end c) l))
       (λ (l : field_end c ≤ length f).
-      let field = ap (λ (x : Word). x.code) (field-front f g c.form (field_at c) l) ∙ field-fine (f ++ g) c fine in
+      let field = ok-seen (field_read c.form f (field_at c)) (field_at c) (ap (λ (x : Result ℕ Code). is_ok x) (field-front f g c.form (field_at c) l) ∙ field-fine (f ++ g) c fine) in
       rw (label, field, le-ltb (length f) (field_at c) h, le-ltb (length f) (field_end c) l) (short_end c.ends f (field_end c) l high)))
 
 -- ---- the two laws
 
 -- a sheet that ends before byte n is refused with 8, where the field begins that has that byte
-pub early_end : (f g : List ℕ) (k : ℕ) → check_sheet (f ++ g) ≡ Fine → Has k (length f) → check_sheet f ≡ Bad 8 (begins_at (cell_at k) (length f))
+pub early_end : (f g : List ℕ) (k : ℕ) → check_sheet (f ++ g) ≡ (Ok tt) → Has k (length f) → check_sheet f ≡ refuse WrongEnd (begins_at (cell_at k) (length f))
 unfolding check_sheet
 early_end f g k fine h =
-    let before : (j : ℕ) → 0 ≤ j → j < k → check_cell f (cell_at j) ≡ Fine =
+    let before : (j : ℕ) → 0 ≤ j → j < k → check_cell f (cell_at j) ≡ (Ok tt) =
     λ (j : ℕ) (z : 0 ≤ j) (l : j < k).
     let few : j < 167 = omega (arith, h.few) in
     cell-front f g (cell_at j) (label_length j few) (omega (arith, before-ends j k l (omega (arith, h.few)), begins k h.few, h.low))
     ∙ checked-cell (f ++ g) fine j few in
     let cut = cell_cut f g (cell_at k) (label_length k h.few) (checked-cell (f ++ g) fine k h.few) h.low h.high in
-    rw (each_first (λ j. check_cell f (cell_at j)) k 167 8 (begins_at (cell_at k) (length f)) 0 (omega arith) (omega (arith, h.few)) before cut)
+    rw (each_first (λ j. check_cell f (cell_at j)) k 167 (record { code = WrongEnd; place = begins_at (cell_at k) (length f) }) 0 (omega arith) (omega (arith, h.few)) before cut)
 
 -- one that goes on, at its first extra byte
-pub goes_on : (s t : List ℕ) → check_sheet s ≡ Fine → 0 < length t → check_sheet (s ++ t) ≡ Bad 8 913
+pub goes_on : (s t : List ℕ) → check_sheet s ≡ (Ok tt) → 0 < length t → check_sheet (s ++ t) ≡ refuse WrongEnd 913
 unfolding check_sheet
 goes_on s t fine more =
-    let all : (j : ℕ) → 0 ≤ j → j < 0 + 167 → check_cell (s ++ t) (cell_at j) ≡ Fine =
+    let all : (j : ℕ) → 0 ≤ j → j < 0 + 167 → check_cell (s ++ t) (cell_at j) ≡ (Ok tt) =
     λ (j : ℕ) (z : 0 ≤ j) (l : j < 0 + 167).
     let few : j < 167 = omega arith in
     sym (cell-front s t (cell_at j) (label_length j few) (omega (arith, before-ends j 167 few (omega arith), sizes-all, checked-length s fine)))
@@ -157,25 +158,25 @@ whole_fixed : (t s : List ℕ) (at : ℕ) → at + length t ≤ length s → cod
 unfolding fixed_code is_one_of
 whole_fixed t s at h = rw (le-leb (at + length t) (length s) h) (by (same_bytes (part at (length t) s) t))
   where
-    by : (same : Bool) → coded whole_codes (seen (cond same 0 3) at) ≡ true
+    by : (same : Bool) → coded whole_codes (seen {A = Unit {0}} (cond same (Ok tt) (Err WrongFixed)) at) ≡ true
     by true = refl
     by false = refl
 
-whole-field : (form : Form) (s : List ℕ) (at : ℕ) → at + width_of form ≤ length s → coded whole_codes (seen (field_read form s at).code at) ≡ true
+whole-field : (form : Form) (s : List ℕ) (at : ℕ) → at + width_of form ≤ length s → coded whole_codes (seen (field_read form s at) at) ≡ true
 unfolding field_read is_one_of
 whole-field form s at h =
     rw (le-leb (at + width_of form) (length s) h)
-    (seen-coded whole_codes (bytes_read form (part at (width_of form) s)).code at (bytes-given (0 ∷ whole_codes) refl refl refl refl form (part at (width_of form) s)))
+    (seen-coded whole_codes (bytes_read form (part at (width_of form) s)) at (bytes-given whole_codes refl refl refl form (part at (width_of form) s)))
 
-whole_end : (ends : Bool) (s : List ℕ) (at : ℕ) → at + cond ends 2 0 ≤ length s → coded whole_codes (cond ends (seen (fixed_code line_end s at) at) Fine) ≡ true
+whole_end : (ends : Bool) (s : List ℕ) (at : ℕ) → at + cond ends 2 0 ≤ length s → coded whole_codes (cond ends (seen (fixed_code line_end s at) at) (Ok tt)) ≡ true
 whole_end true s at h = whole_fixed line_end s at h
 whole_end false s at h = refl
 
 whole-cell : (s : List ℕ) (c : Cell) → length (label_of c) ≡ c.labelled → cell_end c ≤ length s → coded whole_codes (check_cell s c) ≡ true
 unfolding check_cell
 whole-cell s c long h =
-    let last = cond c.ends (seen (fixed_code line_end s (field_end c)) (field_end c)) Fine in
-    let field = seen (field_read c.form s (field_at c)).code (field_at c) in
+    let last = cond c.ends (seen (fixed_code line_end s (field_end c)) (field_end c)) (Ok tt) in
+    let field = seen (field_read c.form s (field_at c)) (field_at c) in
     then_coded whole_codes (seen (fixed_code (label_of c) s c.at) c.at) (field and_then last) (whole_fixed (label_of c) s c.at (omega arith))
     (then_coded whole_codes field last (whole-field c.form s (field_at c) (omega arith)) (whole_end c.ends s (field_end c) h))
 
@@ -184,7 +185,7 @@ pub whole_codes_lem : (s : List ℕ) → length s ≡ 913 → coded whole_codes 
 unfolding check_sheet
 whole_codes_lem s e =
     rw e
-    (then_coded whole_codes (each (λ j. check_cell s (cell_at j)) 0 167) Fine
+    (then_coded whole_codes (each (λ j. check_cell s (cell_at j)) 0 167) (Ok tt)
     (each-coded whole_codes (λ j. check_cell s (cell_at j)) 0 167
     (λ (j : ℕ) (l : 0 ≤ j) (m : j < 0 + 167).
     let few : j < 167 = omega arith in

@@ -2,15 +2,15 @@
 use mathlib.Core.Path.{◌≡◌, refl}
 use Rattle.text.specs.Equal.{same_bytes}
 use Rattle.text.specs.Names.{allowed, all_allowed}
-use Rattle.text.specs.declared.Seen.TheVariants.{Fine}
 use Rattle.packed.specs.Packed.{trim}
 use Rattle.field.specs.Decimal.{all_digits, value_from}
 use Rattle.sheet.specs.Number.{within, digits_read, signed_read, number_read}
 use Rattle.sheet.specs.Layout.{width_of, box_cell, airport_cell, cell_at}
 use Rattle.sheet.specs.Sheet.{each, fixed_code, bytes_read, field_read, check_cell, check_sheet, airport_byte, sheet_at}
 use Rattle.sheet.specs.Printed.{printed, printed_sheet}
+use Rattle.std.specs.Prelude.{Ok}
 
-pub printed-accepted : check_sheet printed ≡ Fine
+pub printed-accepted : check_sheet printed ≡ (Ok tt)
 unfolding printed same_bytes allowed all_allowed trim all_digits value_from within digits_read signed_read number_read width_of box_cell airport_cell cell_at each fixed_code bytes_read field_read check_cell check_sheet
 printed-accepted = refl
 

@@ -12,25 +12,26 @@ use borrow.Author.Tests.{ne_eqb, le-leb, leb-true, ltb-true, eqb-true}
 use Rattle.text.specs.Parts.{part}
 use Rattle.text.specs.Names.{all_allowed}
 use Rattle.text.specs.Table.{values}
-use Rattle.text.specs.declared.Seen.TheVariants.{Fine}
 use Rattle.text.proofs.Cases.{by_eq, by_lt, both_left, both_right}
 use Rattle.text.proofs.Equal.{equal-same}
 use Rattle.text.proofs.Stands.{Stands, stands_middle, stands-left, stands_right}
 use Rattle.field.proofs.Decimal.{part-long}
 use Rattle.sheet.specs.declared.Form.{Form}
 use Rattle.sheet.specs.declared.Form.TheVariants.{Name, Switch, Digit, Number}
-use Rattle.sheet.specs.declared.Word.{Word}
 use Rattle.sheet.specs.declared.Sheet.{Sheet}
-use Rattle.sheet.specs.Number.{is_below, size_of, within}
+use Rattle.sheet.specs.Number.{word_in, is_below, size_of, within}
 use Rattle.sheet.specs.Layout.{width_of, cell_at, box_cell, airport_cell}
 use Rattle.sheet.specs.Allowed.{Sized}
 use Rattle.sheet.specs.Inner.{size_of_cell}
-use Rattle.sheet.specs.Sheet.{seen, field_at, field_end, label_of, line_end, fixed_code, one, digit_read, switch_read, bytes_read, field_read, check_cell, check_sheet, word_at, name_cell, airport_byte, airport_of, sheet_at, held_at, held_code, allowed_sheet, field_text, cell_text, joined, held_text, sheet_text}
+use Rattle.sheet.specs.Sheet.{seen, field_at, field_end, label_of, line_end, fixed_code, digit_read, switch_read, bytes_read, field_read, check_cell, check_sheet, word_at, name_cell, airport_byte, airport_of, sheet_at, held_at, held_code, allowed_sheet, field_text, cell_text, joined, held_text, sheet_text}
 use Rattle.sheet.proofs.Small.{every, not-held}
-use Rattle.sheet.proofs.Contents.{sizes, sizes-more, sizes-all, joined-more, label_length, is_word, is_four, word_cell, name_cell_lem, status-cell, status-is, status-held, code-held, number-length, cell-length, allowed-held, number-held, edge-held, name_of, status-of, first_of, airports-few, airport_back, airport_next}
+use Rattle.sheet.proofs.Contents.{ok-seen, sizes, sizes-more, sizes-all, joined-more, label_length, is_word, is_four, word_cell, name_cell_lem, status-cell, status-is, status-held, code-held, number-length, cell-length, allowed-held, number-held, edge-held, name_of, status-of, first_of, airports-few, airport_back, airport_next}
 use Rattle.sheet.proofs.Each.{each_all}
 use Rattle.sheet.proofs.Spelt.{spelt-read}
 use Rattle.sheet.proofs.TextOfRead.{places, name_byte, status-byte}
+use Rattle.std.specs.Prelude.{Result, Ok, is_ok}
+use Rattle.text.specs.declared.Code.{Code}
+use Rattle.text.specs.declared.Code.TheVariants.{NotAllowed, OutOfRange}
 
 -- ---- a field
 
@@ -45,10 +46,10 @@ roomy_cells : (k : ℕ) → k < 167 → roomy (cell_at k).form ≡ true
 unfolding cell_at box_cell airport_cell
 roomy_cells = every (λ k. roomy (cell_at k).form) 167 refl
 
-switch_back : (w : ℕ) → w ≤ 1 → switch_read (cond (eqb w 0) 68 82) ≡ one w
+switch_back : (w : ℕ) → w ≤ 1 → switch_read (cond (eqb w 0) 68 82) ≡ Ok w
 switch_back w h = by_eq w 0 (λ (e : w ≡ 0). rw e) (λ (n : w ≡ 0 → ⊥). let e : w ≡ 1 = omega arith in rw e)
 
-digit-back : (most w : ℕ) → w ≤ most → digit_read most (48 + w) ≡ one w
+digit-back : (most w : ℕ) → w ≤ most → digit_read most (48 + w) ≡ Ok w
 digit-back most w h =
     let back : 48 + w - 48 ≡ w = omega arith in
     rw (le-leb 48 (48 + w) (omega arith), le-leb (48 + w) (48 + most) (omega arith), back)
@@ -58,12 +59,12 @@ some_or true t e f = not-held (sym f ∙ e)
 some_or false t e f = e
 
 -- a word's field is read as the word
-word_read : (form : Form) (w : ℕ) → is_word form ≡ true → roomy form ≡ true → w < 65536 → held_code form (w ∷ []) ≡ 0
-    → bytes_read form (field_text form (w ∷ [])) ≡ one w
+word_read : (form : Form) (w : ℕ) → is_word form ≡ true → roomy form ≡ true → w < 65536 → held_code form (w ∷ []) ≡ Ok tt
+    → bytes_read form (field_text form (w ∷ [])) ≡ Ok w
 unfolding bytes_read field_text held_code
 word_read (Name n) w e r small code = not-held e
-word_read Switch w e r small code = switch_back w (leb-true w 1 (code-held (leb w 1) 3 code))
-word_read (Digit most) w e r small code = digit-back most w (leb-true w most (code-held (leb w most) 3 code))
+word_read Switch w e r small code = switch_back w (leb-true w 1 (code-held (leb w 1) NotAllowed code))
+word_read (Digit most) w e r small code = digit-back most w (leb-true w most (code-held (leb w most) NotAllowed code))
 word_read (Number n l) w e r small code =
     let b = both_right (ltb 0 n) (ltb l.most (10 ^ n) && (ltb l.below (10 ^ (n - 1)) && (eqb l.below 0 || ltb 1 n))) r in
     let c = both_right (ltb l.most (10 ^ n)) (ltb l.below (10 ^ (n - 1)) && (eqb l.below 0 || ltb 1 n)) b in
@@ -74,7 +75,7 @@ word_read (Number n l) w e r small code =
     (λ (h : 0 < l.below). ltb-true 1 n (some_or (eqb l.below 0) (ltb 1 n) d (ne_eqb l.below 0 (λ (z : l.below ≡ 0). omega arith))))
     (ltb-true l.below (10 ^ (n - 1)) (both_left (ltb l.below (10 ^ (n - 1))) (eqb l.below 0 || ltb 1 n) c))
     small
-    (code-held (within l (is_below w) (size_of w)) 4 code)
+    (code-held (within l (is_below w) (size_of w)) OutOfRange code)
 
 word-length : (form : Form) (w : ℕ) → is_word form ≡ true → length (field_text form (w ∷ [])) ≡ width_of form
 unfolding field_text width_of
@@ -85,7 +86,7 @@ word-length (Number n l) w e = number-length n w
 
 -- ---- what stands at its place is found there
 
-fixed_fine : (t s : List ℕ) (at : ℕ) → Stands t s at → fixed_code t s at ≡ 0
+fixed_fine : (t s : List ℕ) (at : ℕ) → Stands t s at → fixed_code t s at ≡ Ok tt
 unfolding fixed_code
 fixed_fine t s at h = rw (le-leb (at + length t) (length s) h.room, equal-same (part at (length t) s) t h.same)
 
@@ -116,10 +117,10 @@ is_name_of n Switch = false
 is_name_of n (Digit most) = false
 is_name_of n (Number w l) = false
 
-name_read_lem : (form : Form) (n : ℕ) (v : List ℕ) → is_name_of n form ≡ true → length v ≡ n → held_code form v ≡ 0
-    → ((bytes_read form (field_text form v)).code ≡ 0) × ((length (field_text form v) ≡ width_of form) × (field_text form v ≡ v))
+name_read_lem : (form : Form) (n : ℕ) (v : List ℕ) → is_name_of n form ≡ true → length v ≡ n → held_code form v ≡ Ok tt
+    → (is_ok (bytes_read form (field_text form v)) ≡ true) × ((length (field_text form v) ≡ width_of form) × (field_text form v ≡ v))
 unfolding bytes_read field_text held_code width_of
-name_read_lem (Name w) n v e long code = (rw (code-held (all_allowed v) 3 code), (long ∙ sym (eqb-true w n e), refl))
+name_read_lem (Name w) n v e long code = (rw (code-held (all_allowed v) NotAllowed code), (long ∙ sym (eqb-true w n e), refl))
 name_read_lem Switch n v e long code = not-held e
 name_read_lem (Digit most) n v e long code = not-held e
 name_read_lem (Number w l) n v e long code = not-held e
@@ -134,7 +135,7 @@ first_name : is_name_of 6 (cell_at 0).form ≡ true
 unfolding cell_at
 first_name = refl
 
-ends-fine : (t : Bool) (s : List ℕ) (at : ℕ) → Stands (cond t line_end []) s at → cond t (seen (fixed_code line_end s at) at) Fine ≡ Fine
+ends-fine : (t : Bool) (s : List ℕ) (at : ℕ) → Stands (cond t line_end []) s at → cond t (seen (fixed_code line_end s at) at) (Ok tt) ≡ (Ok tt)
 ends-fine true s at h = rw (fixed_fine line_end s at h)
 ends-fine false s at h = refl
 
@@ -145,13 +146,13 @@ values_are f from (a ∷ l) h =
     let rest = values_are f (suc from) l (λ (i : ℕ) (q : i < length l). let e : suc from + i ≡ from + suc i = omega arith in ap f e ∙ h (suc i) (omega arith)) in
     rw (first, rest)
 
-module _ (x : Sheet) (sized : Sized x) (fine : allowed_sheet x ≡ Fine) where
+module _ (x : Sheet) (sized : Sized x) (fine : allowed_sheet x ≡ (Ok tt)) where
   -- a cell's field is as wide as it says, and is accepted
   Told : ℕ → Type 0
-  Told k = ((bytes_read (cell_at k).form (field_text (cell_at k).form (held_at x k))).code ≡ 0) × (length (field_text (cell_at k).form (held_at x k)) ≡ width_of (cell_at k).form)
+  Told k = (is_ok (bytes_read (cell_at k).form (field_text (cell_at k).form (held_at x k))) ≡ true) × (length (field_text (cell_at k).form (held_at x k)) ≡ width_of (cell_at k).form)
 
   word-told : (k w : ℕ) → k < 167 → held_at x k ≡ w ∷ [] → is_word (cell_at k).form ≡ true → w < 65536
-      → bytes_read (cell_at k).form (field_text (cell_at k).form (held_at x k)) ≡ one w
+      → bytes_read (cell_at k).form (field_text (cell_at k).form (held_at x k)) ≡ Ok w
   word-told k w h is e small =
       let code = rw is at (allowed-held x fine k h) in
       rw is (word_read (cell_at k).form w e (roomy_cells k h) small code)
@@ -159,7 +160,7 @@ module _ (x : Sheet) (sized : Sized x) (fine : allowed_sheet x ≡ Fine) where
   told-word : (k w : ℕ) → k < 167 → held_at x k ≡ w ∷ [] → is_word (cell_at k).form ≡ true → w < 65536 → Told k
   unfolding Told
   told-word k w h is e small =
-      (ap (λ (g : Word). g.code) (word-told k w h is e small), rw is (word-length (cell_at k).form w e))
+      (ap (λ (g : Result ℕ Code). is_ok g) (word-told k w h is e small), rw is (word-length (cell_at k).form w e))
 
   told_name : (k n : ℕ) → k < 167 → is_name_of n (cell_at k).form ≡ true → length (held_at x k) ≡ n → Told k
   unfolding Told
@@ -253,22 +254,22 @@ module _ (x : Sheet) (sized : Sized x) (fine : allowed_sheet x ≡ Fine) where
       moved-stands e (sheet_text x) (sheet_text x) (field_end (cell_at k)) (field_at (cell_at k) + length f) refl (ap (λ (n : ℕ). field_at (cell_at k) + n) (told k h).1)
       (stands_right f e (sheet_text x) (field_at (cell_at k)) (rest-stands k h))
 
-  cell-fine : (k : ℕ) → k < 167 → check_cell (sheet_text x) (cell_at k) ≡ Fine
+  cell-fine : (k : ℕ) → k < 167 → check_cell (sheet_text x) (cell_at k) ≡ (Ok tt)
   unfolding check_cell Told
   cell-fine k h =
-      let code : (field_read (cell_at k).form (sheet_text x) (field_at (cell_at k))).code ≡ 0 = ap (λ (g : Word). g.code) (field_is k h) ∙ (told k h).0 in
-      rw (fixed_fine (label_of (cell_at k)) (sheet_text x) (cell_at k).at (label_stands k h), code)
+      let code : is_ok (field_read (cell_at k).form (sheet_text x) (field_at (cell_at k))) ≡ true = ap (λ (g : Result ℕ Code). is_ok g) (field_is k h) ∙ (told k h).0 in
+      rw (fixed_fine (label_of (cell_at k)) (sheet_text x) (cell_at k).at (label_stands k h), ok-seen (field_read (cell_at k).form (sheet_text x) (field_at (cell_at k))) (field_at (cell_at k)) code)
       (ends-fine (cell_at k).ends (sheet_text x) (field_end (cell_at k)) (end_stands k h))
 
   -- the text of an allowed record is accepted
-  pub text-accepted : check_sheet (sheet_text x) ≡ Fine
+  pub text-accepted : check_sheet (sheet_text x) ≡ (Ok tt)
   unfolding check_sheet
   text-accepted =
       rw (each_all (λ j. check_cell (sheet_text x) (cell_at j)) 167 0 (λ (j : ℕ) (l : 0 ≤ j) (m : j < 0 + 167). cell-fine j (omega arith)), text-length)
 
   -- and each of its words is read back
   word_back : (k w : ℕ) → k < 167 → held_at x k ≡ w ∷ [] → is_word (cell_at k).form ≡ true → w < 65536 → word_at (sheet_text x) k ≡ w
-  word_back k w h is e small = ap (λ (g : Word). g.word) (field_is k h ∙ word-told k w h is e small)
+  word_back k w h is e small = ap word_in (field_is k h ∙ word-told k w h is e small)
 
   numbers-back : (i : ℕ) → i < 16 → word_at (sheet_text x) (1 + i) ≡ get_or x.numbers i 0
   numbers-back i h =

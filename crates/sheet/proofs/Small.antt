@@ -12,7 +12,8 @@ use Rattle.sheet.specs.declared.Limits.{Limits}
 use Rattle.sheet.specs.declared.Form.{Form}
 use Rattle.sheet.specs.declared.Form.TheVariants.{Name, Switch, Digit, Number}
 use Rattle.sheet.specs.declared.Cell.{Cell}
-use Rattle.sheet.specs.declared.Word.{Word}
+use Rattle.std.specs.Prelude.{Result, Ok, Err, is_ok}
+use Rattle.text.specs.declared.Code.{Code}
 use Rattle.sheet.specs.Layout.{width_of, cell_at, box_cell, airport_cell}
 use Rattle.sheet.specs.Inner.{small_form, small_cell, size_of_cell}
 use lib.ListN.{length, get_or}
@@ -23,10 +24,15 @@ use Rattle.text.specs.Equal.{same_bytes}
 use Rattle.text.proofs.Equal.{same-equal}
 use Rattle.packed.specs.Packed.{trim}
 use Rattle.sheet.specs.Sheet.{label_of, field_at, numeral, name_cell, word_at, field_read, bytes_read, digit_read}
+use Rattle.sheet.specs.Number.{word_in}
 
 -- a test that fails does not hold
 pub not-held {ℓ} : {P : Type ℓ} → false ≡ true → P
 not-held e = let z : ◌≡◌ {A = ℕ} 0 1 = ap (λ (t : Bool). cond t 1 0) e in absurd (omega arith)
+
+-- nor is a refusal an acceptance
+pub no_err {ℓ} : {A : Type 0} {P : Type ℓ} (code : Code) (x : A) → ◌≡◌ {A = Result A Code} (Err code) (Ok x) → P
+no_err {A = A} code x e = not-held (ap (λ (r : Result A Code). is_ok r) e)
 
 -- a test that antt computes at each number below n
 pub every : (test : ℕ → Bool) (n : ℕ) → values (λ k. cond (test k) 1 0) 0 n ≡ values (λ k. 1) 0 n → (k : ℕ) → k < n → test k ≡ true
@@ -110,14 +116,14 @@ pub status-form : (n : ℕ) → n < 50 → is_status (cell_at (suc (name_cell n)
 unfolding cell_at box_cell airport_cell
 status-form = every (λ n. is_status (cell_at (suc (name_cell n))).form) 50 refl
 
-word_small : (f : Form) (s : List ℕ) (at : ℕ) → is_status f ≡ true → (field_read f s at).word ≤ 9
+word_small : (f : Form) (s : List ℕ) (at : ℕ) → is_status f ≡ true → word_in (field_read f s at) ≤ 9
 unfolding field_read bytes_read width_of
 word_small (Name w) s at e = not-held e
 word_small Switch s at e = not-held e
 word_small (Number w l) s at e = not-held e
 word_small (Digit most) s at e = by_room (leb (at + 1) (length s)) (get_or (part at 1 s) 0 0) _ (omega arith) (eqb-true most 1 e)
   where
-    by_room : (t : Bool) (b : ℕ) (other : Word) → other.word ≤ 9 → most ≡ 1 → (cond t (digit_read most b) other).word ≤ 9
+    by_room : (t : Bool) (b : ℕ) (other : Result ℕ Code) → word_in other ≤ 9 → most ≡ 1 → word_in (cond t (digit_read most b) other) ≤ 9
     by_room false b other small q = small
     by_room true b other small q =
         by_test (between 48 (48 + most) b)

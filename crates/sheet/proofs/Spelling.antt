@@ -12,9 +12,12 @@ use Rattle.packed.specs.Packed.{trim}
 use Rattle.field.specs.Decimal.{is_digit, all_digits, value, value_from, decimal}
 use Rattle.field.proofs.Decimal.{digit_low, decimal-value}
 use Rattle.sheet.specs.declared.Limits.{Limits}
-use Rattle.sheet.specs.declared.Word.{Word}
-use Rattle.sheet.specs.Number.{word_of, is_below, size_of, within, refused, zero_first, digits_read, signed_read, number_read, blanked, marked, number_text}
+use Rattle.std.specs.Prelude.{Result, Ok, Err, is_ok}
+use Rattle.text.specs.declared.Code.{Code}
+use Rattle.text.specs.declared.Code.TheVariants.{NotAllowed, OutOfRange, OtherSpelling}
+use Rattle.sheet.specs.Number.{word_of, is_below, size_of, within, word_in, zero_first, digits_read, signed_read, number_read, blanked, marked, number_text}
 use Rattle.sheet.proofs.Scan.{value_positive, within-small}
+use Rattle.sheet.proofs.Small.{not-held}
 
 -- n times a byte before a text
 unfoldable pub pad : ℕ → ℕ → List ℕ → List ℕ
@@ -78,21 +81,21 @@ mark-pad (suc n) d r e = ap (λ (t : List ℕ). 32 ∷ t) (mark-pad n d r e)
 
 -- ---- what an accepted field is
 
-pub record Digits (l : Limits) (below : Bool) (ds : List ℕ) (x : Word) : Type 0 where
+pub record Digits (l : Limits) (below : Bool) (ds : List ℕ) (x : Result ℕ Code) : Type 0 where
   pub some : ltb 0 (length ds) ≡ true
   pub all : all_digits ds ≡ true
   pub least : zero_first below ds ≡ false
   pub inside : within l below (value ds) ≡ true
-  pub is : x.word ≡ word_of below (value ds)
+  pub is : word_in x ≡ word_of below (value ds)
 
-picked : (p q r : Bool) (v : ℕ) → (cond p (cond q (refused 6) (cond r (record { code = 0; word = v }) (refused 5))) (refused 4)).code ≡ 0
+picked : (p q r : Bool) (v : ℕ) → is_ok {E = Code} (cond p (cond q (Err OtherSpelling) (cond r (Ok v) (Err OutOfRange))) (Err NotAllowed)) ≡ true
     → (p ≡ true) × ((q ≡ false) × (r ≡ true))
 picked true false true v e = (refl, (refl, refl))
-picked true false false v e = absurd (omega arith)
-picked true true r v e = absurd (omega arith)
-picked false q r v e = absurd (omega arith)
+picked true false false v e = not-held e
+picked true true r v e = not-held e
+picked false q r v e = not-held e
 
-digits_of_lem : (l : Limits) (below : Bool) (ds : List ℕ) → (digits_read l below ds).code ≡ 0 → Digits l below ds (digits_read l below ds)
+digits_of_lem : (l : Limits) (below : Bool) (ds : List ℕ) → is_ok (digits_read l below ds) ≡ true → Digits l below ds (digits_read l below ds)
 unfolding digits_read
 digits_of_lem l below ds e =
     let p = ltb 0 (length ds) && all_digits ds in
@@ -135,7 +138,7 @@ no-some e = absurd (omega (arith, ltb-true 0 0 e))
 
 module _ (l : Limits) (small : (l.below ≤ 32768) × (l.most ≤ 32767)) (w n : ℕ) where
   -- `-` and digits behind n spaces
-  below-spelt : (ds : List ℕ) (x : Word) → Digits l true ds x → w ≡ suc n + length ds → number_text w x.word ≡ pad n 32 (45 ∷ ds)
+  below-spelt : (ds : List ℕ) (x : Result ℕ Code) → Digits l true ds x → w ≡ suc n + length ds → number_text w (word_in x) ≡ pad n 32 (45 ∷ ds)
   below-spelt [] x h long = no-some h.some
   below-spelt (d ∷ r) x h long =
       let v = value (d ∷ r) in
@@ -155,7 +158,7 @@ module _ (l : Limits) (small : (l.below ≤ 32768) × (l.most ≤ 32767)) (w n :
       fewer false t e = refl
 
   -- digits behind n spaces
-  above-spelt : (ds : List ℕ) (x : Word) → Digits l false ds x → w ≡ n + length ds → number_text w x.word ≡ pad n 32 ds
+  above-spelt : (ds : List ℕ) (x : Result ℕ Code) → Digits l false ds x → w ≡ n + length ds → number_text w (word_in x) ≡ pad n 32 ds
   above-spelt [] x h long = no-some h.some
   above-spelt (d ∷ r) x h long =
       let v = value (d ∷ r) in
@@ -170,13 +173,13 @@ lead-length : (f : List ℕ) → length f ≡ lead f + length (trim f)
 lead-length f = ap length (sym (lead_is f)) ∙ pad-length (lead f) 32 (trim f)
 
 -- an accepted field is the text of what it is read as
-pub one-spelling : (l : Limits) (f : List ℕ) → (l.below ≤ 32768) × (l.most ≤ 32767) → (number_read l f).code ≡ 0
-    → number_text (length f) (number_read l f).word ≡ f
+pub one-spelling : (l : Limits) (f : List ℕ) → (l.below ≤ 32768) × (l.most ≤ 32767) → is_ok (number_read l f) ≡ true
+    → number_text (length f) (word_in (number_read l f)) ≡ f
 unfolding number_read signed_read
 one-spelling l f small e = by (trim f) refl (lead-length f) e ∙ lead_is f
   where
-    by : (t : List ℕ) → trim f ≡ t → length f ≡ lead f + length t → (signed_read l t).code ≡ 0
-        → number_text (length f) (signed_read l t).word ≡ pad (lead f) 32 t
+    by : (t : List ℕ) → trim f ≡ t → length f ≡ lead f + length t → is_ok (signed_read l t) ≡ true
+        → number_text (length f) (word_in (signed_read l t)) ≡ pad (lead f) 32 t
     by [] is long e = above-spelt l small (length f) (lead f) [] (digits_read l false []) (digits_of_lem l false [] e) long
     by (b ∷ t) is long e =
         by_test (eqb b 45)
@@ -189,8 +192,8 @@ one-spelling l f small e = by (trim f) refl (lead-length f) e ∙ lead_is f
 
 -- ---- what is read
 
-digits-within : (l : Limits) → (l.below ≤ 32768) × (l.most ≤ 32767) → (below : Bool) (ds : List ℕ) (x : Word) → Digits l below ds x
-    → (x.word < 65536) × (within l (is_below x.word) (size_of x.word) ≡ true)
+digits-within : (l : Limits) → (l.below ≤ 32768) × (l.most ≤ 32767) → (below : Bool) (ds : List ℕ) (x : Result ℕ Code) → Digits l below ds x
+    → (word_in x < 65536) × (within l (is_below (word_in x)) (size_of (word_in x)) ≡ true)
 digits-within l small true ds x h =
     let v = value ds in
     let low : 0 < v = value_positive ds h.some h.all h.least in
@@ -203,13 +206,13 @@ digits-within l small false ds x h =
     rw (h.is, lt-leb 32768 v (omega arith)) (omega arith, h.inside)
 
 -- an accepted field is a number within the limits, in 16 bits
-pub read-within : (l : Limits) (f : List ℕ) → (l.below ≤ 32768) × (l.most ≤ 32767) → (number_read l f).code ≡ 0
-    → ((number_read l f).word < 65536) × (within l (is_below (number_read l f).word) (size_of (number_read l f).word) ≡ true)
+pub read-within : (l : Limits) (f : List ℕ) → (l.below ≤ 32768) × (l.most ≤ 32767) → is_ok (number_read l f) ≡ true
+    → (word_in (number_read l f) < 65536) × (within l (is_below (word_in (number_read l f))) (size_of (word_in (number_read l f))) ≡ true)
 unfolding number_read signed_read
 read-within l f small e = by (trim f) e
   where
-    by : (t : List ℕ) → (signed_read l t).code ≡ 0
-        → ((signed_read l t).word < 65536) × (within l (is_below (signed_read l t).word) (size_of (signed_read l t).word) ≡ true)
+    by : (t : List ℕ) → is_ok (signed_read l t) ≡ true
+        → (word_in (signed_read l t) < 65536) × (within l (is_below (word_in (signed_read l t))) (size_of (word_in (signed_read l t))) ≡ true)
     by t e =
         by_test (eqb (get_or t 0 0) 45)
         (λ (q : eqb (get_or t 0 0) 45 ≡ true).

@@ -11,6 +11,8 @@ use Rattle.text.proofs.Cases.{by_test, both_right}
 use Rattle.packed.specs.Packed.{trim}
 use Rattle.field.specs.Decimal.{is_digit, all_digits, value, value_from, decimal}
 use Rattle.field.proofs.Decimal.{digit_low, decimal-length, decimal-digits, decimal-value, value-decimal}
+use Rattle.std.specs.Prelude.{Result, Ok}
+use Rattle.text.specs.declared.Code.{Code}
 use Rattle.sheet.specs.declared.Limits.{Limits}
 use Rattle.sheet.specs.Number.{word_of, is_below, size_of, within, zero_first, digits_read, signed_read, number_read, blanked, marked, number_text}
 use Rattle.sheet.proofs.Spelling.{pad, pad-digits, pad-value, blank-pad, mark-pad, text-is, first-digit}
@@ -81,15 +83,18 @@ trim-pad (suc n) b t e = trim-pad n b t e
 
 -- ---- reading the text of a number
 
+abbrev taken : ℕ → Result ℕ Code
+taken x = Ok x
+
 digits-fine : (l : Limits) (below : Bool) (ds : List ℕ) → ltb 0 (length ds) ≡ true → all_digits ds ≡ true
     → zero_first below ds ≡ false → within l below (value ds) ≡ true
-    → digits_read l below ds ≡ record { code = 0; word = word_of below (value ds) }
+    → digits_read l below ds ≡ Ok (word_of below (value ds))
 unfolding digits_read
 digits-fine l below ds some all least inside = rw (some, all, least, inside)
 
 -- the digits that are left, behind spaces
 above_by : (l : Limits) (ds r : List ℕ) → rest ds ≡ r → (v : ℕ) → ltb 0 (length r) ≡ true → all_digits r ≡ true → value r ≡ v → within l false v ≡ true
-    → (eqb (get_or r 0 0) 48 && ltb 1 (length r)) ≡ false → signed_read l (trim (blanked ds)) ≡ record { code = 0; word = v }
+    → (eqb (get_or r 0 0) 48 && ltb 1 (length r)) ≡ false → signed_read l (trim (blanked ds)) ≡ Ok v
 unfolding signed_read
 above_by l ds [] is v some all worth inside least = absurd (omega (arith, ltb-true 0 0 some))
 above_by l ds (d ∷ r) is v some all worth inside least =
@@ -100,15 +105,15 @@ above_by l ds (d ∷ r) is v some all worth inside least =
     ap (λ (t : List ℕ). trim (blanked t)) (sym (zeros-rest ds) ∙ ap (pad (zeros ds) 48) is)
     ∙ ap trim (blank-pad (zeros ds) d r least)
     ∙ trim-pad (zeros ds) d r other in
-    rw (text, sign) (digits-fine l false (d ∷ r) some all least (rw worth inside) ∙ ap (λ (x : ℕ). record { code = 0; word = x }) worth)
+    rw (text, sign) (digits-fine l false (d ∷ r) some all least (rw worth inside) ∙ ap taken worth)
 
 -- not below zero
 above-read : (l : Limits) (w v : ℕ) → 0 < w → v < 10 ^ w → within l false v ≡ true
-    → number_read l (blanked (decimal w v)) ≡ record { code = 0; word = v }
+    → number_read l (blanked (decimal w v)) ≡ Ok v
 unfolding number_read
 above-read l w v some fits inside = by (decimal w v) (decimal-length w v) (decimal-digits w v) (value-decimal w v fits)
   where
-    by : (ds : List ℕ) → length ds ≡ w → all_digits ds ≡ true → value ds ≡ v → signed_read l (trim (blanked ds)) ≡ record { code = 0; word = v }
+    by : (ds : List ℕ) → length ds ≡ w → all_digits ds ≡ true → value ds ≡ v → signed_read l (trim (blanked ds)) ≡ Ok v
     by [] long all is = absurd (omega arith)
     by (b ∷ ds) long all is = above_by l (b ∷ ds) (rest (b ∷ ds)) refl v (rest_some b ds) (rest-digits (b ∷ ds) all) (rest-value (b ∷ ds) ∙ is) inside (rest-least (b ∷ ds))
 
@@ -132,7 +137,7 @@ positive_least d (c ∷ r) some e = alone (eqb d 48) (ltb 1 (suc (suc (length r)
     alone false t h e = refl
 
 below_by : (l : Limits) (ds r : List ℕ) → rest ds ≡ r → (v : ℕ) → ltb 0 (length r) ≡ true → all_digits r ≡ true → value r ≡ v → 0 < v → within l true v ≡ true
-    → (eqb (get_or r 0 0) 48 && ltb 1 (length r)) ≡ false → signed_read l (trim (marked (blanked (48 ∷ ds)))) ≡ record { code = 0; word = 65536 - v }
+    → (eqb (get_or r 0 0) 48 && ltb 1 (length r)) ≡ false → signed_read l (trim (marked (blanked (48 ∷ ds)))) ≡ Ok (65536 - v)
 unfolding signed_read pad
 below_by l ds [] is v some all worth more inside least = absurd (omega (arith, ltb-true 0 0 some))
 below_by l ds (d ∷ r) is v some all worth more inside least =
@@ -144,21 +149,21 @@ below_by l ds (d ∷ r) is v some all worth more inside least =
     ∙ ap (λ (t : List ℕ). trim (marked t)) (blank-pad (suc (zeros ds)) d r least)
     ∙ ap trim (mark-pad (zeros ds) d r other)
     ∙ trim-pad (zeros ds) 45 (d ∷ r) refl in
-    rw text (digits-fine l true (d ∷ r) some all (rw first) (rw worth inside) ∙ ap (λ (x : ℕ). record { code = 0; word = 65536 - x }) worth)
+    rw text (digits-fine l true (d ∷ r) some all (rw first) (rw worth inside) ∙ ap (λ (x : ℕ). taken (65536 - x)) worth)
 
 -- below zero, with room for the sign
 below-read : (l : Limits) (w v : ℕ) → 0 < w → v < 10 ^ w → 0 < v → within l true v ≡ true
-    → number_read l (marked (blanked (decimal (suc w) v))) ≡ record { code = 0; word = 65536 - v }
+    → number_read l (marked (blanked (decimal (suc w) v))) ≡ Ok (65536 - v)
 unfolding number_read
 below-read l w v some fits more inside = rw (one_more w v fits) (by (decimal w v) (decimal-length w v) (decimal-digits w v) (value-decimal w v fits))
   where
-    by : (ds : List ℕ) → length ds ≡ w → all_digits ds ≡ true → value ds ≡ v → signed_read l (trim (marked (blanked (48 ∷ ds)))) ≡ record { code = 0; word = 65536 - v }
+    by : (ds : List ℕ) → length ds ≡ w → all_digits ds ≡ true → value ds ≡ v → signed_read l (trim (marked (blanked (48 ∷ ds)))) ≡ Ok (65536 - v)
     by [] long all is = absurd (omega arith)
     by (b ∷ ds) long all is = below_by l (b ∷ ds) (rest (b ∷ ds)) refl v (rest_some b ds) (rest-digits (b ∷ ds) all) (rest-value (b ∷ ds) ∙ is) more inside (rest-least (b ∷ ds))
 
 -- a number within limits that its width holds, one digit fewer where it may be below zero
 pub spelt-read : (l : Limits) (w x : ℕ) → 0 < w → l.most < 10 ^ w → (0 < l.below → 1 < w) → l.below < 10 ^ (w - 1) → x < 65536 → within l (is_below x) (size_of x) ≡ true
-    → number_read l (number_text w x) ≡ record { code = 0; word = x }
+    → number_read l (number_text w x) ≡ Ok x
 unfolding within
 spelt-read l w x some most signs least word inside =
     by_test (is_below x)
@@ -171,7 +176,7 @@ spelt-read l w x some most signs least word inside =
     let back : 65536 - v ≡ x = omega arith in
     ap (number_read l) (text-is w x true e ∙ ap (λ (k : ℕ). marked (blanked (decimal w k))) size ∙ ap (λ (k : ℕ). marked (blanked (decimal k v))) (sym w-is))
     ∙ below-read l (w - 1) v (omega arith) (omega (arith, least)) (omega arith) (rw (le-leb v l.below few))
-    ∙ ap (λ (k : ℕ). record { code = 0; word = k }) back)
+    ∙ ap taken back)
     (λ (e : is_below x ≡ false).
     let size : size_of x ≡ x = rw e in
     let range : (leb l.least x && leb x l.most) ≡ true = rw e at inside in

@@ -13,8 +13,6 @@ use Rattle.text.specs.Parts.{part}
 use Rattle.text.specs.Equal.{same_bytes}
 use Rattle.text.specs.Names.{between}
 use Rattle.text.specs.Table.{values}
-use Rattle.text.specs.declared.Seen.{Seen}
-use Rattle.text.specs.declared.Seen.TheVariants.{Fine}
 use Rattle.text.specs.Checks.{◌and_then◌}
 use Rattle.text.proofs.Cases.{by_test, by_eq, by_lt, by_le, both_left}
 use Rattle.text.proofs.Checks.{both-fine}
@@ -24,101 +22,104 @@ use Rattle.field.proofs.Decimal.{part-long}
 use Rattle.sheet.specs.declared.Form.{Form}
 use Rattle.sheet.specs.declared.Form.TheVariants.{Name, Switch, Digit, Number}
 use Rattle.sheet.specs.declared.Cell.{Cell}
-use Rattle.sheet.specs.declared.Word.{Word}
 use Rattle.sheet.specs.declared.Sheet.{Sheet}
-use Rattle.sheet.specs.Number.{number_read, number_text}
+use Rattle.sheet.specs.Number.{word_in, number_read, number_text}
 use Rattle.sheet.specs.Layout.{width_of, cell_at, box_cell, airport_cell}
 use Rattle.sheet.specs.Inner.{small_form, size_of_cell}
 use Rattle.sheet.specs.Sheet.{seen, field_at, field_end, label_of, line_end, fixed_code, digit_read, switch_read, bytes_read, field_read, check_cell, check_sheet, word_at, name_cell, airport_byte, airport_of, sheet_at, held_at, field_text, cell_text, joined, held_text, sheet_text}
-use Rattle.sheet.proofs.Small.{every, not-held, cell-small, small-parts, small-number}
-use Rattle.sheet.proofs.Contents.{seen-fine, sizes, sizes-more, sizes-all, joined-more, label_length, is_word, is_four, word_cell, name_cell_lem, status-cell, part-four, airports-few}
+use Rattle.sheet.proofs.Small.{every, not-held, no_err, cell-small, small-parts, small-number}
+use Rattle.sheet.proofs.Contents.{seen-fine, seen-ok, sizes, sizes-more, sizes-all, joined-more, label_length, is_word, is_four, word_cell, name_cell_lem, status-cell, part-four, airports-few}
 use Rattle.sheet.proofs.Checked.{checked-length, checked-cell}
 use Rattle.sheet.proofs.Filled.{values-at, values_length}
 use Rattle.sheet.proofs.Spelling.{one-spelling}
+use Rattle.std.specs.Prelude.{Result, Ok, is_ok}
+use Rattle.text.specs.declared.Code.{Code}
+use Rattle.text.specs.declared.Code.TheVariants.{WrongFixed, WrongEnd}
+use Rattle.text.specs.declared.Refusal.{Refusal}
 
 -- ---- a field
 
 -- what a field's bytes are held as
 unfoldable pub content_of : Form → List ℕ → List ℕ
 content_of (Name w) f = f
-content_of Switch f = (bytes_read Switch f).word ∷ []
-content_of (Digit most) f = (bytes_read (Digit most) f).word ∷ []
-content_of (Number w l) f = (bytes_read (Number w l) f).word ∷ []
+content_of Switch f = word_in (bytes_read Switch f) ∷ []
+content_of (Digit most) f = word_in (bytes_read (Digit most) f) ∷ []
+content_of (Number w l) f = word_in (bytes_read (Number w l) f) ∷ []
 
 one_byte : (f : List ℕ) → length f ≡ 1 → f ≡ get_or f 0 0 ∷ []
 one_byte [] e = absurd (omega arith)
 one_byte (b ∷ []) e = refl
 one_byte (b ∷ c ∷ f) e = absurd (omega arith)
 
-switch-spelt : (b : ℕ) → (switch_read b).code ≡ 0 → cond (eqb (switch_read b).word 0) 68 82 ≡ b
+switch-spelt : (b : ℕ) → is_ok (switch_read b) ≡ true → cond (eqb (word_in (switch_read b)) 0) 68 82 ≡ b
 switch-spelt b e =
     by_test (eqb b 68)
     (λ (p : eqb b 68 ≡ true). rw p (sym (eqb-true b 68 p)))
     (λ (p : eqb b 68 ≡ false).
     by_test (eqb b 82)
     (λ (q : eqb b 82 ≡ true). rw (p, q) (sym (eqb-true b 82 q)))
-    (λ (q : eqb b 82 ≡ false). absurd (omega (arith, rw (p, q) at e))))
+    (λ (q : eqb b 82 ≡ false). not-held (rw (p, q) at e)))
 
-digit-spelt : (most b : ℕ) → (digit_read most b).code ≡ 0 → 48 + (digit_read most b).word ≡ b
+digit-spelt : (most b : ℕ) → is_ok (digit_read most b) ≡ true → 48 + word_in (digit_read most b) ≡ b
 digit-spelt most b e =
     by_test (between 48 (48 + most) b)
     (λ (p : between 48 (48 + most) b ≡ true). rw p (omega (arith, leb-true 48 b (both_left (leb 48 b) (leb b (48 + most)) p))))
-    (λ (p : between 48 (48 + most) b ≡ false). absurd (omega (arith, rw p at e)))
+    (λ (p : between 48 (48 + most) b ≡ false). not-held (rw p at e))
 
-pub field-spelt : (form : Form) (f : List ℕ) → small_form form ≡ true → length f ≡ width_of form → (bytes_read form f).code ≡ 0
+pub field-spelt : (form : Form) (f : List ℕ) → small_form form ≡ true → length f ≡ width_of form → is_ok (bytes_read form f) ≡ true
     → field_text form (content_of form f) ≡ f
 unfolding field_text content_of bytes_read width_of
 field-spelt (Name w) f small long e = refl
 field-spelt Switch f small long e = ap (λ (b : ℕ). b ∷ []) (switch-spelt (get_or f 0 0) e) ∙ sym (one_byte f long)
 field-spelt (Digit most) f small long e = ap (λ (b : ℕ). b ∷ []) (digit-spelt most (get_or f 0 0) e) ∙ sym (one_byte f long)
 field-spelt (Number w l) f small long e =
-    ap (λ (n : ℕ). number_text n (number_read l f).word) (sym long) ∙ one-spelling l f (small-number w l small).1 e
+    ap (λ (n : ℕ). number_text n (word_in (number_read l f))) (sym long) ∙ one-spelling l f (small-number w l small).1 e
 
 -- ---- a cell
 
 -- a fixed group that is there
-fixed_there : (t s : List ℕ) (at : ℕ) → fixed_code t s at ≡ 0 → (at + length t ≤ length s) × (part at (length t) s ≡ t)
+fixed_there : (t s : List ℕ) (at : ℕ) → fixed_code t s at ≡ Ok tt → (at + length t ≤ length s) × (part at (length t) s ≡ t)
 unfolding fixed_code
 fixed_there t s at e =
     by_le (at + length t) (length s)
     (λ (h : at + length t ≤ length s).
     by_test (same_bytes (part at (length t) s) t)
     (λ (q : same_bytes (part at (length t) s) t ≡ true). (h, same-equal (part at (length t) s) t q))
-    (λ (q : same_bytes (part at (length t) s) t ≡ false). absurd (omega (arith, rw (le-leb (at + length t) (length s) h, q) at e))))
-    (λ (h : length s < at + length t). absurd (omega (arith, rw (lt-leb (at + length t) (length s) h) at e)))
+    (λ (q : same_bytes (part at (length t) s) t ≡ false). no_err WrongFixed tt (rw (le-leb (at + length t) (length s) h, q) at e)))
+    (λ (h : length s < at + length t). no_err WrongEnd tt (rw (lt-leb (at + length t) (length s) h) at e))
 
 -- a field that is there
-pub field-there : (form : Form) (s : List ℕ) (at : ℕ) → (field_read form s at).code ≡ 0
+pub field-there : (form : Form) (s : List ℕ) (at : ℕ) → is_ok (field_read form s at) ≡ true
     → (at + width_of form ≤ length s) × (field_read form s at ≡ bytes_read form (part at (width_of form) s))
 unfolding field_read
 field-there form s at e =
     by_le (at + width_of form) (length s)
     (λ (h : at + width_of form ≤ length s). (h, rw (le-leb (at + width_of form) (length s) h)))
-    (λ (h : length s < at + width_of form). absurd (omega (arith, rw (lt-leb (at + width_of form) (length s) h) at e)))
+    (λ (h : length s < at + width_of form). not-held (rw (lt-leb (at + width_of form) (length s) h) at e))
 
-module _ (s : List ℕ) (c : Cell) (fine : check_cell s c ≡ Fine) where
-  unfoldable pub last-seen : Seen
-  last-seen = cond c.ends (seen (fixed_code line_end s (field_end c)) (field_end c)) Fine
+module _ (s : List ℕ) (c : Cell) (fine : check_cell s c ≡ (Ok tt)) where
+  unfoldable pub last-seen : Result (Unit {0}) Refusal
+  last-seen = cond c.ends (seen (fixed_code line_end s (field_end c)) (field_end c)) (Ok tt)
 
-  unfoldable pub field-seen : Seen
-  field-seen = seen (field_read c.form s (field_at c)).code (field_at c)
+  unfoldable pub field-seen : Result (Unit {0}) Refusal
+  field-seen = seen (field_read c.form s (field_at c)) (field_at c)
 
-  pub three : (seen (fixed_code (label_of c) s c.at) c.at ≡ Fine) × ((field-seen ≡ Fine) × (last-seen ≡ Fine))
+  pub three : (seen (fixed_code (label_of c) s c.at) c.at ≡ (Ok tt)) × ((field-seen ≡ (Ok tt)) × (last-seen ≡ (Ok tt)))
   unfolding check_cell field-seen last-seen
   three =
-      let first = both-fine (seen (fixed_code (label_of c) s c.at) c.at) (field-seen and_then last-seen) fine in
-      (first.0, both-fine field-seen last-seen first.1)
+      let first = both-fine (seen (fixed_code (label_of c) s c.at) c.at) (field-seen and_then last-seen) tt fine in
+      (first.0, both-fine field-seen last-seen tt first.1)
 
-  pub field-fine : (field_read c.form s (field_at c)).code ≡ 0
+  pub field-fine : is_ok (field_read c.form s (field_at c)) ≡ true
   unfolding field-seen
-  field-fine = seen-fine (field_read c.form s (field_at c)).code (field_at c) three.1.0
+  field-fine = seen-ok (field_read c.form s (field_at c)) (field_at c) three.1.0
 
   -- where it ends a line, CR LF
   ends_there : part (field_end c) (cond c.ends 2 0) s ≡ cond c.ends line_end []
   unfolding last-seen
   ends_there = by c.ends refl three.1.1
     where
-      by : (t : Bool) → c.ends ≡ t → cond t (seen (fixed_code line_end s (field_end c)) (field_end c)) Fine ≡ Fine → part (field_end c) (cond t 2 0) s ≡ cond t line_end []
+      by : (t : Bool) → c.ends ≡ t → cond t (seen (fixed_code line_end s (field_end c)) (field_end c)) (Ok tt) ≡ (Ok tt) → part (field_end c) (cond t 2 0) s ≡ cond t line_end []
       by true is e = (fixed_there line_end s (field_end c) (seen-fine (fixed_code line_end s (field_end c)) (field_end c) e)).1
       by false is e = refl
 
@@ -130,7 +131,7 @@ module _ (s : List ℕ) (c : Cell) (fine : check_cell s c ≡ Fine) where
       let label = fixed_there (label_of c) s c.at (seen-fine (fixed_code (label_of c) s c.at) c.at three.0) in
       let there = field-there c.form s (field_at c) field-fine in
       let wide = part-long s (field_at c) (width_of c.form) there.0 in
-      let code = ap (λ (x : Word). x.code) (sym there.1) ∙ field-fine in
+      let code = ap (λ (x : Result ℕ Code). is_ok x) (sym there.1) ∙ field-fine in
       let field = field-spelt c.form (part (field_at c) (width_of c.form) s) small wide code in
       part-add s c.at c.labelled (width_of c.form + cond c.ends 2 0)
       ∙ ap (λ (t : List ℕ). t ++ part (field_at c) (width_of c.form + cond c.ends 2 0) s) (ap (λ (n : ℕ). part c.at n s) (sym long) ∙ label.1)
@@ -140,7 +141,7 @@ module _ (s : List ℕ) (c : Cell) (fine : check_cell s c ≡ Fine) where
 
 -- ---- a sheet
 
-word_content : (form : Form) (f : List ℕ) → is_word form ≡ true → content_of form f ≡ (bytes_read form f).word ∷ []
+word_content : (form : Form) (f : List ℕ) → is_word form ≡ true → content_of form f ≡ word_in (bytes_read form f) ∷ []
 unfolding content_of
 word_content (Name w) f e = not-held e
 word_content Switch f e = refl
@@ -200,11 +201,11 @@ pub places : (k : ℕ) → k < 167 → eqb (cell_at k).at (sizes 0 k) ≡ true
 unfolding sizes size_of_cell cell_at box_cell airport_cell width_of
 places = every (λ k. eqb (cell_at k).at (sizes 0 k)) 167 refl
 
-module _ (s : List ℕ) (fine : check_sheet s ≡ Fine) where
+module _ (s : List ℕ) (fine : check_sheet s ≡ (Ok tt)) where
   -- a word is what its field is read as
-  pub word-is : (k : ℕ) → k < 167 → word_at s k ≡ (bytes_read (cell_at k).form (part (field_at (cell_at k)) (width_of (cell_at k).form) s)).word
+  pub word-is : (k : ℕ) → k < 167 → word_at s k ≡ word_in (bytes_read (cell_at k).form (part (field_at (cell_at k)) (width_of (cell_at k).form) s))
   word-is k h =
-      ap (λ (x : Word). x.word) (field-there (cell_at k).form s (field_at (cell_at k)) (field-fine s (cell_at k) (checked-cell s fine k h))).1
+      ap word_in (field-there (cell_at k).form s (field_at (cell_at k)) (field-fine s (cell_at k) (checked-cell s fine k h))).1
 
   word_back : (k : ℕ) → k < 167 → is_word (cell_at k).form ≡ true
       → word_at s k ∷ [] ≡ content_of (cell_at k).form (part (field_at (cell_at k)) (width_of (cell_at k).form) s)

@@ -1,9 +1,8 @@
 -- What the inner functions ask for. No promise to a caller rests on these names.
-use Rattle.std.specs.Prelude.{Bool, true, cond, ◌&&◌, List, [], ◌∷◌, ℕ, ◌+◌, ◌*◌, ◌%◌, ◌≤◌, length, get_or, take, drop, ◌≡◌, leb}
+use Rattle.std.specs.Prelude.{Bool, true, cond, ◌&&◌, List, [], ◌∷◌, ℕ, ◌+◌, ◌*◌, ◌%◌, ◌≤◌, length, get_or, take, drop, ◌≡◌, leb, Ok}
 use Rattle.text.specs.Parts.{part}
 use Rattle.packed.specs.Packed.{trim}
 use Rattle.field.specs.Decimal.{is_digit, value}
-use Rattle.text.specs.declared.Seen.TheVariants.{Fine}
 use Rattle.sheet.specs.Sheet.{airport_of, seen, label_of, line_end, fixed_code, field_end, cell_end}
 use Rattle.sheet.specs.declared.Form.{Form}
 use Rattle.sheet.specs.declared.Form.TheVariants.{Name, Switch, Digit, Number}
@@ -40,7 +39,7 @@ Whole s c = (small_cell c ≡ true) × ((c.labelled ≤ 4) × (cell_end c ≤ le
 
 -- its fixed group, and the CR LF behind it
 abbrev pub Framed : List ℕ → Cell → Type 0
-Framed s c = (fixed_code (label_of c) s c.at ≡ 0) × (cond c.ends (seen (fixed_code line_end s (field_end c)) (field_end c)) Fine ≡ Fine)
+Framed s c = (fixed_code (label_of c) s c.at ≡ Ok tt) × (cond c.ends (seen (fixed_code line_end s (field_end c)) (field_end c)) (Ok tt) ≡ (Ok tt))
 
 -- ---- Writing
 

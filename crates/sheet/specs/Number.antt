@@ -1,9 +1,10 @@
 -- A number of the sheet: right-aligned behind spaces, in the fewest digits, `-` directly before the digits of one below zero.
-use Rattle.std.specs.Prelude.{Bool, true, false, cond, ◌&&◌, ◌||◌, List, [], ◌∷◌, ℕ, ◌-◌, leb, ltb, eqb, length, get_or, drop}
+use Rattle.std.specs.Prelude.{Bool, true, false, cond, ◌&&◌, ◌||◌, List, [], ◌∷◌, ℕ, ◌-◌, leb, ltb, eqb, length, get_or, drop, Result, Ok, Err}
+use Rattle.text.specs.declared.Code.{Code}
+use Rattle.text.specs.declared.Code.TheVariants.{NotAllowed, OutOfRange, OtherSpelling}
 use Rattle.packed.specs.Packed.{trim}
 use Rattle.field.specs.Decimal.{all_digits, value, decimal}
 use Rattle.sheet.specs.declared.Limits.{Limits}
-use Rattle.sheet.specs.declared.Word.{Word}
 
 -- a number is held in 16 bits, one below zero as C's int16_t has it: 65536 less its size
 abbrev pub word_of : Bool → ℕ → ℕ
@@ -19,8 +20,10 @@ size_of x = cond (is_below x) (65536 - x) x
 unfoldable pub within : Limits → Bool → ℕ → Bool
 within l below v = cond below (leb v l.below) (leb l.least v && leb v l.most)
 
-abbrev pub refused : ℕ → Word
-refused code = record { code = code; word = 0 }
+-- the word that a field was read as, 0 where it was refused
+abbrev pub word_in : Result ℕ Code → ℕ
+word_in (Ok x) = x
+word_in (Err code) = 0
 
 -- ---- Reading: 4, then 6, then 5
 
@@ -29,20 +32,20 @@ abbrev pub zero_first : Bool → List ℕ → Bool
 zero_first below ds = eqb (get_or ds 0 0) 48 && (below || ltb 1 (length ds))
 
 -- one digit or more, else 4; a zero before other digits or behind `-` is 6; a number outside the limits is 5
-unfoldable pub digits_read : Limits → Bool → List ℕ → Word
+unfoldable pub digits_read : Limits → Bool → List ℕ → Result ℕ Code
 digits_read l below ds =
     cond (ltb 0 (length ds) && all_digits ds)
-    (cond (zero_first below ds) (refused 6)
-    (cond (within l below (value ds)) (record { code = 0; word = word_of below (value ds) })
-    (refused 5)))
-    (refused 4)
+    (cond (zero_first below ds) (Err OtherSpelling)
+    (cond (within l below (value ds)) (Ok (word_of below (value ds)))
+    (Err OutOfRange)))
+    (Err NotAllowed)
 
 -- 45 is `-`
-unfoldable pub signed_read : Limits → List ℕ → Word
+unfoldable pub signed_read : Limits → List ℕ → Result ℕ Code
 signed_read l t = cond (eqb (get_or t 0 0) 45) (digits_read l true (drop 1 t)) (digits_read l false t)
 
 -- a field, behind its leading spaces
-unfoldable pub number_read : Limits → List ℕ → Word
+unfoldable pub number_read : Limits → List ℕ → Result ℕ Code
 number_read l f = signed_read l (trim f)
 
 -- ---- Writing

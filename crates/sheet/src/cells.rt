@@ -6,6 +6,7 @@ ghost use Rattle.sheet.specs.Inner.{small_cell, size_of_cell};
 
 use crate::{Cell, Form, Limits};
 
+#[tactic(auto, unfolding(crate::specs::Layout::width_of))]
 pub fn width_of(form: Form) -> usize
     ensures { result ≡ width_of form }
 {
@@ -18,16 +19,13 @@ pub fn width_of(form: Form) -> usize
 }
 
 // How many bytes a cell is.
+#[tactic(auto, unfolding(crate::specs::Inner::size_of_cell))]
 pub fn size_of_cell(c: Cell) -> usize
     requires { small_cell c ≡ true }
     ensures { result ≡ size_of_cell c }
 {
-    let form = c.form;
-    let size = c.labelled + width_of(form);
-    if c.ends {
-        return size + 2;
-    }
-    size
+    let size = c.labelled + width_of(c.form);
+    if c.ends { size + 2 } else { size }
 }
 
 fn number(w: usize, least: usize, most: usize) -> Form
@@ -127,6 +125,7 @@ pub fn box_part(i: usize, j: usize) -> Cell
     }
 }
 
+#[tactic(auto, unfolding(crate::specs::Layout::box_cell))]
 fn box_cell(k: usize) -> Cell
     requires { k < 50 }
     ensures { result ≡ box_cell k }
@@ -169,6 +168,7 @@ pub fn airport_part(row: usize, column: usize, j: usize) -> Cell
     cell(at + 7, 1, b'/', 0, 0, 0, Form::Digit(1), column == 4)
 }
 
+#[tactic(auto, unfolding(crate::specs::Layout::airport_cell))]
 fn airport_cell(k: usize) -> Cell
     requires { k < 100 }
     ensures { result ≡ airport_cell k }
@@ -177,6 +177,7 @@ fn airport_cell(k: usize) -> Cell
 }
 
 // All of them, from left to right.
+#[tactic(auto, unfolding(crate::specs::Layout::cell_at))]
 pub fn cell_at(k: usize) -> Cell
     requires { k < 167 }
     ensures { result ≡ cell_at k }

@@ -7,67 +7,59 @@ ghost use Rattle.sheet.specs.Inner.{small_form, small_cell};
 use crate::cells::{cell_at, width_of};
 use crate::fine::fine_cells;
 use crate::number::read_number;
-use crate::{Cell, Form, Word};
-use text::{Seen, all_allowed, same_bytes};
+use crate::{Cell, Form};
+use text::{Code, Refusal, all_allowed, same_bytes};
 
 // A fixed group: 3 where a byte differs.
-fn fixed_code(t: &[u8], s: &[u8], at: usize) -> u8
+#[tactic(auto, unfolding(crate::specs::Sheet::fixed_code))]
+fn fixed_code(t: &[u8], s: &[u8], at: usize) -> Result<(), Code>
     requires { (at ≤ 10000) × (length t.now ≤ 100) }
     ensures { result ≡ fixed_code t.now s.now at }
 {
     let end = at + t.len();
     if s.len() < end {
-        return 8;
+        Err(Code::WrongEnd)
+    } else if same_bytes(&s[at..end], t) {
+        Ok(())
+    } else {
+        Err(Code::WrongFixed)
     }
-    if same_bytes(&s[at..end], t) {
-        return 0;
-    }
-    3
 }
 
-fn given(code: u8, word: u16) -> Word
-    ensures { result ≡ record { code = code; word = word } }
-{
-    Word { code, word }
-}
-
-fn read_switch(b: u8) -> Word
+fn read_switch(b: u8) -> Result<u16, Code>
     ensures { result ≡ switch_read b }
 {
-    if b == b'D' {
-        return given(0, 0);
+    match b {
+        b'D' => Ok(0),
+        b'R' => Ok(1),
+        _ => Err(Code::NotAllowed),
     }
-    if b == b'R' {
-        return given(0, 1);
-    }
-    given(4, 0)
 }
 
-pub fn read_digit(b: u8, most: usize) -> Word
+pub fn read_digit(b: u8, most: usize) -> Result<u16, Code>
     requires { most ≤ 9 }
     ensures { result ≡ digit_read most b }
 {
     let d = b as u16;
-    if d < 48 {
-        return given(4, 0);
+    if d < 48 || 48 + most < (b as usize) {
+        return Err(Code::NotAllowed);
     }
-    if 48 + most < (b as usize) {
-        return given(4, 0);
-    }
-    given(0, d - 48)
+    Ok(d - 48)
 }
 
-fn read_name(f: &[u8]) -> Word
+fn read_name(f: &[u8]) -> Result<u16, Code>
     ensures { result ≡ name_read f.now }
 {
     if all_allowed(f) {
-        return given(0, 0);
+        Ok(0)
+    } else {
+        Err(Code::NotAllowed)
     }
-    given(4, 0)
 }
 
 // What a field's bytes are, all of which are there.
-pub fn read_bytes(form: Form, f: &[u8]) -> Word
+#[tactic(auto, unfolding(crate::specs::Sheet::bytes_read, crate::specs::Layout::width_of))]
+pub fn read_bytes(form: Form, f: &[u8]) -> Result<u16, Code>
     requires form_value { small_form form ≡ true }
     requires f_len { length f.now ≡ width_of form }
     ensures { result ≡ bytes_read form f.now }
@@ -80,99 +72,76 @@ pub fn read_bytes(form: Form, f: &[u8]) -> Word
     }
 }
 
-pub fn read_field(form: Form, s: &[u8], at: usize) -> Word
+#[tactic(auto, using(crate::proofs::Small::small_width), unfolding(crate::specs::Sheet::field_read))]
+pub fn read_field(form: Form, s: &[u8], at: usize) -> Result<u16, Code>
     requires form_value { small_form form ≡ true }
     requires at_bound { at ≤ 10000 }
     ensures { result ≡ field_read form s.now at }
 {
     let end = at + width_of(form);
     if s.len() < end {
-        return given(8, 0);
+        return Err(Code::WrongEnd);
     }
     read_bytes(form, &s[at..end])
 }
 
-pub fn seen_of(code: u8, place: usize) -> Seen
-    ensures { result ≡ seen code place }
-{
-    if code == 0 {
-        return Seen::Fine;
-    }
-    Seen::Bad(code, place)
-}
-
 // CR LF.
-pub fn line_end(s: &[u8], at: usize) -> Seen
+pub fn line_end(s: &[u8], at: usize) -> Result<(), Refusal>
     requires { at ≤ 10000 }
     ensures { result ≡ seen (fixed_code (13 ∷ 10 ∷ []) s.now at) at }
 {
     let t: [u8; 2] = [13, 10];
-    seen_of(fixed_code(&t, s, at), at)
+    fixed_code(&t, s, at).map_err(|code| code.at(at))
 }
 
 // A field, and CR LF where it ends a line.
-fn check_field(s: &[u8], p: usize, form: Form, ends: bool) -> Seen
+#[tactic(auto, using(crate::proofs::Small::small_width))]
+fn check_field(s: &[u8], p: usize, form: Form, ends: bool) -> Result<(), Refusal>
     requires form_value { small_form form ≡ true }
     requires p_bound { p ≤ 3000 }
     ensures { result ≡ field_seen s.now p form ends }
 {
-    let field = read_field(form, s, p);
-    let wrong = field.code;
-    if wrong != 0 {
-        return Seen::Bad(wrong, p);
-    }
+    read_field(form, s, p).map_err(|code| code.at(p))?;
     if ends {
-        return line_end(s, p + width_of(form));
+        line_end(s, p + width_of(form))
+    } else {
+        Ok(())
     }
-    Seen::Fine
 }
 
-pub fn check_cell(s: &[u8], c: Cell) -> Seen
+#[tactic(auto, unfolding(crate::specs::Sheet::check_cell))]
+pub fn check_cell(s: &[u8], c: Cell) -> Result<(), Refusal>
     requires { small_cell c ≡ true }
     ensures { result ≡ check_cell s.now c }
 {
     let at = c.at;
     let n = c.labelled;
     let label = c.label;
-    let form = c.form;
-    let code = fixed_code(&label[0..n], s, at);
-    if code != 0 {
-        return Seen::Bad(code, at);
-    }
-    check_field(s, at + n, form, c.ends)
+    fixed_code(&label[0..n], s, at).map_err(|code| code.at(at))?;
+    check_field(s, at + n, c.form, c.ends)
 }
 
 // One cell after the other, from one on.
-fn check_from(s: &[u8], from: usize) -> Seen
+#[tactic(auto, using(crate::proofs::Each::each_turn, crate::proofs::Each::each_end))]
+fn check_from(s: &[u8], from: usize) -> Result<(), Refusal>
     requires { from ≤ 167 }
     ensures { result ≡ each (λ k. check_cell s.now (cell_at k)) from (167 - from) }
 {
-    let mut k = from;
-    while k < 167 {
-        let c = cell_at(k);
-        match check_cell(s, c) {
-            Seen::Bad(code, place) => {
-                return Seen::Bad(code, place);
-            }
-            Seen::Fine => {}
-        }
-        k += 1;
+    for k in from..167 {
+        check_cell(s, cell_at(k))?;
     }
-    Seen::Fine
+    Ok(())
 }
 
 // Of an accepted text no cell is left to look at here.
-pub fn check(s: &[u8]) -> Seen
+#[tactic(auto, using(crate::proofs::Each::each_rest), unfolding(crate::specs::Sheet::check_sheet))]
+pub fn check(s: &[u8]) -> Result<(), Refusal>
     ensures { result ≡ check_sheet s.now }
 {
-    match check_from(s, fine_cells(s)) {
-        Seen::Bad(code, place) => Seen::Bad(code, place),
-        Seen::Fine => {
-            if s.len() == 913 {
-                Seen::Fine
-            } else {
-                Seen::Bad(8, 913)
-            }
-        }
+    check_from(s, fine_cells(s))?;
+    if s.len() == 913 {
+        Ok(())
+    } else {
+        Err(Code::WrongEnd.at(913))
     }
 }

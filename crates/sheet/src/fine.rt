@@ -1,7 +1,6 @@
 // How many cells of a text are fine, line by line; from there on `check` goes cell by cell. Where a line is all there, its cells are not tested
 // for the text's end. Each kind of cell has a function of its own: inlined into its loop, the cell's form and label are constants there.
 ghost use Rattle.std.specs.Prelude.{◌≡◌, true, ◌+◌, ◌*◌, ◌≤◌, ◌<◌, length, get_or, take};
-ghost use Rattle.text.specs.declared.Seen.TheVariants.{Fine};
 ghost use Rattle.sheet.specs.Sheet.{cell_end, fixed_code, check_cell, each};
 ghost use Rattle.sheet.specs.Layout.{cell_at};
 ghost use Rattle.sheet.specs.Inner.{small_cell, Whole, Framed};
@@ -10,7 +9,7 @@ use crate::cells::{airport_part, box_part, head_cell, size_of_cell, width_of};
 use crate::check::{check_cell, line_end, read_bytes, read_digit};
 use crate::number::read_number;
 use crate::{Cell, Form};
-use text::{Seen, all_allowed};
+use text::all_allowed;
 
 // Whether byte i of a fixed group of n bytes is b, or there is none.
 fn is_there(s: &[u8], at: usize, i: usize, n: usize, b: u8) -> bool
@@ -26,7 +25,7 @@ fn is_there(s: &[u8], at: usize, i: usize, n: usize, b: u8) -> bool
 // A fixed group of up to four bytes, byte by byte: it is then never laid down as a list.
 fn is_labelled(label: [u8; 16], n: usize, s: &[u8], at: usize) -> bool
     requires { (at ≤ 10000) × ((n ≤ 4) × (at + n ≤ length s.now)) }
-    ensures { result ≡ true → fixed_code (take n label) s.now at ≡ 0 }
+    ensures { result ≡ true → fixed_code (take n label) s.now at ≡ Ok tt }
 {
     if !is_there(s, at, 0, n, label[0]) {
         return false;
@@ -55,16 +54,13 @@ fn is_framed(s: &[u8], c: Cell) -> bool
     if !c.ends {
         return true;
     }
-    match line_end(s, at + n + width_of(form)) {
-        Seen::Bad(_, _) => false,
-        Seen::Fine => true,
-    }
+    line_end(s, at + n + width_of(form)).is_ok()
 }
 
 // A name.
 fn is_name(s: &[u8], c: Cell) -> bool
     requires { Whole s.now c }
-    ensures { result ≡ true → check_cell s.now c ≡ Fine }
+    ensures { result ≡ true → check_cell s.now c ≡ Ok tt }
 {
     if !is_framed(s, c) {
         return false;
@@ -83,7 +79,7 @@ fn is_name(s: &[u8], c: Cell) -> bool
 // A status.
 fn is_status(s: &[u8], c: Cell) -> bool
     requires { Whole s.now c }
-    ensures { result ≡ true → check_cell s.now c ≡ Fine }
+    ensures { result ≡ true → check_cell s.now c ≡ Ok tt }
 {
     if !is_framed(s, c) {
         return false;
@@ -91,7 +87,7 @@ fn is_status(s: &[u8], c: Cell) -> bool
     let form = c.form;
     let p = c.at + c.labelled;
     match form {
-        Form::Digit(most) => read_digit(s[p], most).code == 0,
+        Form::Digit(most) => read_digit(s[p], most).is_ok(),
         _ => false,
     }
 }
@@ -99,7 +95,7 @@ fn is_status(s: &[u8], c: Cell) -> bool
 // A number.
 fn is_number(s: &[u8], c: Cell) -> bool
     requires { Whole s.now c }
-    ensures { result ≡ true → check_cell s.now c ≡ Fine }
+    ensures { result ≡ true → check_cell s.now c ≡ Ok tt }
 {
     if !is_framed(s, c) {
         return false;
@@ -109,7 +105,7 @@ fn is_number(s: &[u8], c: Cell) -> bool
     match form {
         Form::Number(w, l) => {
             let end = p + w;
-            read_number(l, &s[p..end]).code == 0
+            read_number(l, &s[p..end]).is_ok()
         }
         _ => false,
     }
@@ -118,7 +114,7 @@ fn is_number(s: &[u8], c: Cell) -> bool
 // A cell of any form.
 fn is_cell(s: &[u8], c: Cell) -> bool
     requires { Whole s.now c }
-    ensures { result ≡ true → check_cell s.now c ≡ Fine }
+    ensures { result ≡ true → check_cell s.now c ≡ Ok tt }
 {
     if !is_framed(s, c) {
         return false;
@@ -126,7 +122,7 @@ fn is_cell(s: &[u8], c: Cell) -> bool
     let form = c.form;
     let p = c.at + c.labelled;
     let end = p + width_of(form);
-    read_bytes(form, &s[p..end]).code == 0
+    read_bytes(form, &s[p..end]).is_ok()
 }
 
 // Whether a text goes on to the end of a cell.
@@ -141,13 +137,10 @@ fn is_long(s: &[u8], c: Cell) -> bool
 // Lines 1 to 4. The first cell has a long fixed group.
 fn is_head(s: &[u8]) -> bool
     requires { cell_end (cell_at 16) ≤ length s.now }
-    ensures { result ≡ true → each (λ k. check_cell s.now (cell_at k)) 0 17 ≡ Fine }
+    ensures { result ≡ true → each (λ k. check_cell s.now (cell_at k)) 0 17 ≡ Ok tt }
 {
-    match check_cell(s, head_cell(0)) {
-        Seen::Bad(_, _) => {
-            return false;
-        }
-        Seen::Fine => {}
+    if check_cell(s, head_cell(0)).is_err() {
+        return false;
     }
     let mut k: usize = 1;
     while k < 17 {
@@ -162,7 +155,7 @@ fn is_head(s: &[u8]) -> bool
 // The line of a box: two corners, a status.
 fn is_box(s: &[u8], i: usize) -> bool
     requires { (i < 10) × (cell_end (cell_at (17 + 5 * i + 4)) ≤ length s.now) }
-    ensures { result ≡ true → each (λ k. check_cell s.now (cell_at k)) (17 + 5 * i) 5 ≡ Fine }
+    ensures { result ≡ true → each (λ k. check_cell s.now (cell_at k)) (17 + 5 * i) 5 ≡ Ok tt }
 {
     let mut j: usize = 0;
     while j < 4 {
@@ -176,7 +169,7 @@ fn is_box(s: &[u8], i: usize) -> bool
 
 // How many boxes are fine, up to the first that is not.
 fn fine_boxes(s: &[u8]) -> usize
-    ensures { (result ≤ 10) × (each (λ k. check_cell s.now (cell_at k)) 17 (5 * result) ≡ Fine) }
+    ensures { (result ≤ 10) × (each (λ k. check_cell s.now (cell_at k)) 17 (5 * result) ≡ Ok tt) }
 {
     let mut i: usize = 0;
     while i < 10 {
@@ -194,7 +187,7 @@ fn fine_boxes(s: &[u8]) -> usize
 // A row of five airports.
 fn is_row(s: &[u8], row: usize) -> bool
     requires { (row < 10) × (cell_end (cell_at (67 + 10 * row + 9)) ≤ length s.now) }
-    ensures { result ≡ true → each (λ k. check_cell s.now (cell_at k)) (67 + 10 * row) 10 ≡ Fine }
+    ensures { result ≡ true → each (λ k. check_cell s.now (cell_at k)) (67 + 10 * row) 10 ≡ Ok tt }
 {
     let mut column: usize = 0;
     while column < 5 {
@@ -211,7 +204,7 @@ fn is_row(s: &[u8], row: usize) -> bool
 
 // And how many rows.
 fn fine_rows(s: &[u8]) -> usize
-    ensures { (result ≤ 10) × (each (λ k. check_cell s.now (cell_at k)) 67 (10 * result) ≡ Fine) }
+    ensures { (result ≤ 10) × (each (λ k. check_cell s.now (cell_at k)) 67 (10 * result) ≡ Ok tt) }
 {
     let mut row: usize = 0;
     while row < 10 {
@@ -228,7 +221,7 @@ fn fine_rows(s: &[u8]) -> usize
 
 // How many cells are fine, line by line.
 pub fn fine_cells(s: &[u8]) -> usize
-    ensures { (result ≤ 167) × (each (λ k. check_cell s.now (cell_at k)) 0 result ≡ Fine) }
+    ensures { (result ≤ 167) × (each (λ k. check_cell s.now (cell_at k)) 0 result ≡ Ok tt) }
 {
     if !is_long(s, head_cell(16)) {
         return 0;

@@ -1,11 +1,12 @@
 // A number of the sheet, by its field's bytes.
 ghost use Rattle.std.specs.Prelude.{◌≡◌, true, cond, ◌-◌, ◌≤◌, ◌<◌, length};
-ghost use Rattle.sheet.specs.Number.{word_of, is_below, size_of, within, refused, number_read, blanked, marked, number_text};
+ghost use Rattle.sheet.specs.Number.{word_of, is_below, size_of, within, number_read, blanked, marked, number_text};
 ghost use Rattle.sheet.specs.Inner.{FoundIn};
 
-use crate::{Found, Limits, Word};
+use crate::{Found, Limits};
 use field::digits::is_digit;
 use field::write::put_decimal;
+use text::Code;
 
 fn worth(b: u8) -> usize
     ensures { (result ≡ b - 48) × (result ≤ 207) }
@@ -45,19 +46,15 @@ fn found_in(f: &[u8]) -> Found
     }
 }
 
+#[tactic(auto, unfolding(crate::specs::Number::within))]
 fn is_within(l: Limits, below: bool, v: usize) -> bool
     ensures { result ≡ within l below v }
 {
     if below {
-        return v <= l.below;
+        v <= l.below
+    } else {
+        (l.least <= v) & (v <= l.most)
     }
-    (l.least <= v) & (v <= l.most)
-}
-
-fn no(code: u8) -> Word
-    ensures { result ≡ refused code }
-{
-    Word { code, word: 0 }
 }
 
 fn word_of(below: bool, v: usize) -> u16
@@ -65,40 +62,35 @@ fn word_of(below: bool, v: usize) -> u16
     requires v_nonzero { below ≡ true → 0 < v }
     ensures { result ≡ word_of below v }
 {
-    if below {
-        return (65536 - v) as u16;
-    }
-    v as u16
+    if below { (65536 - v) as u16 } else { v as u16 }
 }
 
 // Spaces, then `-` or none, then digits to the end: the three then add up to the field's length. 4, then 6, then 5.
-pub fn read_number(l: Limits, f: &[u8]) -> Word
+pub fn read_number(l: Limits, f: &[u8]) -> Result<u16, Code>
     requires f_len_bound { length f.now ≤ 6 }
     requires below_bound { (l.below ≤ 32768) × (l.most ≤ 32767) }
     ensures { result ≡ number_read l f.now }
 {
-    let found = found_in(f);
-    let spaces = found.spaces;
-    let digits = found.digits;
-    let v = found.value;
+    let Found {
+        spaces,
+        digits,
+        value,
+    } = found_in(f);
     if digits == 0 {
-        return no(4);
+        return Err(Code::NotAllowed);
     }
     let below = f[spaces] == b'-';
     let first = spaces + one_if(below);
     if first + digits != f.len() {
-        return no(4);
+        return Err(Code::NotAllowed);
     }
     if (f[first] == b'0') & (below | (1 < digits)) {
-        return no(6);
+        return Err(Code::OtherSpelling);
     }
-    if !is_within(l, below, v) {
-        return no(5);
+    if !is_within(l, below, value) {
+        return Err(Code::OutOfRange);
     }
-    Word {
-        code: 0,
-        word: word_of(below, v),
-    }
+    Ok(word_of(below, value))
 }
 
 // ---- Writing
@@ -113,9 +105,10 @@ pub fn size_of(x: u16) -> usize
     ensures { result ≡ size_of x }
 {
     if is_below(x) {
-        return 65536 - (x as usize);
+        65536 - (x as usize)
+    } else {
+        x as usize
     }
-    x as usize
 }
 
 pub fn is_allowed(l: Limits, x: u16) -> bool
@@ -153,6 +146,7 @@ fn mark(d: &mut [u8])
     }
 }
 
+#[tactic(auto, unfolding(crate::specs::Number::number_text))]
 pub fn put_number(x: u16, d: &mut [u8])
     ensures { d.new ≡ number_text (length d.old) x }
 {

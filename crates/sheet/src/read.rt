@@ -2,12 +2,12 @@
 ghost use Rattle.std.specs.Prelude.{◌≡◌, ◌+◌, ◌≤◌, ◌<◌, length};
 ghost use Rattle.text.specs.Parts.{part};
 ghost use Rattle.text.specs.Table.{values};
-ghost use Rattle.sheet.specs.Sheet.{word_at, airport_byte, sheet_at, no_sheet, read_sheet};
+ghost use Rattle.sheet.specs.Sheet.{word_at, airport_byte, sheet_at, read_sheet};
 
+use crate::Sheet;
 use crate::cells::{airport_part, cell_at};
 use crate::check::{check, read_field};
-use crate::{Got, Sheet};
-use text::{Seen, copy};
+use text::{Refusal, copy};
 
 // What the field of a cell holds.
 fn word_at(s: &[u8], k: usize) -> u16
@@ -15,20 +15,17 @@ fn word_at(s: &[u8], k: usize) -> u16
     ensures { result ≡ word_at s.now k }
 {
     let c = cell_at(k);
-    let form = c.form;
-    let at = c.at + c.labelled;
-    read_field(form, s, at).word
+    read_field(c.form, s, c.at + c.labelled).unwrap_or(0)
 }
 
 // The words of cells, from one on.
+#[tactic(auto, using(crate::proofs::Filled::filled_end))]
 fn take_words(s: &[u8], from: usize, words: &mut [u16])
     requires { from + length words.old ≤ 167 }
     ensures { words.new ≡ values (word_at s.now) from (length words.old) }
 {
-    let mut i = 0;
-    while i < words.len() {
-        words[i] = word_at(s, from + i);
-        i += 1;
+    for (i, word) in words.iter_mut().enumerate() {
+        *word = word_at(s, from + i);
     }
 }
 
@@ -54,10 +51,8 @@ fn take_airports(s: &[u8], airports: &mut [u8])
     requires s_len { length s.now ≡ 913 }
     ensures { airports.new ≡ values (airport_byte s.now) 0 250 }
 {
-    let mut i = 0;
-    while i < airports.len() {
-        airports[i] = airport_byte(s, i);
-        i += 1;
+    for (i, byte) in airports.iter_mut().enumerate() {
+        *byte = airport_byte(s, i);
     }
 }
 
@@ -99,42 +94,18 @@ fn take_sheet(s: &[u8]) -> Sheet
     requires { length s.now ≡ 913 }
     ensures { result ≡ sheet_at s.now }
 {
-    let numbers = numbers_in(s);
-    let boxes = boxes_in(s);
-    let designator = designator_in(s);
-    let airports = airports_in(s);
     Sheet {
-        numbers,
-        boxes,
-        designator,
-        airports,
+        numbers: numbers_in(s),
+        boxes: boxes_in(s),
+        designator: designator_in(s),
+        airports: airports_in(s),
     }
 }
 
-fn no_sheet() -> Sheet
-    ensures { result ≡ no_sheet }
-{
-    Sheet {
-        numbers: [0; 16],
-        boxes: [0; 50],
-        designator: [0; 6],
-        airports: [0; 250],
-    }
-}
-
-pub fn read(s: &[u8]) -> Got
+#[tactic(auto, unfolding(crate::specs::Sheet::read_sheet))]
+pub fn read(s: &[u8]) -> Result<Sheet, Refusal>
     ensures { result ≡ read_sheet s.now }
 {
-    match check(s) {
-        Seen::Bad(code, place) => Got {
-            code,
-            place,
-            sheet: no_sheet(),
-        },
-        Seen::Fine => Got {
-            code: 0,
-            place: 0,
-            sheet: take_sheet(s),
-        },
-    }
+    check(s)?;
+    Ok(take_sheet(s))
 }

@@ -7,9 +7,9 @@ use native.Mathlib.Omega.{arith}
 use lib.Dec.{ltb, eqb}
 use lib.ListN.{length, get_or}
 use borrow.Author.Tests.{lt-ltb, le-ltb, le-leb, eq-eqb, eqb-true}
+use Rattle.std.specs.Prelude.{Some, None}
 use Rattle.text.proofs.Cases.{by_test, both_right}
 use Rattle.tails.specs.Tails.{key, below, sorted, rises, member, listed, list_of, agrees, find_in}
-use Rattle.tails.specs.declared.search.Tail.TheVariants.{At, Nowhere}
 use Rattle.tails.proofs.Unique.{Agreed, rises-first, rises-rest, rises-above, first-or, no_member, used-listed, agreed, agrees-one}
 use Rattle.tails.proofs.Made.{Different, made-agrees}
 
@@ -39,7 +39,7 @@ stands ks last (t ∷ ts) j r m =
 
 module _ (ks ts : List ℕ) (a : Agreed ks ts) where
   -- a used slot is found by its key
-  pub finds : (j : ℕ) → 0 < key ks j → find_in ks (key ks j) (listed ts) ≡ At j
+  pub finds : (j : ℕ) → 0 < key ks j → find_in ks (key ks j) (listed ts) ≡ Some j
   unfolding find_in
   finds j u =
       let s = stands ks 0 (listed ts) j a.up (used-listed ks ts a j u) in
@@ -58,14 +58,14 @@ module _ (ks ts : List ℕ) (a : Agreed ks ts) where
 pub listed-is : (ks ts : List ℕ) → length ks ≤ 64 → agrees ks ts ≡ true → ts ≡ list_of ks
 listed-is ks ts h a = agrees-one ks ts (list_of ks) a (made-agrees ks h (different ks ts (agreed ks ts a)))
 
-at-is : {i j : ℕ} → At i ≡ At j → i ≡ j
+at-is : {i j : ℕ} → Some i ≡ Some j → i ≡ j
 at-is e = cc
 
-nowhere_at : {P : Type 0} {j : ℕ} → Nowhere ≡ At j → P
+nowhere_at : {P : Type 0} {j : ℕ} → None ≡ Some j → P
 nowhere_at e = let z : ◌≡◌ {A = ℕ} 0 1 = cc in absurd (omega arith)
 
 -- what is found has the key
-pub found-key : (ks : List ℕ) (k : ℕ) (rs : List ℕ) (j : ℕ) → find_in ks k rs ≡ At j → key ks j ≡ k
+pub found-key : (ks : List ℕ) (k : ℕ) (rs : List ℕ) (j : ℕ) → find_in ks k rs ≡ Some j → key ks j ≡ k
 unfolding find_in
 found-key ks k rs j e =
     let b = below ks k rs in

@@ -11,7 +11,8 @@ use borrow.Author.Tests.{lt-ltb, ltb-true, eqb-true, eqb-false}
 use Rattle.text.proofs.Cases.{by_test, by_lt, both_left, both_right}
 use Rattle.tails.specs.Tails.{key, rises, member, covers, all_slots}
 use Rattle.tails.specs.Inner.{marked, covered_by}
-use Rattle.tails.proofs.Steps.{no_key}
+use Rattle.tails.proofs.Bisect.{slot-at}
+use Rattle.tails.proofs.Steps.{no_key, marked_more, marked_end}
 
 -- a list that rises has slots alone
 pub rises-slots : (ks : List ℕ) (last : ℕ) (ts : List ℕ) → rises ks last ts ≡ true → all_slots (length ks) ts ≡ true
@@ -65,3 +66,6 @@ covers-marks ks ts zero a = refl
 covers-marks ks ts (suc i) a =
     let m : get_or (marked (replicate 64 0) ts) i 0 ≡ cond (member i ts) 1 0 = marked-at (replicate 64 0) ts i (rw (length-replicate {A = ℕ} 64 0) a) ∙ rw (blank-at 64 i) in
     rw (covers-marks ks ts i a, m, one_if (member i ts))
+
+-- marking one more
+pub ruleset marking = (slot-at, marked_more, marked_end)

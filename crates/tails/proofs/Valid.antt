@@ -7,8 +7,10 @@ use native.Mathlib.Omega.{arith}
 use lib.Dec.{leb, ltb, eqb}
 use lib.ListN.{length, get_or}
 use borrow.Author.Tests.{le-leb, lt-leb, lt-ltb, leb-true}
+use Rattle.std.specs.Prelude.{Option, Some, None, Ok}
 use Rattle.text.specs.Names.{allowed, all_allowed, is_designator}
 use Rattle.text.proofs.Cases.{by_lt, by_test, both_left, both_right}
+use Rattle.text.specs.declared.Code.TheVariants.{NotAllowed, BoardInvalid}
 use Rattle.board.specs.Board.{is_valid, on_board}
 use Rattle.board.specs.History.{Event}
 use Rattle.board.specs.Lent.{is_shaped, is_valid_lent, on_slots, on_area}
@@ -23,9 +25,6 @@ use Rattle.tails.specs.Tails.{key, below, listed, agrees, list_of, find_in}
 use Rattle.tails.specs.Keys.{rank_of, keys_of, is_list_of}
 use Rattle.tails.specs.Words.{Earlier, all_bytes, designator_at}
 use Rattle.tails.specs.Calls.{refused_search, told_of, sought_by, search_lent}
-use Rattle.tails.specs.declared.lent.Sought.{Sought}
-use Rattle.tails.specs.declared.search.Tail.{Tail}
-use Rattle.tails.specs.declared.search.Tail.TheVariants.{At, Nowhere}
 use Rattle.tails.proofs.Made.{Different, made-agrees}
 use Rattle.tails.proofs.Unique.{agreed, agrees-one}
 use Rattle.tails.proofs.Found.{rises_sorted, finds, found-key, listed-is}
@@ -107,27 +106,31 @@ module _ (ss : List Slot) (area ts d : List ℕ) (v : ValidBoard ss area) (h : i
   unfolding search_lent
   past w = rw (h, w)
 
+  -- how many of the list come before the aircraft
+  abbrev pub before : ℕ
+  before = below ks (rank_of d) (listed ts)
+
   -- a slot that waits for the aircraft is found
-  pub search_own : (j : ℕ) → IsOwn ss d j → ((search_lent ss ts d).code ≡ 0) × ((search_lent ss ts d).slot ≡ j)
+  pub search_own : (j : ℕ) → IsOwn ss d j → search_lent ss ts d ≡ Ok (told_of (Some j) before)
   search_own j o =
       let w : WellFormed d = subst WellFormed o.1 (v.named j o.0) in
       let k : key ks j ≡ rank_of d = key-used ss j o.0 ∙ ap rank_of o.1 in
-      let f : find_in ks (rank_of d) (listed ts) ≡ At j = rw (← k) (finds ks ts (agreed ks ts agree) j (key-some ss j o.0)) in
-      rw (past (form d w), f) (refl, refl)
+      let f : find_in ks (rank_of d) (listed ts) ≡ Some j = rw (← k) (finds ks ts (agreed ks ts agree) j (key-some ss j o.0)) in
+      past (form d w) ∙ ap (λ (r : Option ℕ). Ok (told_of r before)) f
 
   -- one that none waits for is not
-  pub search_none : WellFormed d → ((j : ℕ) → IsOwn ss d j → ⊥) → ((search_lent ss ts d).code ≡ 11) × ((search_lent ss ts d).slot ≡ 0)
-  search_none w n = rw (past (form d w)) (go (find_in ks (rank_of d) (listed ts)) refl)
+  pub search_none : WellFormed d → ((j : ℕ) → IsOwn ss d j → ⊥) → search_lent ss ts d ≡ Ok (told_of None before)
+  search_none w n = past (form d w) ∙ ap (λ (r : Option ℕ). Ok (told_of r before)) (go (find_in ks (rank_of d) (listed ts)) refl)
     where
-      go : (r : Tail) → find_in ks (rank_of d) (listed ts) ≡ r → ((sought_by ks (rank_of d) ts).code ≡ 11) × ((sought_by ks (rank_of d) ts).slot ≡ 0)
-      go (At j) e =
+      go : (r : Option ℕ) → find_in ks (rank_of d) (listed ts) ≡ r → find_in ks (rank_of d) (listed ts) ≡ None
+      go (Some j) e =
           let k = found-key ks (rank_of d) (listed ts) j e in
           let u = used-key ss j (omega (arith, k)) in
           absurd (n j (u, one_rank (slot_at ss j).designator d (v.named j u) w (sym (key-used ss j u) ∙ k)))
-      go Nowhere e = rw e (refl, refl)
+      go None e = e
 
-  -- how many of the list come before it
-  pub search_before : WellFormed d → (i : ℕ) → i < length (listed ts) → (i < (search_lent ss ts d).at → Earlier (designator_at ss ts i) d) × ((search_lent ss ts d).at ≤ i → Earlier (designator_at ss ts i) d → ⊥)
+  -- those that come before it are the earlier ones
+  pub search_before : WellFormed d → (i : ℕ) → i < length (listed ts) → (i < before → Earlier (designator_at ss ts i) d) × (before ≤ i → Earlier (designator_at ss ts i) d → ⊥)
   search_before w i l =
       let a = agreed ks ts agree in
       let u = at-used ss ts a i l in
@@ -135,24 +138,19 @@ module _ (ss : List Slot) (area ts d : List ℕ) (v : ValidBoard ss area) (h : i
       let k = key-used ss (get_or ts i 0) u.0 in
       let n = v.named (get_or ts i 0) u.0 in
       let g : get_or ts i 0 ≡ get_or (listed ts) i 0 = e in
-      let at : (search_lent ss ts d).at ≡ below ks (rank_of d) (listed ts) = ap (λ (x : Sought). x.at) (past (form d w)) ∙ told_at (find_in ks (rank_of d) (listed ts)) (below ks (rank_of d) (listed ts)) in
       let same = n.0 ∙ sym w.0 in (
-        (λ (b : i < (search_lent ss ts d).at).
+        (λ (b : i < before).
             by_lt (key ks (get_or (listed ts) i 0)) (rank_of d)
             (λ (q : key ks (get_or (listed ts) i 0) < rank_of d). less_earlier (designator_at ss ts i) d 0 same (well_bytes d w) (omega (arith, q, k, ap (key ks) g)))
-            (λ (q : rank_of d ≤ key ks (get_or (listed ts) i 0)). absurd (omega (arith, b, at, before-not ks (rank_of d) (listed ts) i l q)))),
-        (λ (b : (search_lent ss ts d).at ≤ i) (q : Earlier (designator_at ss ts i) d).
+            (λ (q : rank_of d ≤ key ks (get_or (listed ts) i 0)). absurd (omega (arith, b, before-not ks (rank_of d) (listed ts) i l q)))),
+        (λ (b : before ≤ i) (q : Earlier (designator_at ss ts i) d).
             let r = earlier_less (designator_at ss ts i) d 0 same (well_bytes (designator_at ss ts i) n) q in
             let s : key ks (get_or (listed ts) i 0) < rank_of d = omega (arith, r, k, ap (key ks) g) in
-            omega (arith, b, at, before-is ks (rank_of d) (listed ts) i (rises_sorted ks 0 (listed ts) a.up) l s)),
+            omega (arith, b, before-is ks (rank_of d) (listed ts) i (rises_sorted ks 0 (listed ts) a.up) l s)),
       )
-    where
-      told_at : (r : Tail) (n : ℕ) → (told_of r n).at ≡ n
-      told_at (At j) n = refl
-      told_at Nowhere n = refl
 
 -- and one that is not well formed is 4
-pub search_four : (ss : List Slot) (ts d : List ℕ) → is_list_of ss ts ≡ true → (WellFormed d → ⊥) → search_lent ss ts d ≡ refused_search 4 0
+pub search_four : (ss : List Slot) (ts d : List ℕ) → is_list_of ss ts ≡ true → (WellFormed d → ⊥) → search_lent ss ts d ≡ refused_search NotAllowed 0
 unfolding search_lent
 search_four ss ts d h n =
     by_test (is_designator d)
@@ -160,6 +158,6 @@ search_four ss ts d h n =
     (λ (w : is_designator d ≡ false). rw (h, w))
 
 -- a list that disagrees is 10, before that
-pub search_ten : (ss : List Slot) (ts d : List ℕ) → is_list_of ss ts ≡ false → search_lent ss ts d ≡ refused_search 10 0
+pub search_ten : (ss : List Slot) (ts d : List ℕ) → is_list_of ss ts ≡ false → search_lent ss ts d ≡ refused_search BoardInvalid 0
 unfolding search_lent
 search_ten ss ts d h = rw h

@@ -2,13 +2,6 @@
 ghost use Rattle.std.specs.Prelude.{◌≡◌, true, ◌≤◌, ◌<◌, length};
 ghost use Rattle.tails.specs.Tails.{below, sorted, all_slots, find_in};
 
-// Where a key is found: a slot's number.
-#[derive(Clone, Copy)]
-pub enum Tail {
-    At(u8),
-    Nowhere,
-}
-
 pub fn index(b: u8) -> usize
     ensures { result ≡ b }
 {
@@ -23,6 +16,7 @@ pub fn byte(i: usize) -> u8
 }
 
 // How many slots of a list come before a key.
+#[tactic(auto, using(crate::proofs::Bisect::middle))]
 pub fn place_of(keys: &[u64], list: &[u8], key: u64) -> usize
     requires keys_len_bound { (length keys.now ≤ 64) × (length list.now ≤ 64) }
     requires list_value { all_slots (length keys.now) list.now ≡ true }
@@ -43,18 +37,20 @@ pub fn place_of(keys: &[u64], list: &[u8], key: u64) -> usize
 }
 
 // The slot of a key, by how many come before it.
-pub fn slot_at(keys: &[u64], list: &[u8], key: u64, at: usize) -> Tail
+#[tactic(auto, using(crate::proofs::Bisect::middle), unfolding(crate::specs::Tails::find_in))]
+pub fn slot_at(keys: &[u64], list: &[u8], key: u64, at: usize) -> Option<u8>
     requires keys_len_bound { (length keys.now ≤ 64) × (length list.now ≤ 64) }
     requires list_value { all_slots (length keys.now) list.now ≡ true }
     requires at_value { at ≡ below keys.now key list.now }
     ensures { result ≡ find_in keys.now key list.now }
 {
     if list.len() <= at {
-        return Tail::Nowhere;
+        return None;
     }
     let slot = list[at];
     if keys[index(slot)] == key {
-        return Tail::At(slot);
+        Some(slot)
+    } else {
+        None
     }
-    Tail::Nowhere
 }

@@ -2,6 +2,7 @@
 pub mod Bytes
 pub mod Cases
 pub mod Checks
+pub mod Codes
 pub mod Equal
 pub mod Names
 pub mod Over

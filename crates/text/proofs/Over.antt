@@ -150,3 +150,8 @@ module _ (d D t : List ℕ) (p : ℕ) (is : D ≡ over d 0 t) (starts : p ≡ le
   rest-written zs u fits wrote =
       let l : length D ≡ length d = length_then d D t 0 is (omega arith) in
       then_part d D zs t u 0 p (length D) is (omega arith) (omega arith) (omega arith) wrote
+
+-- a front that is a text, and what stood behind it
+pub front-over : (d F t : List ℕ) → F ≡ t → F ++ drop (length t) d ≡ over d 0 t
+unfolding over
+front-over d F t e = rw (e, zero-add)

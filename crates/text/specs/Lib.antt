@@ -1,5 +1,6 @@
 pub mod Bytes
 pub mod Checks
+pub mod Codes
 pub mod Equal
 pub mod Names
 pub mod Over

@@ -25,8 +25,3 @@ returns-then-is_named c =
           ∙ rw named (ap numbers_of (stands-held c.requires.0)),
       fit-held a.k c.numbers_at.result c.numbers_at.ensures.1,
     )
-
-pub returns : goal.returns
-returns c =
-    let unnamed = sym c.is_named.ensures ∙ c.if-is_named.false in
-    (c.numbers_of.ensures.0 ∙ rw unnamed, c.numbers_of.ensures.1)

@@ -24,7 +24,7 @@ returns c =
       c.no_airports.ensures,
       c.no_regions.ensures,
       numbers,
-      c.flags_of-flags.ensures,
+      c.flags_of.ensures,
       neither_left (is_named s 2) (is_named s 3) c.requires.s_value_2,
       neither_right (is_named s 2) (is_named s 3) c.requires.s_value_2,
     )

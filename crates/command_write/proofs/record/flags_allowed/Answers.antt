@@ -3,7 +3,6 @@ use borrow.Author.Rules.{rules}
 use mathlib.Core.Path.{◌≡◌, sym, ◌∙◌}
 use Prim.Native.Nat.{◌+◌, ◌≤◌, ◌<◌}
 use lib.ListN.{length}
-use borrow.Author.Tests.{not-true, not-false}
 use Rattle.command_write.proofs.Writing.{flags-on, flags_stop, flags_end}
 use Rattle.command_write.proofs.record.flags_allowed.Goals as goal
 use Rattle.command_write.proofs.record.flags_allowed.Goals.{Start}
@@ -16,16 +15,16 @@ pub returns-then-not-is_flag_value : goal.returns-then-not-is_flag_value
 returns-then-not-is_flag_value c =
     let fs = c.args.flags in
     let room : c.loop-i.i < length fs = omega (arith, full (goal.at.returns-then-not-is_flag_value c).Start) in
-    sym (c.loop-i.invariant.1 ∙ flags_stop fs c.loop-i.i room (sym c.is_flag_value.ensures ∙ not-true _ c.if-not-is_flag_value.true-raw))
+    rw c.at.ensures (sym (c.loop-i.invariant ∙ flags_stop fs c.loop-i.i room (sym c.if-not-is_flag_value.ensures)))
 
 pub loop-i-preserved : goal.loop-i-preserved
 loop-i-preserved c =
     let fs = c.args.flags in
     let room : c.loop-i.i < length fs = omega (arith, full (goal.at.loop-i-preserved c).Start) in
-    (omega arith, c.loop-i.invariant.1 ∙ flags-on fs c.loop-i.i room (sym c.is_flag_value.ensures ∙ not-false _ c.if-not-is_flag_value.false-raw))
+    c.loop-i.invariant ∙ flags-on fs c.loop-i.i room (sym c.if-not-is_flag_value.ensures)
 
 pub returns : goal.returns
 returns c =
     let fs = c.args.flags in
     let past : length fs ≤ c.loop-i.i = omega (arith, full (goal.at.returns c).Start) in
-    sym (c.loop-i.invariant.1 ∙ flags_end fs c.loop-i.i (5 + c.loop-i.i) past)
+    sym (c.loop-i.invariant ∙ flags_end fs c.loop-i.i (5 + c.loop-i.i) past)

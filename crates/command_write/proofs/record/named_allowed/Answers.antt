@@ -3,7 +3,6 @@ use borrow.Author.Rules.{rules}
 use mathlib.Core.Path.{◌≡◌, sym, ◌∙◌}
 use Prim.Native.Nat.{◌+◌, ◌<◌}
 use lib.ListN.{length}
-use borrow.Author.Tests.{not-true, not-false}
 use Rattle.command_write.proofs.Writing.{named-on, named_stop, named_end}
 use Rattle.command_write.proofs.record.named_allowed.Goals as goal
 use Rattle.command_write.proofs.record.named_allowed.Goals.{Start}
@@ -16,14 +15,14 @@ pub returns-then-not-is_indicator_value : goal.returns-then-not-is_indicator_val
 returns-then-not-is_indicator_value c =
     let vs = c.args.named in
     let room : c.loop-i.i < length vs = omega (arith, full (goal.at.returns-then-not-is_indicator_value c).Start) in
-    sym (c.loop-i.invariant.1 ∙ named_stop vs c.loop-i.i c.loop-i-test.true room (sym c.is_indicator_value.ensures ∙ not-true _ c.if-not-is_indicator_value.true-raw))
+    rw c.at.ensures
+    (sym (c.loop-i.invariant ∙ named_stop vs c.loop-i.i c.loop-i-test.true room (sym c.if-not-is_indicator_value.ensures)))
 
 pub loop-i-preserved : goal.loop-i-preserved
 loop-i-preserved c =
     let vs = c.args.named in
     let room : c.loop-i.i < length vs = omega (arith, full (goal.at.loop-i-preserved c).Start) in
-    (omega arith, c.loop-i.invariant.1 ∙ named-on vs c.loop-i.i c.loop-i-test.true room (sym c.is_indicator_value.ensures ∙ not-false _ c.if-not-is_indicator_value.false-raw))
+    c.loop-i.invariant ∙ named-on vs c.loop-i.i c.loop-i-test.true room (sym c.if-not-is_indicator_value.ensures)
 
 pub returns : goal.returns
-returns c =
-    sym (c.loop-i.invariant.1 ∙ named_end c.args.named c.loop-i.i (13 + c.loop-i.i) c.loop-i-test.false)
+returns c = sym (c.loop-i.invariant ∙ named_end c.args.named c.loop-i.i (13 + c.loop-i.i) c.loop-i-test.false)

@@ -8,7 +8,4 @@ use Rattle.command_write.proofs.record.pass_numbered.Given as goal
 
 abbrev pub invariant-loop-k : goal.invariant-loop-k
 invariant-loop-k l =
-    (4 ≤ l.k) × (l.k ≤ 10) × (l.at + 100 ≤ l.from + 25 * l.k) × (pass_numbered (drop 2 numbers) l.from l.x l.named ≡ pass_numbered (drop (l.k - 2) numbers) l.at l.x l.named)
-
-abbrev pub decreases-loop-k : goal.decreases-loop-k
-decreases-loop-k l = 10 - l.k
+    (l.at + 100 ≤ l.from + 25 * l.k) × (pass_numbered (drop 2 numbers) l.from l.x l.named ≡ pass_numbered (drop (l.k - 2) numbers) l.at l.x l.named)

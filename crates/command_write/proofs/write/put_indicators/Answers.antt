@@ -4,12 +4,12 @@ use mathlib.Core.Path.{◌≡◌, refl}
 use mathlib.Core.List.{[], ◌∷◌, ◌++◌}
 use lib.ListN.{length, set, length-map}
 use borrow.Rule.Slice.PartMut.{put_mid}
-use Prim.Native.Nat.{ℕ, ◌+◌, ◌<◌}
+use Prim.Native.Nat.{ℕ, ◌+◌}
 use Rattle.text.specs.Over.{over}
-use Rattle.text.proofs.Over.{over_none, then_part, then_byte, length_then}
+use Rattle.text.proofs.Over.{over_none, then_part, then_byte}
 use Rattle.command.specs.Record.{digit_bytes}
 use Rattle.command_write.proofs.write.put_indicators.Goals as goal
-use Rattle.command_write.proofs.write.put_indicators.Goals.{After-slice_known-2-1, Start}
+use Rattle.command_write.proofs.write.put_indicators.Goals.{After-put_digits, Start}
 
 -- the array has its eight indicators
 full : (c : Start) → length c.args.named ≡ 8
@@ -20,7 +20,7 @@ first : (c : Start) → let d = c.args.d.now in set d 0 (48 + c.args.downlink) �
 first c = then_byte c.args.d.now c.args.d.now [] (48 + c.args.downlink) 0 0 (over_none c.args.d.now 0) refl (omega (arith, c.requires.0))
 
 -- and the indicators
-second : (c : After-slice_known-2-1)
+second : (c : After-put_digits)
     → let d = c.args.d.now in
     put_mid 1 8 (set d 0 (48 + c.args.downlink)) c.put_digits.new.d
     ≡ over d 0 ((48 + c.args.downlink) ∷ digit_bytes c.args.named)
@@ -36,7 +36,7 @@ second c =
 nine : (c : Start) → 9 ≡ length ((48 + c.args.downlink) ∷ digit_bytes c.args.named)
 nine c = omega (arith, length-map c.args.named (λ (v : ℕ). 48 + v), full c)
 
-third : (c : After-slice_known-2-1)
+third : (c : After-put_digits)
     → let d = c.args.d.now in
     set (put_mid 1 8 (set d 0 (48 + c.args.downlink)) c.put_digits.new.d) 9 47
     ≡ over d 0 (((48 + c.args.downlink) ∷ digit_bytes c.args.named) ++ (47 ∷ []))
@@ -47,12 +47,5 @@ third c =
     then_byte d (put_mid 1 8 (set d 0 (48 + c.args.downlink)) c.put_digits.new.d)
     ((48 + c.args.downlink) ∷ digit_bytes c.args.named) 47 0 9 (second c) (omega (arith, nine)) (omega (arith, c.requires.0))
 
-pub bounds-d-9 : goal.bounds-d-9
-bounds-d-9 c =
-    let d = c.args.d.now in
-    let D = put_mid 1 8 (set d 0 (48 + c.args.downlink)) c.put_digits.new.d in
-    let h : 9 < length D = omega (arith, c.requires.0, length_then d D ((48 + c.args.downlink) ∷ digit_bytes c.args.named) 0 (second (goal.at.bounds-d-9 c).After-slice_known-2-1) (omega (arith, nine (goal.at.bounds-d-9 c).Start, c.requires.0))) in
-    h
-
 pub returns : goal.returns
-returns c = third (goal.at.returns c).After-slice_known-2-1
+returns c = third (goal.at.returns c).After-put_digits

@@ -1,7 +1,7 @@
 -- `command_write::write::put_numbered` meets its contract. The loop's invariant: d is what it was with the sections so far over its start.
 use mathlib.Core.Path.{◌≡◌}
 use mathlib.Core.List.{List, ◌++◌}
-use Prim.Native.Nat.{ℕ, ◌-◌, ◌≤◌}
+use Prim.Native.Nat.{ℕ, ◌-◌}
 use lib.ListN.{length, drop}
 use Rattle.text.specs.Over.{over}
 use Rattle.section.specs.Layout.{numbers}
@@ -17,7 +17,4 @@ pub record Written (x : Fixed) (named d₀ d : List ℕ) (at k : ℕ) : Type 0 w
   pub rest : numbered_text (drop 2 numbers) x named ≡ text ++ numbered_text (drop (k - 2) numbers) x named
 
 abbrev pub invariant-loop-k : goal.invariant-loop-k
-invariant-loop-k l = (4 ≤ l.k) × (l.k ≤ 10) × (length l.d ≡ length l.initial.d) × Written l.x l.named l.initial.d l.d l.at l.k
-
-abbrev pub decreases-loop-k : goal.decreases-loop-k
-decreases-loop-k l = 10 - l.k
+invariant-loop-k l = (length l.d ≡ length l.initial.d) × Written l.x l.named l.initial.d l.d l.at l.k

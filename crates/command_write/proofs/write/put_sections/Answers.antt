@@ -49,14 +49,14 @@ slice_bounds-put_numbered-start c =
 pub put_numbered-n-requires : goal.put_numbered-n-requires
 put_numbered-n-requires c =
     let f = c.put_lists-at in
-    rw c.fixed_of-fixed.ensures
+    rw c.fixed_of.ensures
     (rest-room c.args.d.now f.new.d (one c.args.c) f.result f.ensures.1 f.ensures.0 (length (two c.args.c)) (omega (arith, room (goal.at.put_numbered-n-requires c).Start, f.ensures.0)))
 
 pub overflow_add-result : goal.overflow_add-result
 overflow_add-result c =
     let f = c.put_lists-at in
     let g = c.put_numbered-n in
-    let n = rw c.fixed_of-fixed.ensures at g.ensures.0 in
+    let n = rw c.fixed_of.ensures at g.ensures.0 in
     let h : f.result + g.result ≤ length c.args.d.now = omega (arith, room (goal.at.overflow_add-result c).Start, f.ensures.0, n) in
     search rules
 
@@ -64,8 +64,8 @@ pub returns : goal.returns
 returns c =
     let f = c.put_lists-at in
     let g = c.put_numbered-n in
-    let n = rw c.fixed_of-fixed.ensures at g.ensures.0 in
-    let w = rw c.fixed_of-fixed.ensures at g.ensures.1 in
+    let n = rw c.fixed_of.ensures at g.ensures.0 in
+    let w = rw c.fixed_of.ensures at g.ensures.1 in
     let x = c.args.c in (
       omega (arith, f.ensures.0, n, ap length (whole x), length-append (one x) (two x)),
       rest-written c.args.d.now f.new.d (one x) f.result f.ensures.1 f.ensures.0 g.new.d (two x) (omega (arith, room (goal.at.returns c).Start, f.ensures.0)) w

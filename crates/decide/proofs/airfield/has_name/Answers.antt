@@ -2,7 +2,7 @@ use borrow.Author.Rules.{rules}
 use native.Mathlib.Omega.{arith}
 use mathlib.Core.Path.{◌≡◌, sym, ap, ◌∙◌}
 use mathlib.Core.List.{List}
-use Prim.Native.Nat.{ℕ, ◌+◌, ◌-◌, ◌*◌, ◌≤◌}
+use Prim.Native.Nat.{ℕ, ◌+◌, ◌*◌, ◌≤◌}
 use lib.ListN.{length, take, drop}
 use Rattle.text.specs.Equal.{same_bytes}
 use Rattle.decide.proofs.Listed.{name_at, has_turn, has_stop, has_end}
@@ -31,44 +31,11 @@ seen c =
     ∙ ap (λ (s : List ℕ). same_bytes s a.name)
     (sym (name_at a.l.names a.name a.l.count c.loop-i.i (omega (arith, full, room))))
 
-pub loop-i-init : goal.loop-i-init
-loop-i-init c =
-    let n = c.wide-n.result in
-    let e : n - 0 ≡ n = omega arith in
-    (omega arith, rw e)
-
-pub overflow_mul-p : goal.overflow_mul-p
-overflow_mul-p c = omega (arith, c.loop-i-test.true, c.requires, c.wide-n.ensures)
-
-pub bounds-names-p : goal.bounds-names-p
-bounds-names-p c = omega (arith, c.loop-i-test.true, c.requires, c.wide-n.ensures)
-
-pub overflow_add-p : goal.overflow_add-p
-overflow_add-p c = omega (arith, c.loop-i-test.true, c.requires, c.wide-n.ensures)
-
-pub bounds-names-p-in-loop-i : goal.bounds-names-p-in-loop-i
-bounds-names-p-in-loop-i c = omega (arith, c.loop-i-test.true, c.requires, c.wide-n.ensures)
-
-pub overflow_add-p-in-loop-i : goal.overflow_add-p-in-loop-i
-overflow_add-p-in-loop-i c = omega (arith, c.loop-i-test.true, c.requires, c.wide-n.ensures)
-
-pub bounds-names-p-in-loop-i-2 : goal.bounds-names-p-in-loop-i-2
-bounds-names-p-in-loop-i-2 c = omega (arith, c.loop-i-test.true, c.requires, c.wide-n.ensures)
-
-pub overflow_add-p-in-loop-i-2 : goal.overflow_add-p-in-loop-i-2
-overflow_add-p-in-loop-i-2 c = omega (arith, c.loop-i-test.true, c.requires, c.wide-n.ensures)
-
-pub bounds-names-p-in-loop-i-3 : goal.bounds-names-p-in-loop-i-3
-bounds-names-p-in-loop-i-3 c = omega (arith, c.loop-i-test.true, c.requires, c.wide-n.ensures)
-
 pub returns-then-is_name : goal.returns-then-is_name
 returns-then-is_name c =
     let a = c.args in
     rw (← c.wide-n.ensures)
     (sym (c.loop-i.invariant.1 ∙ has_stop a.l.names a.name c.wide-n.result c.loop-i.i c.loop-i-test.true (sym (seen (goal.at.returns-then-is_name c).After-is_name) ∙ c.if-is_name.true)))
-
-pub overflow_add-i : goal.overflow_add-i
-overflow_add-i c = omega (arith, c.loop-i-test.true, c.requires, c.wide-n.ensures)
 
 pub loop-i-preserved : goal.loop-i-preserved
 loop-i-preserved c =

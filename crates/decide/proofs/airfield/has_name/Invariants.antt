@@ -7,6 +7,3 @@ use Rattle.decide.proofs.airfield.has_name.Given as goal
 
 abbrev pub invariant-loop-i : goal.invariant-loop-i
 invariant-loop-i l = (l.i ≤ l.n) × (has_airfield l.n l.names l.name ≡ has_airfield (l.n - l.i) (drop (4 * l.i) l.names) l.name)
-
-abbrev pub decreases-loop-i : goal.decreases-loop-i
-decreases-loop-i l = l.n - l.i

@@ -1,7 +1,7 @@
 use borrow.Author.Rules.{rules}
 use native.Mathlib.Omega.{arith}
 use mathlib.Core.Path.{◌≡◌, sym, ap, ◌∙◌}
-use Prim.Native.Nat.{ℕ, ◌-◌, ◌<◌}
+use Prim.Native.Nat.{ℕ, ◌<◌}
 use lib.ListN.{length, get_or}
 use Rattle.field.specs.Boxes.{no_region}
 use Rattle.decide.specs.Tests.{holds}
@@ -23,35 +23,14 @@ seen : (c : After-box_holds)
     holds (get_or a.l.regions c.loop-i.i no_region) a.north a.east ≡ c.box_holds.result
 seen c =
     let a = c.args in
-    ap (λ (i : ℕ). holds (get_or a.l.regions i no_region) a.north a.east) (sym c.wide-at.ensures)
+    ap (λ (i : ℕ). holds (get_or a.l.regions i no_region) a.north a.east) (sym c.wide.ensures)
     ∙ sym c.box_holds.ensures
-
-pub loop-i-init : goal.loop-i-init
-loop-i-init c =
-    let n = c.args.l.count in
-    let e : n - 0 ≡ n = omega arith in
-    (omega arith, rw e)
-
-pub offset_bounds-regions-at : goal.offset_bounds-regions-at
-offset_bounds-regions-at c = omega (arith, room (goal.at.offset_bounds-regions-at c).In-loop-i, c.wide-at.ensures)
-
-pub bounds-regions-at : goal.bounds-regions-at
-bounds-regions-at c = omega (arith, room (goal.at.bounds-regions-at c).In-loop-i, c.wide-at.ensures)
-
-pub box_holds-requires : goal.box_holds-requires
-box_holds-requires c = c.spelt_otherwise-again.ensures
-
-pub overflow_add-result : goal.overflow_add-result
-overflow_add-result c = omega (arith, room (goal.at.overflow_add-result c).In-loop-i)
 
 pub returns-then-box_holds : goal.returns-then-box_holds
 returns-then-box_holds c =
     let a = c.args in
     let in_list : c.loop-i.i < length a.l.regions = omega (arith, full (goal.at.returns-then-box_holds c).Start, room (goal.at.returns-then-box_holds c).In-loop-i) in
     sym (c.loop-i.invariant.1 ∙ first_stop a.l.regions a.l.count c.loop-i.i a.north a.east c.loop-i-test.true in_list (seen (goal.at.returns-then-box_holds c).After-box_holds ∙ c.if-box_holds.true))
-
-pub overflow_add-i : goal.overflow_add-i
-overflow_add-i c = omega (arith, room (goal.at.overflow_add-i c).In-loop-i)
 
 pub loop-i-preserved : goal.loop-i-preserved
 loop-i-preserved c =

@@ -8,6 +8,3 @@ use Rattle.decide.proofs.boxes.first_holding.Given as goal
 abbrev pub invariant-loop-i : goal.invariant-loop-i
 invariant-loop-i l =
     (l.i ≤ l.n) × (first_from 1 (take l.n l.regions) l.north l.east ≡ first_from (l.i + 1) (take (l.n - l.i) (drop l.i l.regions)) l.north l.east)
-
-abbrev pub decreases-loop-i : goal.decreases-loop-i
-decreases-loop-i l = l.n - l.i

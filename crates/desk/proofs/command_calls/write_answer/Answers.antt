@@ -1,10 +1,8 @@
--- `desk::command_calls::write_answer` meets its contract.
-use mathlib.Core.Path.{◌∙◌}
+use mathlib.Core.Path.{sym, ◌∙◌}
 use borrow.Author.Rules.{rules}
 use lib.ListN.{length}
-use Rattle.command.specs.Record.{command_text, write_seen}
 use Rattle.command_write.specs.Filled.{Filled}
-use Rattle.desk.proofs.Given.{wrote-numbers, wrote-short}
+use Rattle.desk.proofs.Given.{wrote-short}
 use Rattle.desk.proofs.command_calls.write_answer.Goals as goal
 use Rattle.desk.proofs.command_calls.write_answer.Goals.{Start}
 
@@ -27,11 +25,7 @@ full c =
       );
     }
 
-pub wrote_answer-requires : goal.wrote_answer-requires
-wrote_answer-requires c = let a = c.args in rw c.write-w.ensures.0 (wrote-short a.command (length a.out.now) (full (goal.at.wrote_answer-requires c).Start))
-
-pub returns : goal.returns
-returns c =
-    let w = c.write-w.ensures in
+pub length_of-requires : goal.length_of-requires
+length_of-requires c =
     let a = c.args in
-    (c.wrote_answer.ensures ∙ rw w.0 (wrote-numbers (write_seen a.command (length a.out.now)) (length (command_text a.command))), w.1)
+    rw (sym c.write.ensures.0 ∙ c.in-Ok.is) at (wrote-short a.command (length a.out.now) (full (goal.at.length_of-requires c).Start))

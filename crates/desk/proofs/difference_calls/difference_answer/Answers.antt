@@ -1,10 +1,8 @@
--- `desk::difference_calls::difference_answer` meets its contract.
-use mathlib.Core.Path.{ap, ◌∙◌, refl}
+use mathlib.Core.Path.{refl, sym, ◌∙◌}
 use borrow.Author.Rules.{rules}
 use lib.ListN.{length}
 use Rattle.command_write.specs.Filled.{Filled}
 use Rattle.difference.proofs.Makes.{holding, answer-short}
-use Rattle.desk.specs.Differences.{difference_numbers}
 use Rattle.desk.proofs.difference_calls.difference_answer.Goals as goal
 use Rattle.desk.proofs.difference_calls.difference_answer.Goals.{Start}
 
@@ -27,12 +25,8 @@ full c =
       );
     }
 
-pub differing_answer-requires : goal.differing_answer-requires
-differing_answer-requires c =
+pub length_of-requires : goal.length_of-requires
+length_of-requires c =
     let a = c.args in
-    rw c.differ-d.ensures.0 (answer-short a.first a.second (length a.out.now) (full (goal.at.differing_answer-requires c).Start))
-
-pub returns : goal.returns
-returns c =
-    let d = c.differ-d.ensures in
-    (c.differing_answer.ensures ∙ ap difference_numbers d.0, d.1)
+    answer-short a.first a.second (length a.out.now) (full (goal.at.length_of-requires c).Start) c.in-Ok.differing
+    (sym c.differ.ensures.0 ∙ c.in-Ok.is)

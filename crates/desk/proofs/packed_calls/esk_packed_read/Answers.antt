@@ -1,10 +1,6 @@
-use mathlib.Core.Path.{◌∙◌, ap}
+use mathlib.Core.Path.{sym, ◌∙◌}
 use Rattle.packed.proofs.Refusal.{refusal-place}
-use Rattle.desk.specs.Numbers.{packed_numbers}
 use Rattle.desk.proofs.packed_calls.esk_packed_read.Goals as goal
 
-pub packed_answer-requires : goal.packed_answer-requires
-packed_answer-requires c = rw c.read_lone.ensures (refusal-place _)
-
-pub returns : goal.returns
-returns c = c.packed_answer.ensures ∙ ap packed_numbers c.read_lone.ensures
+pub narrow-requires : goal.narrow-requires
+narrow-requires c = rw (sym c.read_lone.ensures ∙ c.in-Err.is) at (refusal-place c.args.field.now)

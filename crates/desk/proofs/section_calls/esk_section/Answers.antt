@@ -1,13 +1,6 @@
--- `desk::section_calls::esk_section` meets its contract.
-use mathlib.Core.Path.{ap, ◌∙◌}
-use Rattle.desk.specs.Parts.{part_numbers}
-use Rattle.desk.proofs.Given.{found-short}
+use mathlib.Core.Path.{sym, ◌∙◌}
+use Rattle.finder.proofs.Finds.{part-short}
 use Rattle.desk.proofs.section_calls.esk_section.Goals as goal
 
-pub part_answer-requires : goal.part_answer-requires
-part_answer-requires c =
-    let a = c.args in
-    rw c.find-found.ensures (found-short a.number a.text.now)
-
-pub returns : goal.returns
-returns c = c.part_answer.ensures ∙ ap part_numbers c.find-found.ensures
+pub length_of-requires : goal.length_of-requires
+length_of-requires c = part-short c.args.number c.args.text.now c.in-Ok.part (sym c.find.ensures ∙ c.in-Ok.is)

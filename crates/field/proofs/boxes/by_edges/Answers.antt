@@ -1,37 +1,20 @@
 -- `field::boxes::by_edges` meets its contract: the latitudes, then the longitudes.
-use mathlib.Core.Path.{◌≡◌, sym, ◌∙◌}
 use lib.Dec.{lit≤}
-use Rattle.field.specs.Boxes.{check_pair, latitude, north_first}
-use Rattle.field.specs.declared.Step.TheVariants.{Next}
+use mathlib.Core.Path.{◌≡◌, sym, ◌∙◌}
+use Rattle.field.specs.Boxes.{latitude, north_first, check_pair}
 use Rattle.field.proofs.Edges.{box_pairs}
 use Rattle.field.proofs.Within.{pair-within}
 use Rattle.field.proofs.boxes.by_edges.Goals as goal
-use Rattle.field.proofs.boxes.by_edges.Goals.{After-pair-latitudes, In-Next}
+use Rattle.field.proofs.boxes.by_edges.Goals.{In_ok-west}
+use Rattle.std.specs.Prelude.{Ok}
 
--- what was said of the latitudes
-latitudes-seen : (c : After-pair-latitudes)
-    → let a = c.args in
-    c.pair-latitudes.result ≡ check_pair latitude north_first a.s.now a.at
-latitudes-seen c = c.pair-latitudes.ensures ∙ rw c.latitudes.ensures
+-- the latitudes are in order
+seen : (c : In_ok-west) → check_pair latitude north_first c.args.s.now c.args.at ≡ Ok c.in_ok-west.west
+seen c = sym (c.pair.ensures ∙ rw c.latitudes.ensures) ∙ c.in_ok-west.was
 
--- they are in order
-seen : (c : In-Next)
-    → let a = c.args in
-    check_pair latitude north_first a.s.now a.at ≡ Next c.in-Next.west
-seen c =
-    let latitudes-seen : let a = c.args in
-    c.pair-latitudes.result ≡ check_pair latitude north_first a.s.now a.at = c.pair-latitudes.ensures ∙ rw c.latitudes.ensures in
-    sym (latitudes-seen) ∙ c.in-Next.is
+pub pair-requires-2 : goal.pair-requires-2
+pair-requires-2 c =
+    rw c.longitudes.ensures ((rw (seen (goal.at.pair-requires-2 c).In_ok-west) at (pair-within c.args.s.now latitude north_first c.args.at c.requires)).1, lit≤ tt)
 
-pub pair-latitudes-requires : goal.pair-latitudes-requires
-pair-latitudes-requires c = rw c.latitudes.ensures (c.requires, lit≤ tt)
-
-pub pair-requires : goal.pair-requires
-pair-requires c =
-    rw c.longitudes.ensures ((rw (seen (goal.at.pair-requires c).In-Next) at (pair-within c.args.s.now latitude north_first c.args.at c.requires)).1, lit≤ tt)
-
-pub returns-in-Stop : goal.returns-in-Stop
-returns-in-Stop c = rw (box_pairs _ _, sym (latitudes-seen (goal.at.returns-in-Stop c).After-pair-latitudes) ∙ c.in-Stop.is)
-
-pub returns-in-Next : goal.returns-in-Next
-returns-in-Next c = rw (box_pairs _ _, seen (goal.at.returns-in-Next c).In-Next, c.pair.ensures, c.longitudes.ensures)
+pub returns : goal.returns
+returns c = rw (box_pairs _ _, seen (goal.at.returns c).In_ok-west, c.pair-2.ensures, c.longitudes.ensures)

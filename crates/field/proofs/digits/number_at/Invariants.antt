@@ -1,13 +1,9 @@
 -- `field::digits::number_at` meets its contract. The loop's invariant: the digits that are left, after what was read, are the test and the worth of all.
-use Prim.Native.Nat.{◌≤◌, ◌<◌, ◌-◌, ◌^◌}
+use Prim.Native.Nat.{◌<◌, ◌^◌}
 use lib.ListN.{drop}
 use mathlib.Core.Path.{◌≡◌}
-use Rattle.text.specs.Parts.{part}
 use Rattle.field.specs.Decimal.{all_digits, value, value_from}
 use Rattle.field.proofs.digits.number_at.Given as goal
 
-abbrev pub invariant-loop-i : goal.invariant-loop-i
-invariant-loop-i l = (l.i ≤ l.w) × (l.n < 10 ^ l.i) × (all_digits (part l.at l.w l.s) ≡ all_digits (drop l.i (part l.at l.w l.s))) × (value (part l.at l.w l.s) ≡ value_from l.n (drop l.i (part l.at l.w l.s)))
-
-abbrev pub decreases-loop-i : goal.decreases-loop-i
-decreases-loop-i l = l.w - l.i
+abbrev pub invariant-loop-b : goal.invariant-loop-b
+invariant-loop-b l = (l.n < 10 ^ l.b-index) × (all_digits l.b-items ≡ all_digits (drop l.b-index l.b-items)) × (value l.b-items ≡ value_from l.n (drop l.b-index l.b-items))

@@ -8,15 +8,15 @@ use lib.Dec.{lit≤}
 use lib.ListN.{length}
 use Rattle.text.specs.Parts.{part}
 use Rattle.field.specs.declared.Circle.{Circle}
-use Rattle.field.specs.declared.Step.TheVariants.{Next}
 use Rattle.field.specs.Decimal.{all_digits, value}
 use Rattle.field.specs.Boxes.{region_at, edge_at, latitude, longitude, check_edge}
 use Rattle.field.proofs.Accepted.{Box, box, edge}
 use Rattle.field.proofs.read.region_at.Goals as goal
 use Rattle.field.proofs.read.region_at.Goals.{Start}
+use Rattle.std.specs.Prelude.{Ok}
 
 -- what an accepted edge has
-asked : (c : Circle) (s : List ℕ) (at p : ℕ) → c.width ≤ 3 → c.most ≤ 255 → check_edge c s at ≡ Next p
+asked : (c : Circle) (s : List ℕ) (at p : ℕ) → c.width ≤ 3 → c.most ≤ 255 → check_edge c s at ≡ Ok p
     → ((at + (c.width + 1) ≤ length s) × (c.width ≤ 3)) × ((all_digits (part at c.width s) ≡ true) × (value (part at c.width s) < 256))
 asked c s at p narrow small e =
     let r = edge c s at p e in

@@ -1,24 +1,22 @@
 -- `field::record::region_allowed` meets its contract: the latitudes, then the longitudes.
-use mathlib.Core.Path.{◌≡◌, sym, ◌∙◌}
-use mathlib.Core.Bool.{true}
 use Prim.Native.Nat.{◌+◌}
+use mathlib.Core.Path.{◌≡◌, ◌∙◌}
+use mathlib.Core.Bool.{true}
 use Rattle.field.specs.Boxes.{latitude}
 use Rattle.field.specs.Steps.{pair_allowed}
 use Rattle.field.proofs.Pairs.{region_pairs}
 use Rattle.field.proofs.record.region_allowed.Goals as goal
-use Rattle.field.proofs.record.region_allowed.Goals.{After-pair_allowed}
+use Rattle.std.proofs.lemmas.Result.{err_from_is_err_and}
 
-latitude-pair : (c : After-pair_allowed)
-    → let a = c.args in
-    c.pair_allowed.result ≡ pair_allowed true latitude a.b.north a.b.south a.at (a.at + 3)
-latitude-pair c = c.pair_allowed.ensures ∙ rw c.latitudes.ensures
-
-pub returns-in-Bad : goal.returns-in-Bad
-returns-in-Bad c =
+pub returns-in_err-pair_allowed : goal.returns-in_err-pair_allowed
+returns-in_err-pair_allowed c =
     let a = c.args in
-    rw (← (region_pairs a.at a.b), sym (latitude-pair (goal.at.returns-in-Bad c).After-pair_allowed) ∙ c.in-Bad.is)
+    let e : c.pair_allowed.result ≡ pair_allowed true latitude a.b.north a.b.south a.at (a.at + 3) = c.pair_allowed.ensures ∙ rw c.latitudes.ensures in
+    let p = err_from_is_err_and c.from_residual.result c.from_residual.ensures.1 in
+    rw (← region_pairs c.args.at c.args.b, ← e, c.in_err-pair_allowed.was, p.1, p.2)
 
-pub returns-in-Fine : goal.returns-in-Fine
-returns-in-Fine c =
+pub returns : goal.returns
+returns c =
     let a = c.args in
-    rw (← (region_pairs a.at a.b), sym (latitude-pair (goal.at.returns-in-Fine c).After-pair_allowed) ∙ c.in-Fine.is, c.pair_allowed-in-Fine.ensures, c.longitudes.ensures)
+    let e : c.pair_allowed.result ≡ pair_allowed true latitude a.b.north a.b.south a.at (a.at + 3) = c.pair_allowed.ensures ∙ rw c.latitudes.ensures in
+    rw (← region_pairs a.at a.b, c.pair_allowed-2.ensures, c.longitudes.ensures, ← e, c.in_ok-pair_allowed.was)

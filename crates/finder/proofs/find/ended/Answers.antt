@@ -7,11 +7,4 @@ use Rattle.finder.proofs.find.ended.Goals as goal
 
 pub overflow_sub-result : goal.overflow_sub-result
 overflow_sub-result c =
-    let a = c.args in
-    omega (arith, items-inside (layout_of a.k) _ _ _ _ (sym c.pass_section.ensures ∙ c.in-Next.is))
-
-pub returns-in-Stop : goal.returns-in-Stop
-returns-in-Stop c = rw (sym c.pass_section.ensures ∙ c.in-Stop.is)
-
-pub returns-in-Next : goal.returns-in-Next
-returns-in-Next c = rw (sym c.pass_section.ensures ∙ c.in-Next.is)
+    omega (arith, items-inside (layout_of c.args.k) _ _ _ _ (sym c.pass_section.ensures ∙ c.in_ok-end.was))

@@ -1,49 +1,45 @@
 -- `finder::find::find` meets its contract: the number, the length, the first 22 bytes, the section.
 use mathlib.Core.Path.{sym, ◌∙◌}
-use borrow.Author.Tests.{lt-leb, le-leb}
+use borrow.Author.Tests.{lt-leb, le-leb, leb-true}
+use Rattle.std.proofs.lemmas.Result.{err_from_is_err_and}
+use Rattle.text.proofs.Cases.{both_left, both_right}
 use Rattle.command.specs.Text.{longest}
 use Rattle.command.proofs.Head.{head-next}
 use Rattle.finder.specs.Finding.{find_section}
 use Rattle.finder.proofs.find.find.Goals as goal
 
-pub returns-then-k-lt2 : goal.returns-then-k-lt2
+pub returns-then-not-is_number : goal.returns-then-not-is_number
 unfolding find_section
-returns-then-k-lt2 c = rw (lt-leb 2 _ c.if-k-lt2.true)
-
-pub returns-then-k-gt9 : goal.returns-then-k-gt9
-unfolding find_section
-returns-then-k-gt9 c = rw (le-leb 2 _ c.if-k-lt2.false, lt-leb _ 9 c.if-k-gt9.true)
+returns-then-not-is_number c = rw (c.at.ensures, sym c.if-not-is_number.ensures)
 
 pub returns-then-s-gt-LONGEST : goal.returns-then-s-gt-LONGEST
 unfolding find_section
-returns-then-s-gt-LONGEST c = rw (le-leb 2 _ c.if-k-lt2.false, le-leb _ 9 c.if-k-gt9.false, lt-leb _ longest c.if-s-gt-LONGEST.true)
+returns-then-s-gt-LONGEST c =
+    rw (c.at-then-s-gt-LONGEST.ensures, sym c.if-not-is_number.ensures, lt-leb _ longest c.if-s-gt-LONGEST.true)
 
 pub behind_head-requires : goal.behind_head-requires
-behind_head-requires c = (
-  c.if-k-lt2.false,
-  c.if-k-gt9.false,
-  (head-next _ _ (sym c.check_head.ensures ∙ c.in-Next.is)).0.inside,
-)
+behind_head-requires c =
+    let b = sym c.if-not-is_number.ensures in (
+      leb-true 2 _ (both_left _ _ b),
+      leb-true _ 9 (both_right _ _ b),
+      (head-next _ _ (sym c.check_head.ensures ∙ c.in_ok-check_head.was)).0.inside,
+    )
 
-pub returns-in-Stop : goal.returns-in-Stop
+pub returns-in_err-check_head : goal.returns-in_err-check_head
 unfolding find_section
-returns-in-Stop c =
+returns-in_err-check_head c =
+    let p = err_from_is_err_and c.from_residual.result c.from_residual.ensures.1 in
     rw (
-      le-leb 2 _ c.if-k-lt2.false,
-      le-leb _ 9 c.if-k-gt9.false,
+      p.1,
+      p.2,
+      sym c.if-not-is_number.ensures,
       le-leb _ longest c.if-s-gt-LONGEST.false,
-      sym c.check_head.ensures ∙ c.in-Stop.is,
+      sym c.check_head.ensures ∙ c.in_err-check_head.was,
     )
 
-pub returns-in-Next : goal.returns-in-Next
+pub returns : goal.returns
 unfolding find_section
-returns-in-Next c =
-    let e = sym c.check_head.ensures ∙ c.in-Next.is in
+returns c =
+    let e = sym c.check_head.ensures ∙ c.in_ok-check_head.was in
     c.behind_head.ensures
-    ∙ rw (
-      le-leb 2 _ c.if-k-lt2.false,
-      le-leb _ 9 c.if-k-gt9.false,
-      le-leb _ longest c.if-s-gt-LONGEST.false,
-      e,
-      (head-next _ _ e).1,
-    )
+    ∙ rw (sym c.if-not-is_number.ensures, le-leb _ longest c.if-s-gt-LONGEST.false, e, (head-next _ _ e).1)

@@ -7,7 +7,4 @@ use Rattle.finder.specs.Finding.{reach}
 use Rattle.finder.proofs.find.place_of.Given as goal
 
 abbrev pub invariant-loop-k : goal.invariant-loop-k
-invariant-loop-k l = (2 ≤ l.k) × (l.k ≤ l.j) × (l.at ≤ length l.s) × (reach numbers l.s 22 l.j ≡ reach (drop (l.k - 2) numbers) l.s l.at l.j)
-
-abbrev pub decreases-loop-k : goal.decreases-loop-k
-decreases-loop-k l = l.j - l.k
+invariant-loop-k l = (l.at ≤ length l.s) × (reach numbers l.s 22 l.j ≡ reach (drop (l.k - 2) numbers) l.s l.at l.j)

@@ -1,26 +1,15 @@
-use native.Mathlib.Omega.{arith}
-use Prim.Native.Nat.{◌-◌}
-use mathlib.Core.Path.{◌≡◌, sym, ◌∙◌}
+use mathlib.Core.Path.{sym, ◌∙◌}
+use Rattle.std.proofs.lemmas.Result.{err_from_is_err_and}
 use Rattle.field.proofs.Repeat.{repeat_end, repeat_turn, repeat_stop}
 use Rattle.finder.proofs.pass.several.Goals as goal
 
-pub loop-i-init : goal.loop-i-init
-loop-i-init c =
-    let n = c.args.n in
-    let all : n - 0 ≡ n = omega arith in
-    (omega arith, rw all)
+pub returns-in_err-p : goal.returns-in_err-p
+returns-in_err-p c =
+    let p = err_from_is_err_and c.from_residual.result c.from_residual.ensures.1 in
+    rw (p.1, p.2) (sym (c.loop.invariant ∙ repeat_stop _ _ _ _ _ c.loop-test.true (sym c.list.ensures ∙ c.in_err-p.was)))
 
-pub list-requires : goal.list-requires
-list-requires c = c.requires
-
-pub returns-in-Stop : goal.returns-in-Stop
-returns-in-Stop c =
-    sym (c.loop-i.invariant.1 ∙ repeat_stop _ _ _ _ _ _ c.loop-i-test.true (sym c.list.ensures ∙ c.in-Stop.is))
-
-pub loop-i-preserved : goal.loop-i-preserved
-loop-i-preserved c =
-    let step = sym c.list.ensures ∙ c.in-Next.is in
-    (omega arith, c.loop-i.invariant.1 ∙ repeat_turn _ _ _ _ _ c.loop-i-test.true step)
+pub loop-preserved : goal.loop-preserved
+loop-preserved c = c.loop.invariant ∙ repeat_turn _ _ _ _ _ c.loop-test.true (sym c.list.ensures ∙ c.in_ok-p.was)
 
 pub returns : goal.returns
-returns c = sym (c.loop-i.invariant.1 ∙ repeat_end _ _ _ _ c.loop-i-test.false)
+returns c = sym (c.loop.invariant ∙ repeat_end _ _ _ _ c.loop-test.false)

@@ -9,11 +9,12 @@ use Rattle.finder.proofs.pass.to_end.Goals as goal
 pub returns-then-s-end : goal.returns-then-s-end
 unfolding pass_items
 returns-then-s-end c =
-    let a = c.args in
-    sym (digits-passed (table_of a.k).rows _ _ _ ∙ rw (lt-leb _ _ (rw c.digits_size.ensures.0 at c.if-s-end.true)))
+    rw c.at.ensures
+    (sym (digits-passed (table_of c.args.k).rows _ _ _ ∙ rw (lt-leb _ _ (rw c.digits_size.ensures.0 at c.if-s-end.true))))
 
 pub returns : goal.returns
 unfolding pass_items
 returns c =
-    let a = c.args in
-    sym (digits-passed (table_of a.k).rows _ _ _ ∙ rw (le-leb _ _ (rw c.digits_size.ensures.0 at c.if-s-end.false), c.digits_size.ensures.0))
+    sym
+    (digits-passed (table_of c.args.k).rows _ _ _
+    ∙ rw (le-leb _ _ (rw c.digits_size.ensures.0 at c.if-s-end.false), c.digits_size.ensures.0))

@@ -14,11 +14,7 @@ use mir.Val.{to_z, of_z, SFits}
 use mir.Facts.{to_z-of_z, to_z_pos, sfits_widen}
 use borrow.Author.Tests.{le-ltb, lt-ltb, not-true, not-false, ltb-true}
 use Rattle.gust.proofs.answer.derived_gust.Goals as goal
-use Rattle.gust.proofs.answer.derived_gust.Goals.{After-in_range, Else-not-in_range, Else-row-ge36}
-
-pub returns-then-row-ge36 : goal.returns-then-row-ge36
-unfolding derived rows
-returns-then-row-ge36 c = rw (le-ltb c.args.row 36 c.if-row-ge36.true)
+use Rattle.gust.proofs.answer.derived_gust.Goals.{After-in_range, Else-not-in_range, Else-row-ge36, then-row-ge36-via-then-row-ge36, then-row-ge36-via-else-row-ge36+then-not-in_range}
 
 tested : (c : After-in_range)
     → c.in_range.result
@@ -29,9 +25,16 @@ existing : (c : Else-row-ge36) → ltb c.args.row (length rows) ≡ true
 unfolding rows
 existing c = lt-ltb c.args.row 36 c.if-row-ge36.false
 
-pub returns-then-not-in_range : goal.returns-then-not-in_range
-unfolding derived
-returns-then-not-in_range c = rw (existing (goal.at.returns-then-not-in_range c).Else-row-ge36, sym (tested (goal.at.returns-then-not-in_range c).After-in_range), not-true c.in_range.result c.if-not-in_range.true-raw)
+-- no such row, or an input outside its range
+pub returns-then-row-ge36 : goal.returns-then-row-ge36
+unfolding derived rows
+returns-then-row-ge36 c =
+    elim c.then-row-ge36.branch [
+      | then-row-ge36-via-then-row-ge36 w ↦ rw (le-ltb c.args.row 36 w.if-row-ge36.true)
+      | then-row-ge36-via-else-row-ge36+then-not-in_range w ↦
+          let t : w.in_range.result ≡ in_range c.args.h c.args.m c.args.n c.args.v = rw (w.in_range.ensures, to_z-of_z c.ranges.h) in
+          rw (lt-ltb c.args.row 36 w.if-row-ge36.false, sym t, not-true w.in_range.result w.if-not-in_range.true-raw)
+    ]
 
 passed : (c : Else-not-in_range)
     → in_range c.args.h c.args.m c.args.n c.args.v

@@ -63,11 +63,11 @@ returns-then-x-lt0 c =
     (over_below c.args.x c.args.d c.requires (rw (own (goal.at.returns-then-x-lt0 c).Start) at c.if-x-lt0.true))
 
 -- src/floor.rt:15:5
-pub nonzero_div-result-2 : goal.nonzero_div-result-2
-nonzero_div-result-2 c = (not-zero (goal.at.nonzero_div-result-2 c).Start, rw (at_least (goal.at.nonzero_div-result-2 c).Else-x-lt0, divisor (goal.at.nonzero_div-result-2 c).Start) (quotient (goal.at.nonzero_div-result-2 c).Start))
+pub nonzero_div-result-else-x-lt0 : goal.nonzero_div-result-else-x-lt0
+nonzero_div-result-else-x-lt0 c = (not-zero (goal.at.nonzero_div-result-else-x-lt0 c).Start, rw (at_least (goal.at.nonzero_div-result-else-x-lt0 c).Else-x-lt0, divisor (goal.at.nonzero_div-result-else-x-lt0 c).Start) (quotient (goal.at.nonzero_div-result-else-x-lt0 c).Start))
 
 -- src/floor.rt:8:1
-pub returns : goal.returns
-returns c =
-    rw (at_least (goal.at.returns c).Else-x-lt0, divisor (goal.at.returns c).Start, to_z-of_z (quotient (goal.at.returns c).Start))
-    (over-above c.args.x c.args.d c.requires (rw (own (goal.at.returns c).Start) at c.if-x-lt0.false))
+pub returns-else-x-lt0 : goal.returns-else-x-lt0
+returns-else-x-lt0 c =
+    rw (at_least (goal.at.returns-else-x-lt0 c).Else-x-lt0, divisor (goal.at.returns-else-x-lt0 c).Start, to_z-of_z (quotient (goal.at.returns-else-x-lt0 c).Start))
+    (over-above c.args.x c.args.d c.requires (rw (own (goal.at.returns-else-x-lt0 c).Start) at c.if-x-lt0.false))

@@ -1,7 +1,7 @@
 use native.Mathlib.Omega.{arith}
 use mathlib.Core.Path.{◌≡◌, refl, ◌∙◌}
 use mathlib.Core.List.{[], ◌∷◌}
-use lib.ListN.{length, set, length-set}
+use lib.ListN.{length, set}
 use borrow.Rule.Slice.PartMut.{put_mid}
 use Rattle.text.specs.Over.{over}
 use Rattle.text.specs.Parts.{part}
@@ -38,12 +38,6 @@ long c =
     let m = c.larger.result in
     let eight = indicators_length x y c.requires.0 c.requires.1 in
     length_then d (put_mid 1 8 (set d 0 m) c.put_chosen.new.d) (m ∷ choose 48 (part 13 8 x) (part 13 8 y)) 0 (wrote c) (omega (arith, c.requires))
-
-pub slice_bounds-put_chosen-end-3 : goal.slice_bounds-put_chosen-end-3
-slice_bounds-put_chosen-end-3 c = omega (arith, c.requires, length-set c.args.d.now 0 c.larger.result)
-
-pub bounds-d-9 : goal.bounds-d-9
-bounds-d-9 c = omega (arith, long (goal.at.bounds-d-9 c).After-put_chosen, c.requires)
 
 pub returns : goal.returns
 unfolding join_back

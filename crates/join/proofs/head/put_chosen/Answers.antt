@@ -8,12 +8,6 @@ use lib.Seq.{take-suc-set, take_all}
 use Rattle.join.proofs.Side.{choose_turn, choose_done}
 use Rattle.join.proofs.head.put_chosen.Goals as goal
 
-pub bounds-second-i : goal.bounds-second-i
-bounds-second-i c = omega (arith, c.requires)
-
-pub bounds-d-i : goal.bounds-d-i
-bounds-d-i c = omega (arith, c.requires, c.loop-i.invariant)
-
 pub loop-i-preserved : goal.loop-i-preserved
 loop-i-preserved c = let l = c.loop-i in
     let f = c.args.first.now in
@@ -21,12 +15,11 @@ loop-i-preserved c = let l = c.loop-i in
     let lt : l.i < length f = c.loop-i-test.true in
     let lg : l.i < length g = omega (arith, c.requires) in
     let ld : l.i < length l.d = omega (arith, c.requires, l.invariant) in (
-      omega arith,
-      length-set l.d l.i c.chosen.result ∙ l.invariant.1,
-      l.invariant.2 ∙ rw (choose_turn c.args.none f g l.i lt lg, add-one, take-suc-set l.d l.i c.chosen.result ld, append_assoc, c.chosen.ensures),
+      length-set l.d l.i c.chosen.result ∙ l.invariant.0,
+      l.invariant.1 ∙ rw (choose_turn c.args.none f g l.i lt lg, add-one, take-suc-set l.d l.i c.chosen.result ld, append_assoc, c.chosen.ensures),
     )
 
 pub returns : goal.returns
 returns c = let l = c.loop-i in
     let d = take_all l.i l.d (omega (arith, c.requires, l.invariant)) in
-    sym (l.invariant.2 ∙ rw (choose_done c.args.none c.args.first.now c.args.second.now l.i c.loop-i-test.false, d, append-nil l.d))
+    sym (l.invariant.1 ∙ rw (choose_done c.args.none c.args.first.now c.args.second.now l.i c.loop-i-test.false, d, append-nil l.d))

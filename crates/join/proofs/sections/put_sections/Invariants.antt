@@ -1,7 +1,7 @@
 -- `join::sections::put_sections` meets its contract. The loop's invariant: d is what it was with the sections so far over its start.
 use mathlib.Core.Path.{◌≡◌}
 use mathlib.Core.List.{List, ◌++◌}
-use Prim.Native.Nat.{ℕ, ◌-◌, ◌≤◌}
+use Prim.Native.Nat.{ℕ, ◌-◌}
 use lib.ListN.{length, drop}
 use Rattle.text.specs.Over.{over}
 use Rattle.section.specs.Layout.{numbers}
@@ -16,7 +16,4 @@ pub record Written (a b d₀ d : List ℕ) (at k : ℕ) : Type 0 where
   pub rest : join_sections numbers a b ≡ text ++ join_sections (drop (k - 2) numbers) a b
 
 abbrev pub invariant-loop-k : goal.invariant-loop-k
-invariant-loop-k l = (2 ≤ l.k) × (l.k ≤ 10) × (length l.d ≡ length l.initial.d) × Written l.a l.b l.initial.d l.d l.at l.k
-
-abbrev pub decreases-loop-k : goal.decreases-loop-k
-decreases-loop-k l = 10 - l.k
+invariant-loop-k l = (length l.d ≡ length l.initial.d) × Written l.a.text.now l.b.text.now l.initial.d l.d l.at l.k

@@ -3,44 +3,29 @@ use mathlib.Core.Path.{◌≡◌, ap}
 use Prim.Native.Nat.{◌+◌, ◌-◌}
 use lib.ListN.{length, drop}
 use Rattle.section.specs.Layout.{numbers}
-use Rattle.join.specs.Join.{join_section, join_sections}
+use Rattle.join.specs.Join.{join_sections}
 use Rattle.join.proofs.Side.{sections-length, sections_end, sides_short}
 use Rattle.join.proofs.sections.sections_size.Goals as goal
-use Rattle.join.proofs.sections.sections_size.Goals.{After-section_size-total}
-
-pub section_size-total-requires : goal.section_size-total-requires
-section_size-total-requires c =
-    (c.loop-k.invariant.0, omega (arith, c.loop-k-test.true), c.requires.0, c.requires.1)
+use Rattle.join.proofs.sections.sections_size.Goals.{After-section}
 
 -- one section more
-step : (c : After-section_size-total)
+step : (c : After-section)
     → let l = c.loop-k in
-    let a = c.args in
-    length (join_sections (drop (l.k - 2) numbers) a.a.now a.b.now)
-    ≡ length (join_section a.a.now a.b.now l.k) + length (join_sections (drop (l.k + 1 - 2) numbers) a.a.now a.b.now)
+    let a = c.args.a.now.text.now in
+    let b = c.args.b.now.text.now in
+    length (join_sections (drop (l.k - 2) numbers) a b) ≡ length c.section.result.now + length (join_sections (drop (l.k + 1 - 2) numbers) a b)
 step c =
-    let l = c.loop-k in
-    let a = c.args in
-    sections-length a.a.now a.b.now l.k l.invariant.0 c.loop-k-test.true
+    let a = c.args.a.now.text.now in
+    let b = c.args.b.now.text.now in
+    omega (arith, ap length c.section.ensures, sections-length a b c.loop-k.k (omega arith) c.loop-k-test.true)
 
 pub overflow_add-total : goal.overflow_add-total
 overflow_add-total c =
-    let l = c.loop-k in
-    omega (arith, c.section_size-total.ensures, l.invariant.2, step (goal.at.overflow_add-total c).After-section_size-total, sides_short c.args.a.now c.args.b.now c.requires.0.fine c.requires.1.fine)
-
-pub overflow_add-k : goal.overflow_add-k
-overflow_add-k c = omega (arith, c.loop-k.invariant.1)
-
-pub loop-k-smaller : goal.loop-k-smaller
-loop-k-smaller c = omega (arith, c.loop-k-test.true)
+    omega
+    (arith, step (goal.at.overflow_add-total c).After-section, sides_short c.args.a.now.text.now c.args.b.now.text.now c.requires.0.fine c.requires.1.fine)
 
 pub loop-k-preserved : goal.loop-k-preserved
-loop-k-preserved c =
-    let l = c.loop-k in
-    (omega (arith, l.invariant.0), omega (arith, c.loop-k-test.true), omega (arith, c.section_size-total.ensures, l.invariant.2, step (goal.at.loop-k-preserved c).After-section_size-total))
+loop-k-preserved c = omega (arith, step (goal.at.loop-k-preserved c).After-section)
 
 pub returns : goal.returns
-returns c =
-    let l = c.loop-k in
-    let a = c.args in
-    omega (arith, l.invariant.2, ap length (sections_end a.a.now a.b.now l.k c.loop-k-test.false))
+returns c = omega (arith, ap length (sections_end c.args.a.now.text.now c.args.b.now.text.now c.loop-k.k c.loop-k-test.false))

@@ -5,9 +5,9 @@ use Rattle.journal.specs.Journal.{walk}
 use Rattle.journal.specs.Inner.{with_size}
 use Rattle.journal.proofs.print.printed_size.Given as goal
 
-abbrev pub invariant-loop-place : goal.invariant-loop-place
-invariant-loop-place l =
+abbrev pub invariant-loop-entry : goal.invariant-loop-entry
+invariant-loop-entry l =
     (l.size ≤ 2 * (65535 - l.here)) × (walk (with_size l.journal) l.journal l.end 0 ≡ walk (with_size l.journal) l.journal l.here l.size)
 
-abbrev pub decreases-loop-place : goal.decreases-loop-place
-decreases-loop-place l = l.here
+abbrev pub decreases-loop-entry : goal.decreases-loop-entry
+decreases-loop-entry l = l.here

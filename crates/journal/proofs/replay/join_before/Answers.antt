@@ -14,24 +14,24 @@ use Rattle.journal.specs.Inner.{Holds}
 use Rattle.journal.proofs.Replays.{joins, held-over, text-refused, text_same}
 use Rattle.command.specs.Text.{longest}
 use Rattle.journal.proofs.replay.join_before.Goals as goal
-use Rattle.journal.proofs.replay.join_before.Goals.{In-Text}
+use Rattle.journal.proofs.replay.join_before.Goals.{In-Ok}
 
 -- the buffer before
 abbrev blank : List ℕ
 blank = replicate longest 0
 
 -- the joined text, in the buffer that it was written over
-joined_is : (c : In-Text)
+joined_is : (c : In-Ok)
     → let u = join_text c.before.args.text.now (take c.before.args.m c.before.args.later.now) in
-    (length u ≡ c.in-Text.n) × (c.join_texts.new.out ≡ over blank 0 u) × (length u ≤ longest)
+    (length u ≡ c.in-Ok.n) × (c.join_texts.new.out ≡ over blank 0 u) × (length u ≤ longest)
 joined_is c =
     let j = joins c.before.args.text.now (take c.before.args.m c.before.args.later.now) c.before.requires.0 c.before.requires.1.fine in (
-      text_same _ _ (ap told (sym j) ∙ sym c.join_texts.ensures.0 ∙ c.in-Text.is),
+      text_same _ _ (ap told (sym j) ∙ sym c.join_texts.ensures.0 ∙ c.in-Ok.is),
       c.join_texts.ensures.1 ∙ ap (λ (x : Joined). joined_over x blank) j,
       join-short c.before.args.text.now (take c.before.args.m c.before.args.later.now) c.before.requires.0 c.before.requires.1.fine,
     )
 
-joined-room : (c : In-Text) → c.in-Text.n ≤ length c.join_texts.new.out
+joined-room : (c : In-Ok) → c.in-Ok.n ≤ length c.join_texts.new.out
 joined-room c =
     let is = joined_is c in
     let u = join_text c.before.args.text.now (take c.before.args.m c.before.args.later.now) in
@@ -42,21 +42,21 @@ pub slice_bounds-join_texts-end-2 : goal.slice_bounds-join_texts-end-2
 slice_bounds-join_texts-end-2 c = sym (length-take-le _ _ (omega (arith, c.before.requires.1.room, c.before.requires.1.short)))
 
 pub slice_bounds-joined-end : goal.slice_bounds-joined-end
-slice_bounds-joined-end c = joined-room (goal.at.slice_bounds-joined-end c).In-Text
+slice_bounds-joined-end c = joined-room (goal.at.slice_bounds-joined-end c).In-Ok
 
 pub slice_bounds-copy-end : goal.slice_bounds-copy-end
-slice_bounds-copy-end c = sym (length-take-le _ _ (joined-room (goal.at.slice_bounds-copy-end c).In-Text))
+slice_bounds-copy-end c = sym (length-take-le _ _ (joined-room (goal.at.slice_bounds-copy-end c).In-Ok))
 
-pub returns-in-Refused : goal.returns-in-Refused
-returns-in-Refused c =
+pub returns-in-Err : goal.returns-in-Err
+returns-in-Err c =
     let m = ap told (joins c.before.args.text.now (take c.before.args.m c.before.args.later.now) c.before.requires.0 c.before.requires.1.fine) in
-    text-refused _ _ _ _ (sym (c.join_texts.ensures.0 ∙ m) ∙ c.in-Refused.is)
+    text-refused _ _ (sym (c.join_texts.ensures.0 ∙ m) ∙ c.in-Err.is)
 
-pub returns-in-Text : goal.returns-in-Text
-returns-in-Text c =
+pub returns-in-Ok : goal.returns-in-Ok
+returns-in-Ok c =
     let u = join_text c.before.args.text.now (take c.before.args.m c.before.args.later.now) in
-    let is = joined_is (goal.at.returns-in-Text c).In-Text in
-    let n = c.in-Text.n in
+    let is = joined_is (goal.at.returns-in-Ok c).In-Ok in
+    let n = c.in-Ok.n in
     let l = c.join_texts.new.out in
     let fits : 0 + length u ≤ length blank = omega (arith, is.2) in
     let found : take n l ≡ u = ap (λ (k : ℕ). take k l) (sym is.0) ∙ rw is.1 (found-over blank 0 u fits) in

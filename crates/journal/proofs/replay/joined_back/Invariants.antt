@@ -6,10 +6,10 @@ use Rattle.journal.specs.Journal.{walk}
 use Rattle.journal.specs.Inner.{joined_at, Holds}
 use Rattle.journal.proofs.replay.joined_back.Given as goal
 
-abbrev pub invariant-loop-place : goal.invariant-loop-place
-invariant-loop-place l =
+abbrev pub invariant-loop-entry : goal.invariant-loop-entry
+invariant-loop-entry l =
     Holds l.later l.m (take l.m l.later)
     × (walk (joined_at l.journal l.designator) l.journal l.end no_change_text ≡ walk (joined_at l.journal l.designator) l.journal l.here (take l.m l.later))
 
-abbrev pub decreases-loop-place : goal.decreases-loop-place
-decreases-loop-place l = l.here
+abbrev pub decreases-loop-entry : goal.decreases-loop-entry
+decreases-loop-entry l = l.here

@@ -1,38 +1,19 @@
 -- `lists::check::boxes` meets its contract: the count, then as many entries.
 use native.Mathlib.Omega.{arith}
 use lib.Dec.{lit≤}
-use mathlib.Core.Path.{◌≡◌, sym, ◌∙◌}
-use Rattle.field.specs.declared.Step.TheVariants.{Next}
-use Rattle.field.specs.Fields.{check_number}
+use mathlib.Core.Path.{sym, ◌∙◌}
 use Rattle.field.proofs.Accepted.{Number, number}
-use Rattle.lists.specs.Lists.{check_list}
 use Rattle.lists.proofs.check.boxes.Goals as goal
-use Rattle.lists.proofs.check.boxes.Goals.{In-Next}
+use Rattle.lists.proofs.check.boxes.Goals.{In_ok-first}
 
 -- the count is accepted
-seen : (c : In-Next)
-    → let a = c.args in
-    check_number 2 0 16 a.s.now a.at ≡ Next c.in-Next.first
-seen c = sym c.digits-count.ensures ∙ c.in-Next.is
-
-count : (c : In-Next)
-    → let a = c.args in
-    Number 2 0 16 a.s.now a.at c.in-Next.first
-count c = number _ _ _ _ _ _ _ (seen c)
-
-pub digits-count-requires : goal.digits-count-requires
-digits-count-requires c = record { at_in_bounds = c.requires; w_bound = (lit≤ tt, lit≤ tt) }
+count : (c : In_ok-first) → let a = c.args in Number 2 0 16 a.s.now a.at c.in_ok-first.first
+count c = number _ _ _ _ _ _ _ (sym c.digits.ensures ∙ c.in_ok-first.was)
 
 pub value_at-requires : goal.value_at-requires
-value_at-requires c = record { w_in_bounds = (count (goal.at.value_at-requires c).In-Next).room; w_bound = lit≤ tt; s_value = (count (goal.at.value_at-requires c).In-Next).digits }
+value_at-requires c =
+    let n = count (goal.at.value_at-requires c).In_ok-first in
+    record { w_in_bounds = n.room; w_bound = lit≤ tt; s_value = n.digits }
 
 pub each_box-requires : goal.each_box-requires
-each_box-requires c = omega (arith, (count (goal.at.each_box-requires c).In-Next).room, (count (goal.at.each_box-requires c).In-Next).next)
-
-pub returns-in-Stop : goal.returns-in-Stop
-unfolding check_list
-returns-in-Stop c = rw (sym c.digits-count.ensures ∙ c.in-Stop.is)
-
-pub returns-in-Next : goal.returns-in-Next
-unfolding check_list
-returns-in-Next c = rw (seen (goal.at.returns-in-Next c).In-Next, c.each_box.ensures, c.value_at.ensures)
+each_box-requires c = let n = count (goal.at.each_box-requires c).In_ok-first in omega (arith, n.room, n.next)

@@ -13,10 +13,10 @@ returns-then-n-eq0 c at =
     let none : c.args.count ≡ 0 = sym c.wide-n.ensures ∙ c.if-n-eq0.true in
     c.regions_zero.ensures ∙ sym (boxes-fine at _ ∙ rw none (and-true _))
 
-pub returns-then-n-gt-MOST_BOXES : goal.returns-then-n-gt-MOST_BOXES
-returns-then-n-gt-MOST_BOXES c at = sym (boxes-fine at _ ∙ rw (lt-leb _ 16 (rw c.wide-n.ensures at c.if-n-gt-MOST_BOXES.true)))
+pub returns-then-n-le-MOST_BOXES : goal.returns-then-n-le-MOST_BOXES
+returns-then-n-le-MOST_BOXES c at =
+    rw (c.regions_zero-then-n-le-MOST_BOXES.ensures, c.regions_are.ensures (at + 2), c.wide-n.ensures)
+    (sym (boxes-fine at _ ∙ rw (le-leb _ 16 (rw c.wide-n.ensures at c.if-n-le-MOST_BOXES.true))))
 
-pub returns : goal.returns
-returns c at =
-    rw (c.regions_zero-2.ensures, c.regions_are.ensures (at + 2), c.wide-n.ensures)
-    (sym (boxes-fine at _ ∙ rw (le-leb _ 16 (rw c.wide-n.ensures at c.if-n-gt-MOST_BOXES.false))))
+pub returns-else-n-le-MOST_BOXES : goal.returns-else-n-le-MOST_BOXES
+returns-else-n-le-MOST_BOXES c at = rw (boxes-fine at _, c.wide-n.ensures, lt-leb c.args.count 16 (rw c.wide-n.ensures at c.if-n-le-MOST_BOXES.false))

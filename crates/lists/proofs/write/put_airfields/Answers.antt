@@ -2,11 +2,11 @@
 use borrow.Author.Rules.{rules}
 use native.Mathlib.Omega.{arith}
 use Prim.Native.Nat.{◌≤◌, ◌+◌, ◌*◌}
-use lib.ListN.{length, take}
+use lib.ListN.{length, take, drop}
 use lib.Seq.{length-take-le}
 use mathlib.Core.Path.{◌≡◌, sym, ◌∙◌}
-use borrow.Rule.Slice.PartMut.{put_mid}
-use Rattle.text.proofs.Over.{then_copy}
+use mathlib.Core.List.{◌++◌}
+use Rattle.text.proofs.Over.{then_whole}
 use Rattle.field.specs.Decimal.{decimal}
 use Rattle.field.proofs.Decimal.{decimal-length}
 use Rattle.lists.specs.Lists.{airfields_text}
@@ -24,13 +24,6 @@ used c =
     let full : length c.args.l.names ≡ 80 = search rules in
     omega (arith, full, c.requires, c.wide-n.ensures)
 
-pub slice_bounds-names-end : goal.slice_bounds-names-end
-slice_bounds-names-end c = used (goal.at.slice_bounds-names-end c).After-wide-n
-
-pub slice_bounds-copy-end-2 : goal.slice_bounds-copy-end-2
-slice_bounds-copy-end-2 c =
-    sym (length-take-le (4 * c.wide-n.result) c.args.l.names (used (goal.at.slice_bounds-copy-end-2 c).After-wide-n))
-
 pub returns : goal.returns
 unfolding airfields_text
 returns c =
@@ -41,5 +34,5 @@ returns c =
     let long : length names ≡ 4 * n = length-take-le (4 * n) a.l.names (used (goal.at.returns c).After-wide-n) in
     let two : length (decimal 2 n) ≡ 2 = decimal-length 2 n in
     let first = count-written a.d.now c.put_decimal.new.d n (omega (arith, c.requires)) c.put_decimal.ensures in
-    let both = then_copy a.d.now (put_mid 0 2 a.d.now c.put_decimal.new.d) c.copy.new.d (decimal 2 n) names 0 2 (2 + 4 * n) first (omega arith) (omega arith) (omega (arith, c.requires)) c.copy.ensures in
+    let both = then_whole a.d.now (c.put_decimal.new.d ++ drop 2 a.d.now) c.copy_from_slice.new.self (decimal 2 n) names 0 2 (2 + 4 * n) first (omega arith) (omega arith) (omega (arith, c.requires)) c.copy_from_slice.ensures.after in
     (rw e (sym (airfields-length a.l (omega (arith, full (goal.at.returns c).Start, c.requires)))), both ∙ rw e)

@@ -1,10 +1,10 @@
 -- `lists::write::put_boxes` meets its contract: the count, then the boxes in use.
 use native.Mathlib.Omega.{arith}
 use Prim.Native.Nat.{◌+◌, ◌*◌}
-use lib.ListN.{length, take}
+use lib.ListN.{length, take, drop}
 use lib.Seq.{length-take-le}
 use mathlib.Core.Path.{◌≡◌, sym, ◌∙◌}
-use borrow.Rule.Slice.PartMut.{put_mid}
+use mathlib.Core.List.{◌++◌}
 use Rattle.text.proofs.Over.{then_part}
 use Rattle.field.specs.Decimal.{decimal}
 use Rattle.field.proofs.Decimal.{decimal-length}
@@ -29,5 +29,5 @@ returns c =
     let long : length (regions_text bs) ≡ 14 * n = regions-text-length bs ∙ rw (length-take-le n a.l.regions (omega (arith, full (goal.at.returns c).Start, c.requires))) in
     let two : length (decimal 2 n) ≡ 2 = decimal-length 2 n in
     let first = count-written a.d.now c.put_decimal.new.d n (omega (arith, c.requires)) c.put_decimal.ensures in
-    let both = then_part a.d.now (put_mid 0 2 a.d.now c.put_decimal.new.d) c.put_regions.new.d (decimal 2 n) (regions_text bs) 0 2 (2 + 14 * n) first (omega arith) (omega arith) (omega (arith, c.requires)) c.put_regions.ensures in
+    let both = then_part a.d.now (c.put_decimal.new.d ++ drop 2 a.d.now) c.put_regions.new.d (decimal 2 n) (regions_text bs) 0 2 (2 + 14 * n) first (omega arith) (omega arith) (omega (arith, c.requires)) c.put_regions.ensures in
     (rw e (sym (boxes-length a.l (omega (arith, full (goal.at.returns c).Start, c.requires)))), both ∙ rw e)

@@ -1,5 +1,4 @@
 -- `lists::write::put_regions` meets its contract. The loop's invariant: d is what it was with the first i boxes over its start.
-use Prim.Native.Nat.{◌≤◌, ◌-◌, ◌*◌}
 use lib.ListN.{length, take}
 use mathlib.Core.Path.{◌≡◌}
 use Rattle.text.specs.Over.{over}
@@ -7,7 +6,4 @@ use Rattle.lists.specs.Lists.{regions_text}
 use Rattle.lists.proofs.write.put_regions.Given as goal
 
 abbrev pub invariant-loop-i : goal.invariant-loop-i
-invariant-loop-i l = (l.i ≤ l.n) × (length l.d ≡ length l.initial.d) × (l.p ≡ 14 * l.i) × (l.d ≡ over l.initial.d 0 (regions_text (take l.i l.regions)))
-
-abbrev pub decreases-loop-i : goal.decreases-loop-i
-decreases-loop-i l = l.n - l.i
+invariant-loop-i l = (length l.d ≡ length l.initial.d) × (l.d ≡ over l.initial.d 0 (regions_text (take l.i l.regions)))

@@ -12,7 +12,7 @@ use Rattle.packed.specs.Decoding.{step_of, finish_of, decoded}
 use Rattle.packed.proofs.Bounds.{cond-le}
 use Rattle.packed.proofs.Decoding.{seen, unit-at, in_width, too_short, too_long, turn, ended}
 use Rattle.packed.proofs.decode.decode.Goals as goal
-use Rattle.packed.proofs.decode.decode.Goals.{After-either-v}
+use Rattle.packed.proofs.decode.decode.Goals.{After-either-v, then-w-lt1-via-then-w-lt1, then-w-lt1-via-else-w-lt1+then-w-gt5}
 
 -- what a byte adds is a byte
 adds : (c : After-either-v) → c.either-v.result ≤ 255
@@ -23,10 +23,11 @@ adds c =
     omega (arith, c.either-v.ensures, e)
 
 pub returns-then-w-lt1 : goal.returns-then-w-lt1
-returns-then-w-lt1 c = c.none.ensures ∙ too_short _ c.if-w-lt1.true
-
-pub returns-then-w-gt5 : goal.returns-then-w-gt5
-returns-then-w-gt5 c = c.none-then-w-gt5.ensures ∙ too_long _ c.if-w-lt1.false c.if-w-gt5.true
+returns-then-w-lt1 c =
+    elim c.then-w-lt1.branch [
+      | then-w-lt1-via-then-w-lt1 w ↦ c.none.ensures ∙ too_short _ w.if-w-lt1.true
+      | then-w-lt1-via-else-w-lt1+then-w-gt5 w ↦ c.none.ensures ∙ too_long _ w.if-w-lt1.false w.if-w-gt5.true
+    ]
 
 pub loop-i-init : goal.loop-i-init
 loop-i-init c =

@@ -1,13 +1,19 @@
-use native.Mathlib.Omega.{arith}
-use Rattle.packed.proofs.Scan.{trim_space, trim-other, trim_end}
-use mathlib.Core.Path.{sym, ◌∙◌}
+use mathlib.Core.Path.{◌≡◌, refl, ap, ◌∙◌}
+use mathlib.Core.Bool.{not}
+use Prim.Native.Nat.{ℕ}
+use lib.Dec.{eqb}
+use lib.ListN.{length}
+use Rattle.std.specs.Option.{unwrap_or}
+use Rattle.std.specs.Prelude.{Option}
+use Rattle.packed.specs.Packed.{ahead}
+use Rattle.packed.proofs.Scan.{is_space, ahead-position, ahead-le, ahead-trim}
 use Rattle.packed.proofs.read.behind_spaces.Goals as goal
 
-pub returns-then-f-i-ne32 : goal.returns-then-f-i-ne32
-returns-then-f-i-ne32 c = (c.loop-i.invariant.0, sym (c.loop-i.invariant.1 ∙ trim-other _ _ c.loop-i-test.true c.if-f-i-ne32.true))
-
-pub loop-i-preserved : goal.loop-i-preserved
-loop-i-preserved c = (omega arith, c.loop-i.invariant.1 ∙ trim_space _ _ c.loop-i-test.true c.if-f-i-ne32.false)
-
 pub returns : goal.returns
-returns c = (c.loop-i.invariant.0, sym (c.loop-i.invariant.1 ∙ trim_end _ _ c.loop-i-test.false))
+returns c =
+    let f = c.args.f.now in
+    let same : c.unwrap_or.result ≡ ahead is_space f =
+    c.unwrap_or.ensures
+    ∙ ap (λ (x : Option ℕ). unwrap_or x (length f)) c.first_other.ensures
+    ∙ ahead-position is_space (λ (b : ℕ). not (eqb b 32)) (λ (b : ℕ). refl) f in
+    rw same (ahead-le is_space f, ahead-trim f)

@@ -1,19 +1,16 @@
-use native.Mathlib.Omega.{arith}
-use Rattle.packed.proofs.Scan.{ahead_step, ahead_stop, ahead_end}
-use Rattle.packed.specs.Packed.{is_digit}
-use mathlib.Core.Path.{sym, ◌∙◌}
-use borrow.Author.Tests.{lt-ltb, le-ltb}
+use mathlib.Core.Path.{ap, ◌∙◌}
+use Prim.Native.Nat.{ℕ}
+use lib.Dec.{leb}
+use lib.ListN.{length}
+use Rattle.std.specs.Option.{unwrap_or}
+use Rattle.std.specs.Prelude.{Option}
+use Rattle.packed.specs.Packed.{worth_of, is_digit}
+use Rattle.packed.proofs.Scan.{ahead-position, forty}
 use Rattle.packed.proofs.read.digits_ahead.Goals as goal
 
-pub returns-then-worth-ge40 : goal.returns-then-worth-ge40
-returns-then-worth-ge40 c =
-    let w = rw c.worth.ensures at c.if-worth-ge40.true in
-    sym (c.loop-i.invariant.1 ∙ ahead_stop is_digit _ _ c.loop-i-test.true (le-ltb _ 40 w))
-
-pub loop-i-preserved : goal.loop-i-preserved
-loop-i-preserved c =
-    let w = rw c.worth.ensures at c.if-worth-ge40.false in
-    (omega arith, c.loop-i.invariant.1 ∙ ahead_step is_digit _ _ c.loop-i-test.true (lt-ltb _ 40 w))
-
 pub returns : goal.returns
-returns c = sym (c.loop-i.invariant.1 ∙ ahead_end is_digit _ _ c.loop-i-test.false)
+returns c =
+    let f = c.args.f.now in
+    c.unwrap_or.ensures
+    ∙ ap (λ (x : Option ℕ). unwrap_or x (length f)) c.first_odd.ensures
+    ∙ ahead-position is_digit (λ (b : ℕ). leb 40 (worth_of b)) (λ (b : ℕ). forty (worth_of b)) f

@@ -3,8 +3,8 @@ use mathlib.Core.Path.{◌≡◌, ap, ◌∙◌}
 use Prim.Native.Nat.{ℕ, ◌+◌}
 use lib.ListN.{drop, length-drop}
 use Rattle.packed.specs.Packed.{is_digit, ahead}
-use Rattle.packed.proofs.Fault.{ahead-le, behind_end, behind-at}
-use Rattle.packed.proofs.Scan.{tail}
+use Rattle.packed.proofs.Fault.{behind_end, behind-at}
+use Rattle.packed.proofs.Scan.{ahead-le, tail}
 use Rattle.packed.proofs.read.fault_behind.Goals as goal
 use Rattle.packed.proofs.read.fault_behind.Goals.{After-digits_ahead}
 
@@ -24,8 +24,8 @@ overflow_add-result c =
     let d = drop c.behind_spaces-from.result f in
     record { fits = omega (arith, seen (goal.at.overflow_add-result c).After-digits_ahead, c.requires.in_bounds, c.behind_spaces-from.ensures.0, ahead-le is_digit d, length-drop c.behind_spaces-from.result f) }
 
-pub returns : goal.returns
-returns c =
+pub returns-else-from-w : goal.returns-else-from-w
+returns-else-from-w c =
     let f = c.args.f.now in
-    ap (λ (n : ℕ). c.behind_spaces-from.result + n) (seen (goal.at.returns c).After-digits_ahead)
+    ap (λ (n : ℕ). c.behind_spaces-from.result + n) (seen (goal.at.returns-else-from-w c).After-digits_ahead)
     ∙ behind-at f c.behind_spaces-from.result c.behind_spaces-from.ensures.0 c.behind_spaces-from.ensures.1 c.if-from-w.false

@@ -1,6 +1,5 @@
-use mathlib.Core.Path.{◌≡◌, ap, ◌∙◌}
+use mathlib.Core.Path.{◌≡◌, ◌∙◌}
 use Rattle.packed.specs.Packed.{is_solidus, ahead, fault_behind}
-use Rattle.packed.specs.declared.Packed.TheVariants.{Refused}
 use Rattle.packed.proofs.Reading.{refused-solidi, refused-place, refused-more}
 use Rattle.packed.proofs.read.refused.Goals as goal
 
@@ -8,17 +7,17 @@ pub returns-then-solidi-gt0 : goal.returns-then-solidi-gt0
 returns-then-solidi-gt0 c =
     let f = c.args.f.now in
     let a : c.solidi_ahead-solidi.result ≡ ahead is_solidus f = c.solidi_ahead-solidi.ensures in
-    ap (Refused 4) a ∙ refused-solidi f (rw a at c.if-solidi-gt0.true)
+    c.at.ensures ∙ rw a (refused-solidi f (rw a at c.if-solidi-gt0.true))
 
 pub returns-then-place-f : goal.returns-then-place-f
 returns-then-place-f c =
     let f = c.args.f.now in
     let a : c.solidi_ahead-solidi.result ≡ ahead is_solidus f = c.solidi_ahead-solidi.ensures in
     let p : c.fault_behind-place.result ≡ fault_behind f = c.fault_behind-place.ensures in
-    ap (Refused 4) p ∙ refused-place f (rw a at c.if-solidi-gt0.false) (rw p at c.if-place-f.true)
+    c.at-then-place-f.ensures ∙ rw p (refused-place f (rw a at c.if-solidi-gt0.false) (rw p at c.if-place-f.true))
 
-pub returns : goal.returns
-returns c =
+pub returns-else-place-f : goal.returns-else-place-f
+returns-else-place-f c =
     let f = c.args.f.now in
     let p : c.fault_behind-place.result ≡ fault_behind f = c.fault_behind-place.ensures in
-    refused-more f c.requires.in_bounds.0 (rw p at c.if-place-f.false)
+    c.at-else-place-f.ensures ∙ refused-more f c.requires.in_bounds.0 (rw p at c.if-place-f.false)

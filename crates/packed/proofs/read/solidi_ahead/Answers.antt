@@ -1,15 +1,17 @@
-use native.Mathlib.Omega.{arith}
-use Rattle.packed.proofs.Scan.{ahead_step, ahead_stop, ahead_end}
+use mathlib.Core.Path.{refl, ap, ◌∙◌}
+use mathlib.Core.Bool.{not}
+use Prim.Native.Nat.{ℕ}
+use lib.Dec.{eqb}
+use lib.ListN.{length}
+use Rattle.std.specs.Option.{unwrap_or}
+use Rattle.std.specs.Prelude.{Option}
 use Rattle.packed.specs.Packed.{is_solidus}
-use mathlib.Core.Path.{sym, ◌∙◌}
-use borrow.Author.Tests.{eq-eqb, ne_eqb}
+use Rattle.packed.proofs.Scan.{ahead-position}
 use Rattle.packed.proofs.read.solidi_ahead.Goals as goal
 
-pub returns-then-f-i-ne47 : goal.returns-then-f-i-ne47
-returns-then-f-i-ne47 c = sym (c.loop-i.invariant.1 ∙ ahead_stop is_solidus _ _ c.loop-i-test.true (ne_eqb _ 47 c.if-f-i-ne47.true))
-
-pub loop-i-preserved : goal.loop-i-preserved
-loop-i-preserved c = (omega arith, c.loop-i.invariant.1 ∙ ahead_step is_solidus _ _ c.loop-i-test.true (eq-eqb _ 47 c.if-f-i-ne47.false))
-
 pub returns : goal.returns
-returns c = sym (c.loop-i.invariant.1 ∙ ahead_end is_solidus _ _ c.loop-i-test.false)
+returns c =
+    let f = c.args.f.now in
+    c.unwrap_or.ensures
+    ∙ ap (λ (x : Option ℕ). unwrap_or x (length f)) c.first_other.ensures
+    ∙ ahead-position is_solidus (λ (b : ℕ). not (eqb b 47)) (λ (b : ℕ). refl) f

@@ -6,8 +6,5 @@ use Rattle.lists.specs.Lists.{check_boxes}
 use Rattle.field.specs.Fields.{repeat}
 use Rattle.section.proofs.check.box_lists.Given as goal
 
-abbrev pub invariant-loop-i : goal.invariant-loop-i
-invariant-loop-i l = (l.i ≤ l.n) × (l.p ≤ length l.s) × (repeat (check_boxes l.s) l.n l.at ≡ repeat (check_boxes l.s) (l.n - l.i) l.p)
-
-abbrev pub decreases-loop-i : goal.decreases-loop-i
-decreases-loop-i l = l.n - l.i
+abbrev pub invariant-loop : goal.invariant-loop
+invariant-loop l = record { inside : l.p ≤ length l.s; left : repeat (check_boxes l.s) l.n l.at ≡ repeat (check_boxes l.s) (l.n - l.counter) l.p }

@@ -1,43 +1,51 @@
--- `section::check::check_section` meets its contract.
-use mathlib.Core.Path.{◌≡◌, sym, ap, ◌∙◌}
-use Prim.Native.Nat.{ℕ}
-use Rattle.field.specs.Fields.{repeat}
-use Rattle.lists.specs.Lists.{check_boxes}
-use Rattle.lists.proofs.Within.{boxes-within}
-use Rattle.section.specs.Layout.{BoxList, table_of, layout_of, lists_and_digits, items_of}
-use Rattle.section.proofs.Come.{Come, come_rest, lists-on, lists_stop}
+-- `section::check::check_section` meets its contract: the lists of boxes, those of airfields, the digits.
+use mathlib.Core.Path.{sym, ◌∙◌}
+use Rattle.lists.proofs.Within.{airfields-within, boxes-within}
+use Rattle.std.proofs.lemmas.Result.{err_from_is_err_and}
+use Rattle.section.specs.Layout.{AirfieldList, BoxList, table_of, layout_of, digits_of, items_of, lists_and_digits}
+use Rattle.section.proofs.Come.{Come, come_none, come_rest, lists-on, lists_stop}
 use Rattle.section.proofs.check.check_section.Goals as goal
-use Rattle.section.proofs.check.check_section.Goals.{After-box_lists, In-Next}
+use Rattle.section.proofs.check.check_section.Goals.{In_ok-behind_boxes, In_ok-behind_lists}
 
--- what the lists say
-lists : (c : After-box_lists)
+behind_boxes : (c : In_ok-behind_boxes)
     → let a = c.args in
-    c.box_lists.result ≡ repeat (check_boxes a.s.now) (table_of a.k).boxes a.at
-lists c =
-    let a = c.args in
-    c.box_lists.ensures ∙ ap (λ (n : ℕ). repeat (check_boxes a.s.now) n a.at) c.layout_of.ensures.boxes
+    Come (items_of (table_of a.k)) a.s.now a.at (lists_and_digits (table_of a.k)) c.in_ok-behind_boxes.behind_boxes
+behind_boxes c =
+    lists-on BoxList (table_of c.args.k).boxes (lists_and_digits (table_of c.args.k)) (come_none c.requires) (boxes-within c.args.s.now)
+    (sym (rw c.layout_of-l.ensures.boxes at c.box_lists.ensures) ∙ c.in_ok-behind_boxes.was)
 
-come : (c : In-Next)
+behind_lists : (c : In_ok-behind_lists)
     → let a = c.args in
-    Come (items_of (table_of a.k)) a.s.now a.at (lists_and_digits (table_of a.k)) c.in-Next.p
-come c =
-    let lists : let a = c.args in
-    c.box_lists.result ≡ repeat (check_boxes a.s.now) (table_of a.k).boxes a.at = let a = c.args in
-    c.box_lists.ensures ∙ ap (λ (n : ℕ). repeat (check_boxes a.s.now) n a.at) c.layout_of.ensures.boxes in
-    let a = c.args in
-    lists-on BoxList (table_of a.k).boxes (lists_and_digits (table_of a.k)) a.s.now a.at (boxes-within a.s.now) c.requires
-    (sym (lists) ∙ c.in-Next.is)
+    Come (items_of (table_of a.k)) a.s.now a.at (lists_and_digits (table_of a.k)) c.in_ok-behind_boxes.behind_boxes
+    → Come (items_of (table_of a.k)) a.s.now a.at (digits_of (table_of a.k)) c.in_ok-behind_lists.behind_lists
+behind_lists c come =
+    lists-on AirfieldList (table_of c.args.k).airfields (digits_of (table_of c.args.k)) come (airfields-within c.args.s.now)
+    (sym (rw c.layout_of-l.ensures.airfields at c.airfield_lists.ensures) ∙ c.in_ok-behind_lists.was)
 
-pub behind_boxes-requires : goal.behind_boxes-requires
-behind_boxes-requires c = (come (goal.at.behind_boxes-requires c).In-Next).inside
-
-pub returns-in-Stop : goal.returns-in-Stop
+pub returns-in_err-behind_boxes : goal.returns-in_err-behind_boxes
 unfolding layout_of
-returns-in-Stop c =
-    let a = c.args in
-    lists_stop BoxList (table_of a.k).boxes (lists_and_digits (table_of a.k)) a.s.now a.at
-    (sym (lists (goal.at.returns-in-Stop c).After-box_lists) ∙ c.in-Stop.is)
+returns-in_err-behind_boxes c =
+    let p = err_from_is_err_and c.from_residual.result c.from_residual.ensures.1 in
+    rw (p.1, p.2)
+    (lists_stop BoxList (table_of c.args.k).boxes (lists_and_digits (table_of c.args.k)) (come_none c.requires)
+    (sym (rw c.layout_of-l.ensures.boxes at c.box_lists.ensures) ∙ c.in_err-behind_boxes.was))
 
-pub returns-in-Next : goal.returns-in-Next
+pub airfield_lists-requires : goal.airfield_lists-requires
+airfield_lists-requires c = (behind_boxes (goal.at.airfield_lists-requires c).In_ok-behind_boxes).inside
+
+pub returns-in_err-behind_lists : goal.returns-in_err-behind_lists
 unfolding layout_of
-returns-in-Next c = come_rest (come (goal.at.returns-in-Next c).In-Next) c.behind_boxes.ensures
+returns-in_err-behind_lists c =
+    let p = err_from_is_err_and c.from_residual-in_err-behind_lists.result c.from_residual-in_err-behind_lists.ensures.1 in
+    rw (p.1, p.2)
+    (lists_stop AirfieldList (table_of c.args.k).airfields (digits_of (table_of c.args.k))
+    (behind_boxes (goal.at.returns-in_err-behind_lists c).In_ok-behind_boxes)
+    (sym (rw c.layout_of-l.ensures.airfields at c.airfield_lists.ensures) ∙ c.in_err-behind_lists.was))
+
+pub all_digits-requires : goal.all_digits-requires
+all_digits-requires c =
+    (behind_lists (goal.at.all_digits-requires c).In_ok-behind_lists (behind_boxes (goal.at.all_digits-requires c).In_ok-behind_boxes)).inside
+
+pub returns : goal.returns
+unfolding layout_of
+returns c = come_rest (behind_lists (goal.at.returns c).In_ok-behind_lists (behind_boxes (goal.at.returns c).In_ok-behind_boxes)) c.all_digits.ensures

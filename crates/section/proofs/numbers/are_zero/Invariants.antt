@@ -2,13 +2,9 @@
 -- together.
 use mathlib.Core.Path.{◌≡◌}
 use mathlib.Core.Bool.{◌&&◌}
-use Prim.Native.Nat.{◌≤◌, ◌-◌}
 use lib.ListN.{drop}
 use Rattle.lists.specs.Lists.{all_zero}
 use Rattle.section.proofs.numbers.are_zero.Given as goal
 
-abbrev pub invariant-loop-i : goal.invariant-loop-i
-invariant-loop-i l = (l.i ≤ 8) × (all_zero l.v ≡ (l.zero && all_zero (drop l.i l.v)))
-
-abbrev pub decreases-loop-i : goal.decreases-loop-i
-decreases-loop-i l = 8 - l.i
+abbrev pub invariant-loop-x : goal.invariant-loop-x
+invariant-loop-x l = all_zero l.fn.v ≡ (l.zero && all_zero (drop l.x-index l.x-items))

@@ -1,5 +1,6 @@
 -- `settings::numbers::descent_numbers` meets its contract.
 use borrow.Author.Rules.{rules}
+use mathlib.Core.Path.{refl}
 use Rattle.section.specs.Inner.{numbers_of}
 use Rattle.settings.proofs.ByNumber.{same-held, descent-fits}
 use Rattle.settings.proofs.numbers.descent_numbers.Goals as goal
@@ -8,4 +9,4 @@ pub returns : goal.returns
 unfolding numbers_of
 returns c =
     let x = c.args.x in
-    same-held 7 _ _ (rw (c.short-2.ensures, c.short.ensures)) (descent-fits x (search rules) (search rules))
+    same-held 7 _ _ refl (descent-fits x (search rules) (search rules))

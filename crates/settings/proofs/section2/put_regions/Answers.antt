@@ -1,25 +1,26 @@
 -- `settings::section2::put_regions` meets its contract.
 use native.Mathlib.Omega.{arith}
-use mathlib.Core.Path.{◌≡◌, refl, ◌∙◌}
+use mathlib.Core.Path.{◌≡◌, ◌∙◌}
 use mathlib.Core.List.{[], ◌∷◌, ◌++◌, append_assoc}
 use Prim.Native.Nat.{◌+◌, ◌-◌, ◌≤◌}
-use lib.ListN.{length, set, length-append}
+use lib.ListN.{length, set, drop, length-append}
 use borrow.Rule.Slice.PartMut.{put_mid}
 use Rattle.text.specs.Over.{over}
 use Rattle.lists.specs.Lists.{boxes_text}
-use Rattle.text.proofs.Over.{over_none, then_part, then_byte}
+use Rattle.text.proofs.Over.{then_part, then_byte}
 use Rattle.section.specs.Layout.{layout_of, table_of}
 use Rattle.section.specs.Contents.{contents_text}
+use Rattle.settings.proofs.Pieces.{front_part}
 use Rattle.settings.proofs.section2.put_regions.Goals as goal
-use Rattle.settings.proofs.section2.put_regions.Goals.{After-slice_known-3-1}
+use Rattle.settings.proofs.section2.put_regions.Goals.{After-put_boxes-2}
 
 -- the text, list by list
-written : (c : After-slice_known-3-1)
+written : (c : After-put_boxes-2)
     → let a = c.args in
     let d = c.args.d.now in
     let mid = c.boxes_size-mid.result in
     let end = mid + c.boxes_size.result in
-    set (put_mid mid (end - mid) (put_mid 0 (mid - 0) d c.put_boxes.new.d) c.put_boxes-2.new.d) end 47
+    set (put_mid mid (end - mid) (c.put_boxes.new.d ++ drop mid d) c.put_boxes-2.new.d) end 47
     ≡ over d 0 (boxes_text a.x.reporting ++ (boxes_text a.x.inhibiting ++ (47 ∷ [])))
 written c =
     let d = c.args.d.now in
@@ -30,8 +31,8 @@ written c =
     let tl : mid ≡ length t = c.boxes_size-mid.ensures.0 in
     let ul : c.boxes_size.result ≡ length u = c.boxes_size.ensures.0 in
     let room : length t + length u + 1 ≤ length d = c.requires.inhibiting_in_bounds in
-    let D = put_mid 0 (mid - 0) d c.put_boxes.new.d in
-    let one = then_part d d c.put_boxes.new.d [] t 0 0 mid (over_none d 0) refl (omega arith) (omega arith) c.put_boxes.ensures.1 in
+    let D = c.put_boxes.new.d ++ drop mid d in
+    let one = front_part d c.put_boxes.new.d t mid tl (omega arith) c.put_boxes.ensures.1 in
     let two = then_part d D c.put_boxes-2.new.d t u 0 mid end one (omega arith) (omega arith) (omega arith) c.put_boxes-2.ensures.1 in
     let both : length (t ++ u) ≡ length t + length u = length-append t u in
     then_byte d (put_mid mid (end - mid) D c.put_boxes-2.new.d) (t ++ u) 47 0 end two (omega arith) (omega arith) ∙ rw append_assoc
@@ -39,4 +40,4 @@ written c =
 pub returns : goal.returns
 unfolding layout_of table_of contents_text
 returns c =
-    (simp length-append (omega (arith, c.boxes_size.ensures, c.boxes_size-mid.ensures)), written (goal.at.returns c).After-slice_known-3-1)
+    (simp length-append (omega (arith, c.boxes_size.ensures, c.boxes_size-mid.ensures)), written (goal.at.returns c).After-put_boxes-2)

@@ -3,8 +3,6 @@ use mathlib.Core.List.{List, ◌∷◌, []}
 use lib.Dec.{lit≤}
 use Rattle.field.specs.Boxes.{check_box}
 use Rattle.section.specs.Layout.{Item, BoxList, layout_of, table_of}
-use Rattle.section.specs.Contents.{contents_at}
-use Rattle.settings.specs.Settings.{regions_from}
 use Rattle.section.proofs.Walk.{Left, left-all, left_item, left-on, count-read, list_read}
 use Rattle.settings.proofs.section2.regions_at.Goals as goal
 use Rattle.settings.proofs.section2.regions_at.Goals.{Start}
@@ -17,9 +15,9 @@ left : (c : Start) → let a = c.args in Left items a.s.now a.at items a.at
 unfolding layout_of table_of
 left c = left-all c.requires
 
-pub list_end-second-requires : goal.list_end-second-requires
-list_end-second-requires c =
-    let r = count-read 16 check_box 14 _ _ (left_item (left (goal.at.list_end-second-requires c).Start)) (lit≤ tt) (lit≤ tt) in
+pub list_end-requires : goal.list_end-requires
+list_end-requires c =
+    let r = count-read 16 check_box 14 _ _ (left_item (left (goal.at.list_end-requires c).Start)) (lit≤ tt) (lit≤ tt) in
     record { at_in_bounds = r.0; s_value = r.1.0; at_bound = r.1.1 }
 
 pub boxes_at-requires : goal.boxes_at-requires
@@ -29,9 +27,5 @@ boxes_at-requires c =
 
 pub boxes_at-requires-2 : goal.boxes_at-requires-2
 boxes_at-requires-2 c =
-    rw c.list_end-second.ensures
+    rw c.list_end.ensures
     (let r = list_read 16 check_box 14 _ _ (left_item (left-on (left (goal.at.boxes_at-requires-2 c).Start))) in record { at_in_bounds = r.0; at_value = r.1 })
-
-pub returns : goal.returns
-unfolding layout_of table_of contents_at regions_from
-returns c = rw (c.boxes_at-2.ensures, c.boxes_at.ensures, c.list_end-second.ensures)

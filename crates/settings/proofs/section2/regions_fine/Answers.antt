@@ -10,21 +10,17 @@ use Rattle.section.specs.Contents.{contents_allowed}
 use Rattle.settings.proofs.Fine.{two-fine, all_turn}
 use Rattle.settings.proofs.section2.regions_fine.Goals as goal
 
-pub loop-i-init : goal.loop-i-init
-loop-i-init c = (omega arith, λ at. refl)
+pub loop-l-init : goal.loop-l-init
+loop-l-init c = λ at. refl
 
-pub bounds-lists-i : goal.bounds-lists-i
-bounds-lists-i c = c.loop-i-test.true
-
-pub loop-i-preserved : goal.loop-i-preserved
-loop-i-preserved c =
-    (omega arith, λ at. rw (c.loop-i.invariant.1 at, c.boxes_fine-fine.ensures (at c.loop-i.i)) (all_turn at c.loop-i.i _))
+pub loop-l-preserved : goal.loop-l-preserved
+loop-l-preserved c = λ at. rw (c.loop-l.invariant at, c.boxes_fine-fine.ensures (at c.loop-l.l-index)) (all_turn at c.loop-l.l-index _)
 
 pub returns : goal.returns
 unfolding layout_of table_of contents_allowed
 returns c at =
     let x = c.args.x in
     let second = at + length (boxes_text x.reporting) in
-    let both : c.loop-i.i ≡ 2 = omega arith in
-    c.loop-i.invariant.1 (λ n. cond (eqb n 0) at second)
+    let both : c.loop-l.l-index ≡ 2 = omega arith in
+    c.loop-l.invariant (λ n. cond (eqb n 0) at second)
     ∙ rw both (sym (two-fine (boxes_allowed at x.reporting) (boxes_allowed second x.inhibiting)))

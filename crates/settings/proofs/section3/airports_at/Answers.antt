@@ -3,10 +3,8 @@ use mathlib.Core.Path.{ap}
 use lib.Dec.{lit≤, lit<}
 use Rattle.field.specs.Fields.{check_airfield}
 use Rattle.settings.specs.declared.places.ListPlaces.{ListPlaces}
-use Rattle.section.specs.Layout.{layout_of, table_of}
-use Rattle.section.specs.Contents.{contents_at}
-use Rattle.settings.specs.Settings.{airports_from}
 use Rattle.section.proofs.Walk.{left_item, number_read_lem, list_read}
+use Rattle.text.specs.declared.Code.TheVariants.{OutOfRange}
 use Rattle.settings.proofs.ListWalk.{left-first, left-second, left-third, left_fourth, left-last}
 use Rattle.settings.proofs.section3.airports_at.Goals as goal
 
@@ -25,18 +23,4 @@ phases_at-requires-2 c =
 pub small_at-requires : goal.small_at-requires
 small_at-requires c =
     rw (ap (λ (x : ListPlaces). x.last) c.requires.p_value)
-    (let r = number_read_lem 5 1 0 1 _ _ (left_item (left-last _ _ c.requires.accepted)) 256 (lit≤ tt) (lit< tt) in record { w_in_bounds = r.0; w_bound = r.1.0; s_value = r.1.1.0; s_bound = r.1.1.1 })
-
-pub returns : goal.returns
-unfolding layout_of table_of contents_at airports_from
-returns c =
-    let e = c.requires.p_value in
-    rw (
-      c.small_at.ensures,
-      c.phases_at-2.ensures,
-      c.phases_at.ensures,
-      ap (λ (x : ListPlaces). x.last) e,
-      ap (λ (x : ListPlaces). x.fourth) e,
-      ap (λ (x : ListPlaces). x.third) e,
-      ap (λ (x : ListPlaces). x.second) e,
-    )
+    (let r = number_read_lem OutOfRange 1 0 1 _ _ (left_item (left-last _ _ c.requires.accepted)) 256 (lit≤ tt) (lit< tt) in record { w_in_bounds = r.0; w_bound = r.1.0; s_value = r.1.1.0; s_bound = r.1.1.1 })

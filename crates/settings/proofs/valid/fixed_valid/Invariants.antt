@@ -2,12 +2,9 @@
 -- together.
 use mathlib.Core.Path.{◌≡◌}
 use mathlib.Core.Bool.{◌&&◌}
-use Prim.Native.Nat.{◌-◌, ◌≤◌}
+use Prim.Native.Nat.{◌-◌}
 use Rattle.settings.specs.Inner.{fixed_valid}
 use Rattle.settings.proofs.valid.fixed_valid.Given as goal
 
 abbrev pub invariant-loop-k : goal.invariant-loop-k
-invariant-loop-k l = (4 ≤ l.k) × (l.k ≤ 10) × (fixed_valid 6 4 l.x ≡ (l.fine && fixed_valid (10 - l.k) l.k l.x))
-
-abbrev pub decreases-loop-k : goal.decreases-loop-k
-decreases-loop-k l = 10 - l.k
+invariant-loop-k l = fixed_valid 6 4 l.x ≡ (l.fine && fixed_valid (10 - l.k) l.k l.x)

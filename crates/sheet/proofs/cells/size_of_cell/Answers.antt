@@ -1,7 +1,5 @@
 use native.Mathlib.Omega.{arith}
 use Rattle.sheet.proofs.Small.{small_width, small-parts}
-use Rattle.sheet.specs.Inner.{size_of_cell}
-use native.Mathlib.Nat.{add_assoc, add-zero}
 use Rattle.sheet.proofs.cells.size_of_cell.Goals as goal
 
 pub overflow_add-size : goal.overflow_add-size
@@ -9,11 +7,3 @@ overflow_add-size c = let s = small-parts _ c.requires in omega (arith, s.1.0, s
 
 pub overflow_add-result : goal.overflow_add-result
 overflow_add-result c = let s = small-parts _ c.requires in omega (arith, s.1.0, small_width _ s.1.1, c.width_of.ensures)
-
-pub returns-then-c : goal.returns-then-c
-unfolding size_of_cell
-returns-then-c c = rw (c.width_of.ensures, c.if-c.true, add_assoc)
-
-pub returns : goal.returns
-unfolding size_of_cell
-returns c = rw (c.width_of.ensures, c.if-c.false, add-zero)

@@ -17,32 +17,14 @@ pub loop-i-init : goal.loop-i-init
 unfolding each
 loop-i-init c = (omega arith, refl)
 
-pub box_part-requires : goal.box_part-requires
-box_part-requires c = (c.loop-i-test.true, omega arith)
-
 pub is_long-requires : goal.is_long-requires
 is_long-requires c = rw (last (goal.at.is_long-requires c).After-box_part) (cell-small _ (omega (arith, c.loop-i-test.true)))
 
-pub returns-then-not-is_long : goal.returns-then-not-is_long
-returns-then-not-is_long c = c.loop-i.invariant
-
 pub is_box-requires : goal.is_box-requires
 is_box-requires c = (c.loop-i-test.true, rw (last (goal.at.is_box-requires c).After-box_part) at (c.is_long.ensures c.if-not-is_long.false))
-
-pub returns-then-not-is_box : goal.returns-then-not-is_box
-returns-then-not-is_box c = c.loop-i.invariant
-
-pub overflow_add-i : goal.overflow_add-i
-overflow_add-i c = omega (arith, c.loop-i-test.true)
-
-pub loop-i-smaller : goal.loop-i-smaller
-loop-i-smaller c = omega (arith, c.loop-i-test.true)
 
 pub loop-i-preserved : goal.loop-i-preserved
 loop-i-preserved c =
     let l = c.loop-i in
     let more : 5 * (l.i + 1) ≡ 5 * l.i + 5 = omega arith in
     (omega (arith, c.loop-i-test.true), rw more (each-join _ (5 * l.i) 5 17 l.invariant.1 (c.is_box.ensures c.if-not-is_box.false)))
-
-pub returns : goal.returns
-returns c = c.loop-i.invariant

@@ -1,7 +1,6 @@
 use native.Mathlib.Omega.{arith}
 use Prim.Native.Nat.{◌*◌}
 use mathlib.Core.Path.{◌≡◌, refl, ◌∙◌}
-use Rattle.text.specs.declared.Seen.TheVariants.{Fine}
 use Rattle.sheet.specs.Layout.{cell_at}
 use Rattle.sheet.specs.Sheet.{each, check_cell}
 use Rattle.sheet.proofs.Small.{cell-small}
@@ -9,6 +8,7 @@ use Rattle.sheet.proofs.Each.{each-join}
 use Rattle.sheet.proofs.Rows.{head-is}
 use Rattle.sheet.proofs.fine.fine_cells.Goals as goal
 use Rattle.sheet.proofs.fine.fine_cells.Goals.{After-fine_boxes-boxes, After-head_cell}
+use Rattle.std.specs.Prelude.{Ok}
 
 -- the last cell of lines 1 to 4
 last : (c : After-head_cell) → c.head_cell.result ≡ cell_at 16
@@ -16,7 +16,7 @@ last c = c.head_cell.ensures ∙ head-is 16 (omega arith)
 
 -- they are fine
 lines : (c : After-fine_boxes-boxes)
-    → each (λ k. check_cell c.args.s.now (cell_at k)) 0 17 ≡ Fine
+    → each (λ k. check_cell c.args.s.now (cell_at k)) 0 17 ≡ (Ok tt)
 lines c = c.is_head.ensures c.if-not-is_head.false
 
 pub is_long-requires : goal.is_long-requires

@@ -17,32 +17,14 @@ pub loop-row-init : goal.loop-row-init
 unfolding each
 loop-row-init c = (omega arith, refl)
 
-pub airport_part-requires : goal.airport_part-requires
-airport_part-requires c = (c.loop-row-test.true, (omega arith, omega arith))
-
 pub is_long-requires : goal.is_long-requires
 is_long-requires c = rw (last (goal.at.is_long-requires c).After-airport_part) (cell-small _ (omega (arith, c.loop-row-test.true)))
 
-pub returns-then-not-is_long : goal.returns-then-not-is_long
-returns-then-not-is_long c = c.loop-row.invariant
-
 pub is_row-requires : goal.is_row-requires
 is_row-requires c = (c.loop-row-test.true, rw (last (goal.at.is_row-requires c).After-airport_part) at (c.is_long.ensures c.if-not-is_long.false))
-
-pub returns-then-not-is_row : goal.returns-then-not-is_row
-returns-then-not-is_row c = c.loop-row.invariant
-
-pub overflow_add-row : goal.overflow_add-row
-overflow_add-row c = omega (arith, c.loop-row-test.true)
-
-pub loop-row-smaller : goal.loop-row-smaller
-loop-row-smaller c = omega (arith, c.loop-row-test.true)
 
 pub loop-row-preserved : goal.loop-row-preserved
 loop-row-preserved c =
     let l = c.loop-row in
     let more : 10 * (l.row + 1) ≡ 10 * l.row + 10 = omega arith in
     (omega (arith, c.loop-row-test.true), rw more (each-join _ (10 * l.row) 10 67 l.invariant.1 (c.is_row.ensures c.if-not-is_row.false)))
-
-pub returns : goal.returns
-returns c = c.loop-row.invariant

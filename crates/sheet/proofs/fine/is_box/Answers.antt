@@ -2,7 +2,6 @@ use native.Mathlib.Omega.{arith}
 use mathlib.Core.Path.{◌≡◌, refl, ◌∙◌}
 use Rattle.sheet.specs.Layout.{cell_at}
 use Rattle.sheet.specs.Sheet.{each}
-use Rattle.sheet.proofs.Small.{not-held}
 use Prim.Native.Nat.{◌+◌, ◌*◌}
 use Rattle.sheet.proofs.Each.{each_more}
 use Rattle.sheet.proofs.Rows.{whole, box-is}
@@ -21,29 +20,14 @@ pub loop-j-init : goal.loop-j-init
 unfolding each
 loop-j-init c = (omega arith, refl)
 
-pub box_part-requires : goal.box_part-requires
-box_part-requires c = (c.requires.0, omega (arith, c.loop-j-test.true))
-
 pub is_number-requires : goal.is_number-requires
 is_number-requires c =
     rw (coordinate (goal.at.is_number-requires c).After-box_part) (whole c.args.s.now _ _ (omega arith) (omega (arith, c.loop-j-test.true)) (omega (arith, c.requires.0)) c.requires.1)
-
-pub returns-then-not-is_number : goal.returns-then-not-is_number
-returns-then-not-is_number c = λ e. not-held e
-
-pub overflow_add-j : goal.overflow_add-j
-overflow_add-j c = omega (arith, c.loop-j-test.true)
-
-pub loop-j-smaller : goal.loop-j-smaller
-loop-j-smaller c = omega (arith, c.loop-j-test.true)
 
 pub loop-j-preserved : goal.loop-j-preserved
 loop-j-preserved c =
     let l = c.loop-j in
     (omega (arith, c.loop-j-test.true), each_more _ l.j _ l.invariant.1 (rw (coordinate (goal.at.loop-j-preserved c).After-box_part) at (c.is_number.ensures c.if-not-is_number.false)))
-
-pub box_part-requires-2 : goal.box_part-requires-2
-box_part-requires-2 c = (c.requires.0, omega arith)
 
 pub is_status-requires : goal.is_status-requires
 is_status-requires c =

@@ -1,16 +1,13 @@
 use borrow.Author.Rules.{rules}
-use borrow.Author.Tests.{eqb-true}
 use native.Mathlib.Omega.{arith}
 use Prim.Native.Nat.{ℕ, ◌+◌, ◌-◌}
 use mathlib.Core.Path.{◌≡◌, refl, sym, ap, ◌∙◌}
 use Rattle.sheet.specs.Layout.{width_of}
-use Rattle.sheet.specs.declared.Word.{Word}
-use Rattle.sheet.proofs.Small.{not-held, small-parts}
+use Rattle.std.specs.Prelude.{Result, is_ok}
+use Rattle.text.specs.declared.Code.{Code}
+use Rattle.sheet.proofs.Small.{small-parts}
 use Rattle.sheet.proofs.Short.{framed_fine}
 use Rattle.sheet.proofs.fine.is_cell.Goals as goal
-
-pub returns-then-not-is_framed : goal.returns-then-not-is_framed
-returns-then-not-is_framed c = λ e. not-held e
 
 pub read_bytes-requires : goal.read_bytes-requires
 read_bytes-requires c =
@@ -24,4 +21,4 @@ returns c =
     λ e.
     framed_fine a.s.now a.c a.c.form refl c.requires.1.1
     (c.is_framed.ensures c.if-not-is_framed.false)
-    (rw wide at (ap (λ (x : Word). x.code) (sym c.read_bytes.ensures) ∙ eqb-true _ 0 e))
+    (rw wide at (ap (λ (x : Result ℕ Code). is_ok x) (sym c.read_bytes.ensures) ∙ sym c.is_ok.ensures.value ∙ e))

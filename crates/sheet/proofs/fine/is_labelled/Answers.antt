@@ -4,22 +4,12 @@ use Prim.Native.Nat.{ℕ, ◌+◌, ◌≤◌, ◌<◌}
 use mathlib.Core.Path.{◌≡◌}
 use lib.ListN.{length, get_or}
 use Rattle.sheet.proofs.Short.{short-same, four}
-use Rattle.sheet.proofs.Small.{not-held}
 use Rattle.sheet.proofs.fine.is_labelled.Goals as goal
 use Rattle.sheet.proofs.fine.is_labelled.Goals.{Start}
 
 -- it is no longer than the label
 fits : (c : Start) → c.args.n ≤ length c.args.label
 fits c = let long : length c.args.label ≡ 16 = search rules in omega (arith, c.requires)
-
-pub returns-then-not-is_there : goal.returns-then-not-is_there
-returns-then-not-is_there c = λ e. not-held e
-
-pub returns-then-not-is_there-2 : goal.returns-then-not-is_there-2
-returns-then-not-is_there-2 c = λ e. not-held e
-
-pub returns-then-not-is_there-3 : goal.returns-then-not-is_there-3
-returns-then-not-is_there-3 c = λ e. not-held e
 
 pub returns : goal.returns
 returns c =

@@ -4,7 +4,6 @@ use native.Mathlib.Omega.{arith}
 use lib.ListN.{length}
 use Rattle.sheet.specs.Layout.{width_of}
 use Rattle.sheet.specs.declared.Form.TheVariants.{Name}
-use Rattle.sheet.proofs.Small.{not-held}
 use Rattle.sheet.proofs.Short.{field_room, framed_fine, name_fine}
 use Rattle.sheet.proofs.fine.is_name.Goals as goal
 use Rattle.sheet.proofs.fine.is_name.Goals.{In-Name}
@@ -16,9 +15,6 @@ room : (c : In-Name)
 unfolding width_of
 room c =
     field_room c.args.s.now c.args.c _ c.in-Name.is c.requires.1.1
-
-pub returns-then-not-is_framed : goal.returns-then-not-is_framed
-returns-then-not-is_framed c = λ e. not-held e
 
 pub overflow_add-end : goal.overflow_add-end
 overflow_add-end c = omega (arith, room (goal.at.overflow_add-end c).In-Name)
@@ -36,6 +32,3 @@ returns-in-Name c =
     framed_fine a.s.now a.c (Name w) c.in-Name.is c.requires.1.1
     (c.is_framed.ensures c.if-not-is_framed.false)
     (name_fine a.s.now p w (rw wide at (sym c.all_allowed.ensures ∙ e)))
-
-pub returns-in_default : goal.returns-in_default
-returns-in_default c = λ e. not-held e

@@ -1,11 +1,11 @@
-use borrow.Author.Tests.{eqb-true}
 use Prim.Native.Nat.{ℕ, ◌+◌, ◌-◌, ◌≤◌}
 use mathlib.Core.Path.{◌≡◌, sym, ap, ◌∙◌}
 use native.Mathlib.Omega.{arith}
 use lib.ListN.{length}
 use Rattle.sheet.specs.Layout.{width_of}
-use Rattle.sheet.specs.declared.Word.{Word}
-use Rattle.sheet.proofs.Small.{not-held, small-parts, small-number}
+use Rattle.std.specs.Prelude.{Result, is_ok}
+use Rattle.text.specs.declared.Code.{Code}
+use Rattle.sheet.proofs.Small.{small-parts, small-number}
 use Rattle.sheet.proofs.Short.{field_room, framed_fine, number-fine}
 use Rattle.sheet.proofs.fine.is_number.Goals as goal
 use Rattle.sheet.proofs.fine.is_number.Goals.{In-Number}
@@ -17,9 +17,6 @@ room : (c : In-Number)
 unfolding width_of
 room c =
     field_room c.args.s.now c.args.c _ c.in-Number.is c.requires.1.1
-
-pub returns-then-not-is_framed : goal.returns-then-not-is_framed
-returns-then-not-is_framed c = λ e. not-held e
 
 pub overflow_add-end : goal.overflow_add-end
 overflow_add-end c = omega (arith, room (goal.at.overflow_add-end c).In-Number)
@@ -41,7 +38,4 @@ returns-in-Number c =
     λ e.
     framed_fine a.s.now a.c _ c.in-Number.is c.requires.1.1
     (c.is_framed.ensures c.if-not-is_framed.false)
-    (number-fine a.s.now p w _ (rw wide at (ap (λ (x : Word). x.code) (sym c.read_number.ensures) ∙ eqb-true _ 0 e)))
-
-pub returns-in_default : goal.returns-in_default
-returns-in_default c = λ e. not-held e
+    (number-fine a.s.now p w _ (rw wide at (ap (λ (x : Result ℕ Code). is_ok x) (sym c.read_number.ensures) ∙ sym c.is_ok.ensures.value ∙ e)))

@@ -2,7 +2,6 @@ use native.Mathlib.Omega.{arith}
 use mathlib.Core.Path.{◌≡◌, refl, ◌∙◌}
 use Rattle.sheet.specs.Layout.{cell_at}
 use Rattle.sheet.specs.Sheet.{each}
-use Rattle.sheet.proofs.Small.{not-held}
 use Prim.Native.Nat.{ℕ, ◌+◌, ◌*◌}
 use native.Mathlib.Nat.{add-zero}
 use Rattle.sheet.proofs.Each.{each_more}
@@ -24,32 +23,13 @@ pub loop-column-init : goal.loop-column-init
 unfolding each
 loop-column-init c = (omega arith, refl)
 
-pub airport_part-requires : goal.airport_part-requires
-airport_part-requires c = (c.requires.0, (c.loop-column-test.true, omega arith))
-
 pub is_name-requires : goal.is_name-requires
 is_name-requires c =
     rw (name (goal.at.is_name-requires c).After-airport_part) (whole c.args.s.now _ _ (omega arith) (omega (arith, c.loop-column-test.true)) (omega (arith, c.requires.0)) c.requires.1)
 
-pub returns-then-not-is_name : goal.returns-then-not-is_name
-returns-then-not-is_name c = λ e. not-held e
-
-pub airport_part-requires-in-loop-column : goal.airport_part-requires-in-loop-column
-airport_part-requires-in-loop-column c =
-    (c.requires.0, (c.loop-column-test.true, omega arith))
-
 pub is_status-requires : goal.is_status-requires
 is_status-requires c =
     rw (status (goal.at.is_status-requires c).After-airport_part-in-loop-column) (whole c.args.s.now _ _ (omega arith) (omega (arith, c.loop-column-test.true)) (omega (arith, c.requires.0)) c.requires.1)
-
-pub returns-then-not-is_status : goal.returns-then-not-is_status
-returns-then-not-is_status c = λ e. not-held e
-
-pub overflow_add-column : goal.overflow_add-column
-overflow_add-column c = omega (arith, c.loop-column-test.true)
-
-pub loop-column-smaller : goal.loop-column-smaller
-loop-column-smaller c = omega (arith, c.loop-column-test.true)
 
 pub loop-column-preserved : goal.loop-column-preserved
 loop-column-preserved c =
@@ -62,9 +42,3 @@ loop-column-preserved c =
           (each_more _ (2 * l.column) k l.invariant.1 (rw (← add-zero (2 * l.column), ← name (goal.at.loop-column-preserved c).After-airport_part) (c.is_name.ensures c.if-not-is_name.false)))
           (rw (status (goal.at.loop-column-preserved c).After-airport_part-in-loop-column) at (c.is_status.ensures c.if-not-is_status.false))),
     )
-
-pub returns : goal.returns
-returns c =
-    let l = c.loop-column in
-    let all : 2 * l.column ≡ 10 = omega (arith, l.invariant.0, c.loop-column-test.false) in
-    λ e. rw all at l.invariant.1

@@ -1,12 +1,12 @@
-use borrow.Author.Tests.{eqb-true}
 use Prim.Native.Nat.{ℕ, ◌+◌, ◌≤◌}
 use mathlib.Core.Path.{sym, ap, ◌∙◌}
 use native.Mathlib.Omega.{arith}
 use lib.ListN.{length}
 use Rattle.sheet.specs.Layout.{width_of}
 use Rattle.sheet.specs.declared.Form.TheVariants.{Digit}
-use Rattle.sheet.specs.declared.Word.{Word}
-use Rattle.sheet.proofs.Small.{not-held, small-parts, small-digit}
+use Rattle.std.specs.Prelude.{Result, is_ok}
+use Rattle.text.specs.declared.Code.{Code}
+use Rattle.sheet.proofs.Small.{small-parts, small-digit}
 use Rattle.sheet.proofs.Short.{field_room, framed_fine, digit-fine}
 use Rattle.sheet.proofs.fine.is_status.Goals as goal
 use Rattle.sheet.proofs.fine.is_status.Goals.{In-Digit}
@@ -18,9 +18,6 @@ room : (c : In-Digit)
 unfolding width_of
 room c =
     field_room c.args.s.now c.args.c _ c.in-Digit.is c.requires.1.1
-
-pub returns-then-not-is_framed : goal.returns-then-not-is_framed
-returns-then-not-is_framed c = λ e. not-held e
 
 pub bounds-s-p : goal.bounds-s-p
 bounds-s-p c = omega (arith, room (goal.at.bounds-s-p c).In-Digit)
@@ -36,7 +33,4 @@ returns-in-Digit c =
     λ e.
     framed_fine a.s.now a.c (Digit most) c.in-Digit.is c.requires.1.1
     (c.is_framed.ensures c.if-not-is_framed.false)
-    (digit-fine a.s.now (a.c.at + a.c.labelled) most (ap (λ (x : Word). x.code) (sym c.read_digit.ensures) ∙ eqb-true _ 0 e))
-
-pub returns-in_default : goal.returns-in_default
-returns-in_default c = λ e. not-held e
+    (digit-fine a.s.now (a.c.at + a.c.labelled) most (ap (λ (x : Result ℕ Code). is_ok x) (sym c.read_digit.ensures) ∙ sym c.is_ok.ensures.value ∙ e))

@@ -7,9 +7,6 @@ use Rattle.sheet.proofs.number.blank.Goals as goal
 pub returns-then-d-i-ne48 : goal.returns-then-d-i-ne48
 returns-then-d-i-ne48 c = let l = c.loop-i in sym (l.invariant.2 ∙ blank_stop l.d l.i c.loop-i-test.true c.if-d-i-ne48.true)
 
-pub loop-i-smaller : goal.loop-i-smaller
-loop-i-smaller c = let l = c.loop-i in rw (length-set l.d l.i 32) (omega arith)
-
 pub loop-i-preserved : goal.loop-i-preserved
 loop-i-preserved c =
     let l = c.loop-i in

@@ -1,8 +1,8 @@
 use native.Mathlib.Omega.{arith}
-use native.Mathlib.Nat.{zero-add, pow-le-pow_right, pow-suc}
+use native.Mathlib.Nat.{pow-le-pow_right, pow-suc}
 use native.Mathlib.Numerals.{add-one}
 use Prim.Native.Nat.{◌+◌, ◌*◌, ◌^◌, ◌≤◌, ◌<◌}
-use mathlib.Core.Path.{◌≡◌, refl, sym, ◌∙◌}
+use mathlib.Core.Path.{◌≡◌, sym, ◌∙◌}
 use lib.Dec.{lit<}
 use Rattle.sheet.proofs.Scan.{value_turn, value_end}
 use Rattle.sheet.proofs.Counted.{spaces_turn, spaces_end, count_turn, count_end}
@@ -13,21 +13,6 @@ room : (c : In-loop-i) → c.loop-i.n * 10 + 207 < 2 ^ 31
 room c =
     let h : c.loop-i.i ≤ 5 = omega (arith, c.requires) in
     omega (arith, c.loop-i.invariant.1, pow-le-pow_right {n = 10} (lit< tt) {i = c.loop-i.i} {j = 5} h)
-
-pub loop-i-init : goal.loop-i-init
-loop-i-init c = (omega arith, omega arith, omega arith, (omega arith, (λ e. refl, λ h. absurd (omega arith))), sym (zero-add _), refl)
-
-pub overflow_add-spaces : goal.overflow_add-spaces
-overflow_add-spaces c = let l = c.loop-i in omega (arith, l.invariant.0, l.invariant.3.0, c.one_if-spaces.ensures.1, c.requires)
-
-pub overflow_add-digits : goal.overflow_add-digits
-overflow_add-digits c = let l = c.loop-i in omega (arith, l.invariant.0, l.invariant.2, c.one_if-digits.ensures.1, c.requires)
-
-pub overflow_mul-n : goal.overflow_mul-n
-overflow_mul-n c = omega (arith, room (goal.at.overflow_mul-n c).In-loop-i)
-
-pub overflow_add-n : goal.overflow_add-n
-overflow_add-n c = omega (arith, room (goal.at.overflow_add-n c).In-loop-i, c.worth.ensures.1)
 
 pub loop-i-preserved : goal.loop-i-preserved
 loop-i-preserved c =

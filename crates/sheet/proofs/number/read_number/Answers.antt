@@ -14,23 +14,23 @@ use Rattle.sheet.proofs.Counted.{minus, from, tail, tail-read, tail-value, tail-
 use Rattle.sheet.proofs.number.read_number.Goals as goal
 use Rattle.sheet.proofs.number.read_number.Goals.{After-one_if, Else-digits-eq0, Else-first-digits}
 
-any : (c : Else-digits-eq0) → 0 < c.found_in-found.result.digits
+any : (c : Else-digits-eq0) → 0 < c.found_in-spaces.result.digits
 any c = omega (arith, c.if-digits-eq0.false)
 
 -- where the digits begin
 begins : (c : After-one_if)
-    → c.found_in-found.result.spaces + c.one_if.result ≡ from c.args.f.now c.found_in-found.result c.found_in-found.ensures
-begins c = ap (λ (k : ℕ). c.found_in-found.result.spaces + k) c.one_if.ensures.0
+    → c.found_in-spaces.result.spaces + c.one_if.result ≡ from c.args.f.now c.found_in-spaces.result c.found_in-spaces.ensures
+begins c = ap (λ (k : ℕ). c.found_in-spaces.result.spaces + k) c.one_if.ensures.0
 
 -- digits to the end
 abbrev f : (c : Else-first-digits) → List ℕ
 f c = c.args.f.now
 
 abbrev r : (c : Else-first-digits) → Found
-r c = c.found_in-found.result
+r c = c.found_in-spaces.result
 
 abbrev h : (c : Else-first-digits) → FoundIn (f c) (r c)
-h c = c.found_in-found.ensures
+h c = c.found_in-spaces.ensures
 
 some : (c : Else-first-digits) → 0 < (r c).digits
 some c = omega (arith, c.if-digits-eq0.false)
@@ -38,7 +38,7 @@ some c = omega (arith, c.if-digits-eq0.false)
 ends : (c : Else-first-digits) → from (f c) (r c) (h c) + (r c).digits ≡ length (f c)
 ends c =
     let begins :
-    c.found_in-found.result.spaces + c.one_if.result ≡ from c.args.f.now c.found_in-found.result c.found_in-found.ensures = ap (λ (k : ℕ). c.found_in-found.result.spaces + k) c.one_if.ensures.0 in
+    c.found_in-spaces.result.spaces + c.one_if.result ≡ from c.args.f.now c.found_in-spaces.result c.found_in-spaces.ensures = ap (λ (k : ℕ). c.found_in-spaces.result.spaces + k) c.one_if.ensures.0 in
     rw (← begins) c.if-first-digits.false
 
 read : (c : Else-first-digits) → number_read c.args.l (f c) ≡ digits_read c.args.l (minus (f c) (r c) (h c)) (tail (f c) (r c) (h c))
@@ -50,35 +50,34 @@ all c = tail_all (f c) (r c) (h c) (some c) (ends c)
 zero : (c : Else-first-digits) → zero_first (minus (f c) (r c) (h c)) (tail (f c) (r c) (h c)) ≡ (eqb (get_or (f c) ((r c).spaces + c.one_if.result) 0) 48 && (minus (f c) (r c) (h c) || ltb 1 (r c).digits))
 zero c =
     let begins :
-    c.found_in-found.result.spaces + c.one_if.result ≡ from c.args.f.now c.found_in-found.result c.found_in-found.ensures = ap (λ (k : ℕ). c.found_in-found.result.spaces + k) c.one_if.ensures.0 in
+    c.found_in-spaces.result.spaces + c.one_if.result ≡ from c.args.f.now c.found_in-spaces.result c.found_in-spaces.ensures = ap (λ (k : ℕ). c.found_in-spaces.result.spaces + k) c.one_if.ensures.0 in
     rw (tail-first (f c) (r c) (h c), tail-long (f c) (r c) (h c) (some c) (ends c), begins)
 
 spells : (c : Else-first-digits) → (r c).value ≡ value (tail (f c) (r c) (h c))
 spells c = tail-value (f c) (r c) (h c)
 
 pub returns-then-digits-eq0 : goal.returns-then-digits-eq0
-returns-then-digits-eq0 c = rw c.no.ensures (sym (tail_none c.args.f.now c.found_in-found.result c.found_in-found.ensures _ c.if-digits-eq0.true))
+returns-then-digits-eq0 c = sym (tail_none c.args.f.now c.found_in-spaces.result c.found_in-spaces.ensures _ c.if-digits-eq0.true)
 
 pub bounds-f-spaces : goal.bounds-f-spaces
-bounds-f-spaces c = omega (arith, tail_near c.args.f.now c.found_in-found.result c.found_in-found.ensures (any (goal.at.bounds-f-spaces c).Else-digits-eq0))
+bounds-f-spaces c = omega (arith, tail_near c.args.f.now c.found_in-spaces.result c.found_in-spaces.ensures (any (goal.at.bounds-f-spaces c).Else-digits-eq0))
 
 pub overflow_add-first-2 : goal.overflow_add-first-2
-overflow_add-first-2 c = omega (arith, begins (goal.at.overflow_add-first-2 c).After-one_if, tail_near c.args.f.now c.found_in-found.result c.found_in-found.ensures (any (goal.at.overflow_add-first-2 c).Else-digits-eq0))
+overflow_add-first-2 c = omega (arith, begins (goal.at.overflow_add-first-2 c).After-one_if, tail_near c.args.f.now c.found_in-spaces.result c.found_in-spaces.ensures (any (goal.at.overflow_add-first-2 c).Else-digits-eq0))
 
 pub returns-then-first-digits : goal.returns-then-first-digits
 returns-then-first-digits c =
-    rw c.no-then-first-digits.ensures
-    (sym (tail_wrong c.args.f.now c.found_in-found.result c.found_in-found.ensures _ (any (goal.at.returns-then-first-digits c).Else-digits-eq0) (λ e. c.if-first-digits.true (rw (begins (goal.at.returns-then-first-digits c).After-one_if) e))))
+    sym (tail_wrong c.args.f.now c.found_in-spaces.result c.found_in-spaces.ensures _ (any (goal.at.returns-then-first-digits c).Else-digits-eq0) (λ e. c.if-first-digits.true (rw (begins (goal.at.returns-then-first-digits c).After-one_if) e)))
 
 pub returns-then-f-first : goal.returns-then-f-first
 unfolding digits_read
 returns-then-f-first c =
-    rw (c.no-then-f-first.ensures, read (goal.at.returns-then-f-first c).Else-first-digits, (all (goal.at.returns-then-f-first c).Else-first-digits).0, (all (goal.at.returns-then-f-first c).Else-first-digits).1, zero (goal.at.returns-then-f-first c).Else-first-digits, c.if-f-first.true)
+    rw (read (goal.at.returns-then-f-first c).Else-first-digits, (all (goal.at.returns-then-f-first c).Else-first-digits).0, (all (goal.at.returns-then-f-first c).Else-first-digits).1, zero (goal.at.returns-then-f-first c).Else-first-digits, c.if-f-first.true)
 
 pub returns-then-not-is_within : goal.returns-then-not-is_within
 unfolding digits_read
 returns-then-not-is_within c =
-    rw (c.no-then-not-is_within.ensures, read (goal.at.returns-then-not-is_within c).Else-first-digits, (all (goal.at.returns-then-not-is_within c).Else-first-digits).0, (all (goal.at.returns-then-not-is_within c).Else-first-digits).1, zero (goal.at.returns-then-not-is_within c).Else-first-digits, c.if-f-first.false, ← spells (goal.at.returns-then-not-is_within c).Else-first-digits, sym c.is_within.ensures ∙ c.if-not-is_within.true)
+    rw (read (goal.at.returns-then-not-is_within c).Else-first-digits, (all (goal.at.returns-then-not-is_within c).Else-first-digits).0, (all (goal.at.returns-then-not-is_within c).Else-first-digits).1, zero (goal.at.returns-then-not-is_within c).Else-first-digits, c.if-f-first.false, ← spells (goal.at.returns-then-not-is_within c).Else-first-digits, sym c.is_within.ensures ∙ c.if-not-is_within.true)
 
 pub word_of-requires : goal.word_of-requires
 word_of-requires c =

@@ -34,15 +34,6 @@ pub returns-then-j-eq4 : goal.returns-then-j-eq4
 unfolding airport_byte
 returns-then-j-eq4 c = rw (c.word_at.ensures, add-one, eq-eqb _ 4 c.if-j-eq4.true)
 
-pub overflow_add-p : goal.overflow_add-p
-overflow_add-p c = let s = near (goal.at.overflow_add-p c).After-airport_part-c in omega (arith, s)
-
-pub overflow_add-p-2 : goal.overflow_add-p-2
-overflow_add-p-2 c = let s = near (goal.at.overflow_add-p-2 c).After-airport_part-c in omega (arith, s)
-
-pub bounds-s-p : goal.bounds-s-p
-bounds-s-p c = let s = near (goal.at.bounds-s-p c).After-airport_part-c in omega (arith, s, c.if-j-eq4.false, c.requires.s_len)
-
 pub returns : goal.returns
 unfolding airport_byte
 returns c = rw (name (goal.at.returns c).After-airport_part-c, ne_eqb _ 4 c.if-j-eq4.false)

@@ -1,7 +1,6 @@
 use native.Mathlib.Omega.{arith}
 use Prim.Native.Nat.{ℕ}
 use mathlib.Core.Path.{ap, ◌∙◌}
-use lib.ListN.{length-set}
 use native.Mathlib.Nat.{zero-add}
 use Rattle.sheet.proofs.Filled.{filled_none, filled_turn, filled_end}
 use Rattle.sheet.specs.Sheet.{airport_byte}
@@ -11,19 +10,13 @@ use Rattle.sheet.proofs.read.take_airports.Goals as goal
 pub loop-i-init : goal.loop-i-init
 loop-i-init c = (c.requires.airports_len, filled_none _ _ _)
 
-pub airport_byte-requires : goal.airport_byte-requires
-airport_byte-requires c = record { i_bound = omega (arith, c.loop-i.invariant.0, c.loop-i.invariant.1.long, c.loop-i-test.true); s_len = c.requires.s_len }
-
-pub loop-i-smaller : goal.loop-i-smaller
-loop-i-smaller c = let l = c.loop-i in rw (length-set l.airports l.i c.airport_byte.result) (omega (arith, c.loop-i-test.true))
-
 pub loop-i-preserved : goal.loop-i-preserved
 loop-i-preserved c =
     let l = c.loop-i in
-    (l.invariant.0, filled_turn _ _ _ l.airports l.i _ l.invariant.1 (omega (arith, l.invariant.1.long, c.loop-i-test.true)) (c.airport_byte.ensures ∙ rw (zero-add l.i)))
+    (l.invariant.0, filled_turn _ _ _ l.airports l.i _ l.invariant.1 (omega (arith, l.invariant.1.long)) (c.airport_byte.ensures ∙ rw (zero-add l.i)))
 
 pub returns : goal.returns
 returns c =
     let l = c.loop-i in
     let s = c.args.s.now in
-    filled_end _ _ _ l.airports l.i l.invariant.1 (omega (arith, l.invariant.1.long, c.loop-i-test.false)) ∙ ap (λ (n : ℕ). values (airport_byte s) 0 n) l.invariant.0
+    filled_end _ _ _ l.airports l.i l.invariant.1 (omega (arith, l.invariant.1.long)) ∙ ap (λ (n : ℕ). values (airport_byte s) 0 n) l.invariant.0

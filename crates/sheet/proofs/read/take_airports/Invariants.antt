@@ -1,4 +1,3 @@
-use Prim.Native.Nat.{◌-◌}
 use mathlib.Core.Path.{◌≡◌}
 use lib.ListN.{length}
 use Rattle.sheet.proofs.Filled.{Filled}
@@ -7,6 +6,3 @@ use Rattle.sheet.proofs.read.take_airports.Given as goal
 
 abbrev pub invariant-loop-i : goal.invariant-loop-i
 invariant-loop-i l = (length l.initial.airports ≡ 250) × Filled (airport_byte l.s) 0 l.initial.airports l.airports l.i
-
-abbrev pub decreases-loop-i : goal.decreases-loop-i
-decreases-loop-i l = length l.airports - l.i

@@ -1,7 +1,6 @@
 use native.Mathlib.Omega.{arith}
 use Rattle.sheet.proofs.Small.{cell-small, small-parts}
 use Rattle.sheet.proofs.Contents.{held_forms}
-use Rattle.sheet.specs.Sheet.{allowed_cell}
 use Rattle.sheet.proofs.write.check_held.Goals as goal
 
 pub overflow_add-at : goal.overflow_add-at
@@ -9,7 +8,3 @@ overflow_add-at c = let s = small-parts _ (rw (← c.cell_at-c.ensures) at (cell
 
 pub code_of-requires : goal.code_of-requires
 code_of-requires c = rw c.cell_at-c.ensures (held_forms _ c.requires)
-
-pub returns : goal.returns
-unfolding allowed_cell
-returns c = rw (c.seen_of.ensures, c.code_of.ensures, c.cell_at-c.ensures, c.held_at.ensures)

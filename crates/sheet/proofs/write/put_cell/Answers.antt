@@ -110,22 +110,10 @@ slice_bounds-put_field-end c =
     let s = sized (goal.at.slice_bounds-put_field-end c).After-width_of in
     omega (arith, s.whole, long-one c.args.c c.args.h c.args.d.now c.width_of.result s c.copy.new.d c.copy.ensures)
 
-pub put_field-requires : goal.put_field-requires
-put_field-requires c =
-    let s = sized (goal.at.put_field-requires c).After-width_of in
-    record {
-      form_value = c.requires.form_value;
-      d_len = room c.args.c c.args.h c.args.d.now c.width_of.result s c.copy.new.d c.copy.ensures ∙ c.width_of.ensures;
-      h_value = c.requires.h_value;
-    }
-
 pub bounds-d-end : goal.bounds-d-end
 bounds-d-end c =
     let s = sized (goal.at.bounds-d-end c).After-width_of in
     omega (arith, line _ _ _ _ s c.if-c.true, long-two _ _ _ _ s c.copy.new.d c.copy.ensures c.put_field.new.d c.put_field.ensures)
-
-pub overflow_add-d : goal.overflow_add-d
-overflow_add-d c = let s = sized (goal.at.overflow_add-d c).After-width_of in omega (arith, s.low, s.narrow)
 
 pub bounds-d-end-then-c : goal.bounds-d-end-then-c
 bounds-d-end-then-c c =

@@ -25,7 +25,7 @@ ends : (c : After-size_of_cell)
 ends c =
     let l = c.loop-k in
     let size : c.size_of_cell.result ≡ size_of_cell (cell_at l.k) = c.size_of_cell.ensures ∙ ap size_of_cell c.cell_at-c.ensures in
-    (omega (arith, size, l.invariant.1.1.0, sizes-within l.k c.loop-k-test.true), (size, c.requires.in_bounds))
+    (omega (arith, size, l.invariant.1.0, sizes-within l.k c.loop-k-test.true), (size, c.requires.in_bounds))
 
 -- the text of the cell
 text-is : (c : After-put_cell)
@@ -36,9 +36,9 @@ text-is c =
     let x = c.args.x in
     let k = c.loop-k.k in
     let few = c.loop-k-test.true in
-    let six : length c.held_at-h.result.name ≡ 6 = search (rules, c.held_at-h.type_inv) in
-    let wide = rw c.held_at-h.ensures at (field-length (cell_at k).form c.held_at-h.result six (held_forms k few)) in (
-      c.put_cell.ensures ∙ rw (c.cell_at-c.ensures, c.held_at-h.ensures),
+    let six : length c.held_at.result.name ≡ 6 = search (rules, c.held_at.type_inv) in
+    let wide = rw c.held_at.ensures at (field-length (cell_at k).form c.held_at.result six (held_forms k few)) in (
+      c.put_cell.ensures ∙ rw (c.cell_at-c.ensures, c.held_at.ensures),
       cell-length (cell_at k) (held_at x k) (label_length k few) wide,
     )
 
@@ -50,7 +50,7 @@ joined-long c size =
     let l = c.loop-k in
     let x = c.args.x in
     let more : joined (held_text x) 0 (l.k + 1) ≡ joined (held_text x) 0 l.k ++ held_text x l.k = joined-more (held_text x) 0 l.k ∙ rw (zero-add l.k) in
-    ap length more ∙ length-append (joined (held_text x) 0 l.k) (held_text x l.k) ∙ omega (arith, l.invariant.1.1.1.0, (text-is c).1, size)
+    ap length more ∙ length-append (joined (held_text x) 0 l.k) (held_text x l.k) ∙ omega (arith, l.invariant.1.1.0, (text-is c).1, size)
 
 -- the buffer with it
 written : (c : After-put_cell)
@@ -66,18 +66,12 @@ written c size =
     let text = text-is c in
     let more : joined (held_text a.x) 0 (l.k + 1) ≡ joined (held_text a.x) 0 l.k ++ held_text a.x l.k = joined-more (held_text a.x) 0 l.k ∙ rw (zero-add l.k) in
     then_whole a.d.now l.d c.put_cell.new.d (joined (held_text a.x) 0 l.k) (held_text a.x l.k) 0 l.p (l.p + c.size_of_cell.result)
-    l.invariant.1.1.1.1 (omega (arith, l.invariant.1.1.1.0)) (omega (arith, text.1, size.1.0)) (omega (arith, size.0, size.1.1)) text.0
+    l.invariant.1.1.1 (omega (arith, l.invariant.1.1.0)) (omega (arith, text.1, size.1.0)) (omega (arith, size.0, size.1.1)) text.0
     ∙ ap (over a.d.now 0) (sym more)
 
 pub loop-k-init : goal.loop-k-init
 unfolding joined sizes
-loop-k-init c = (omega arith, (refl, (refl, (refl, over_none _ 0))))
-
-pub cell_at-c-requires : goal.cell_at-c-requires
-cell_at-c-requires c = c.loop-k-test.true
-
-pub held_at-h-requires : goal.held_at-h-requires
-held_at-h-requires c = c.loop-k-test.true
+loop-k-init c = (refl, (refl, (refl, over_none _ 0)))
 
 pub size_of_cell-requires : goal.size_of_cell-requires
 size_of_cell-requires c = rw c.cell_at-c.ensures (cell-small _ c.loop-k-test.true)
@@ -86,21 +80,15 @@ pub overflow_add-end : goal.overflow_add-end
 overflow_add-end c = omega (arith, ends (goal.at.overflow_add-end c).After-size_of_cell)
 
 pub slice_bounds-put_cell-start : goal.slice_bounds-put_cell-start
-slice_bounds-put_cell-start c = omega (arith, ends (goal.at.slice_bounds-put_cell-start c).After-size_of_cell, c.loop-k.invariant.1.0)
+slice_bounds-put_cell-start c = omega (arith, ends (goal.at.slice_bounds-put_cell-start c).After-size_of_cell, c.loop-k.invariant.0)
 
 pub slice_bounds-put_cell-end : goal.slice_bounds-put_cell-end
-slice_bounds-put_cell-end c = omega (arith, ends (goal.at.slice_bounds-put_cell-end c).After-size_of_cell, c.loop-k.invariant.1.0)
+slice_bounds-put_cell-end c = omega (arith, ends (goal.at.slice_bounds-put_cell-end c).After-size_of_cell, c.loop-k.invariant.0)
 
 pub put_cell-requires : goal.put_cell-requires
 put_cell-requires c =
     let l = c.loop-k in
-    let long = part_length l.d l.p (l.p + c.size_of_cell.result) (omega (arith, ends (goal.at.put_cell-requires c).After-size_of_cell, l.invariant.1.0)) in record { c_value = rw c.cell_at-c.ensures (cell-small _ c.loop-k-test.true); form_value = rw c.cell_at-c.ensures (held_forms _ c.loop-k-test.true); d_len = long ∙ omega (arith, c.size_of_cell.ensures); h_value = rw (c.cell_at-c.ensures, c.held_at-h.ensures) (allowed-held _ c.requires.x_value _ c.loop-k-test.true) }
-
-pub overflow_add-k : goal.overflow_add-k
-overflow_add-k c = omega (arith, c.loop-k-test.true)
-
-pub loop-k-smaller : goal.loop-k-smaller
-loop-k-smaller c = omega (arith, c.loop-k-test.true)
+    let long = part_length l.d l.p (l.p + c.size_of_cell.result) (omega (arith, ends (goal.at.put_cell-requires c).After-size_of_cell, l.invariant.0)) in record { c_value = rw c.cell_at-c.ensures (cell-small _ c.loop-k-test.true); form_value = rw c.cell_at-c.ensures (held_forms _ c.loop-k-test.true); d_len = long ∙ omega (arith, c.size_of_cell.ensures); h_value = rw (c.cell_at-c.ensures, c.held_at.ensures) (allowed-held _ c.requires.x_value _ c.loop-k-test.true) }
 
 pub loop-k-preserved : goal.loop-k-preserved
 loop-k-preserved c =
@@ -109,11 +97,8 @@ loop-k-preserved c =
     let e = written (goal.at.loop-k-preserved c).After-put_cell size in
     let long = joined-long (goal.at.loop-k-preserved c).After-put_cell size.1.0 in
     let more : sizes 0 (l.k + 1) ≡ sizes 0 l.k + size_of_cell (cell_at l.k) = sizes-more 0 l.k ∙ rw (zero-add l.k) in (
-      omega (arith, c.loop-k-test.true),
-      (
-        ap length e ∙ length_over c.args.d.now 0 (joined (held_text c.args.x) 0 (l.k + 1)) (omega (arith, long, size.0, size.1.1)),
-        (omega (arith, more, size.1.0, l.invariant.1.1.0), (long, e)),
-      ),
+      ap length e ∙ length_over c.args.d.now 0 (joined (held_text c.args.x) 0 (l.k + 1)) (omega (arith, long, size.0, size.1.1)),
+      (omega (arith, more, size.1.0, l.invariant.1.0), (long, e)),
     )
 
 pub returns : goal.returns
@@ -121,5 +106,5 @@ unfolding sheet_text
 returns c =
     let l = c.loop-k in
     let a = c.args in
-    let all : l.k ≡ 167 = omega (arith, l.invariant.0, c.loop-k-test.false) in
-    l.invariant.1.1.1.1 ∙ ap (λ (n : ℕ). over a.d.now 0 (joined (held_text a.x) 0 n)) all
+    let all : l.k ≡ 167 = omega (arith, c.loop-k-test.false) in
+    l.invariant.1.1.1 ∙ ap (λ (n : ℕ). over a.d.now 0 (joined (held_text a.x) 0 n)) all

@@ -1,4 +1,3 @@
-use Prim.Native.Nat.{◌-◌, ◌≤◌}
 use mathlib.Core.Path.{◌≡◌}
 use lib.ListN.{length}
 use Rattle.sheet.proofs.Contents.{sizes}
@@ -7,7 +6,6 @@ use Rattle.sheet.specs.Sheet.{joined, held_text}
 use Rattle.sheet.proofs.write.put_cells.Given as goal
 
 abbrev pub invariant-loop-k : goal.invariant-loop-k
-invariant-loop-k l = (l.k ≤ 167) × ((length l.d ≡ length l.initial.d) × ((l.p ≡ sizes 0 l.k) × ((length (joined (held_text l.x) 0 l.k) ≡ l.p) × (l.d ≡ over l.initial.d 0 (joined (held_text l.x) 0 l.k)))))
-
-abbrev pub decreases-loop-k : goal.decreases-loop-k
-decreases-loop-k l = 167 - l.k
+invariant-loop-k l =
+    (length l.d ≡ length l.initial.d)
+    × ((l.p ≡ sizes 0 l.k) × ((length (joined (held_text l.x) 0 l.k) ≡ l.p) × (l.d ≡ over l.initial.d 0 (joined (held_text l.x) 0 l.k))))

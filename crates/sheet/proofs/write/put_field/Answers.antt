@@ -11,7 +11,6 @@ use lib.Seq.{length-take-le}
 use Rattle.sheet.specs.Layout.{width_of}
 use Rattle.sheet.specs.Inner.{held_is, held_form}
 use Rattle.sheet.specs.Sheet.{field_text}
-use Rattle.sheet.specs.Number.{number_text}
 use Rattle.sheet.proofs.Filled.{copied}
 use Rattle.sheet.proofs.write.put_field.Goals as goal
 
@@ -22,19 +21,11 @@ slice_bounds-copy-end c =
     let w = c.in-Name.w in
     omega (arith, six, leb-true w 6 (rw c.in-Name.is at c.requires.form_value))
 
-pub bounds-d-0 : goal.bounds-d-0
-unfolding width_of
-bounds-d-0 c = let e : length c.args.d.now ≡ 1 = c.requires.d_len ∙ ap width_of c.in-Switch.is in omega (arith, e)
-
 pub digit_byte-requires : goal.digit_byte-requires
 unfolding held_is
 digit_byte-requires c =
     let e = c.in-Digit.is in
     digit-held _ (c.args.h.word ∷ []) (rw e at c.requires.form_value) (rw e at c.requires.h_value)
-
-pub bounds-d-0-in-Digit : goal.bounds-d-0-in-Digit
-unfolding width_of
-bounds-d-0-in-Digit c = let e : length c.args.d.now ≡ 1 = c.requires.d_len ∙ ap width_of c.in-Digit.is in omega (arith, e)
 
 pub returns-in-Name : goal.returns-in-Name
 unfolding field_text held_is held_form width_of
@@ -56,8 +47,3 @@ returns-in-Switch c = rw c.in-Switch.is (one_byte c.args.d.now _ (c.requires.d_l
 pub returns-in-Digit : goal.returns-in-Digit
 unfolding field_text held_is width_of
 returns-in-Digit c = rw c.in-Digit.is (one_byte c.args.d.now _ (c.requires.d_len ∙ ap width_of c.in-Digit.is) ∙ ap (λ (b : ℕ). b ∷ []) c.digit_byte.ensures)
-
-pub returns-in-Number : goal.returns-in-Number
-unfolding field_text held_is width_of
-returns-in-Number c =
-    rw c.in-Number.is (c.put_number.ensures ∙ ap (λ (n : ℕ). number_text n c.args.h.word) (c.requires.d_len ∙ ap width_of c.in-Number.is))

@@ -1,9 +1,0 @@
--- `command::check::section_seen` meets its contract.
-use mathlib.Core.Path.{sym, ◌∙◌}
-use Rattle.command.proofs.check.section_seen.Goals as goal
-
-pub returns-then-is_named : goal.returns-then-is_named
-returns-then-is_named c = c.check_section.ensures ∙ rw (sym c.is_named.ensures ∙ c.if-is_named.true)
-
-pub returns : goal.returns
-returns c = rw (sym c.is_named.ensures ∙ c.if-is_named.false)
