@@ -12,22 +12,20 @@ use crate::{Answer, ReportAnswer};
 use caller::HostReport;
 use caller::records::host_report;
 use caller::write::write_host;
-use packed::table::{digit_table, worth_table};
+use packed::table::{Digits, Worths};
 use report::check::check;
 use report::read::{no_report, read};
 
 pub fn esk_report_check(text: &[u8]) -> Answer
     ensures { result ≡ check_numbers (check_text text.now) }
 {
-    let t = worth_table();
-    numbers(check(&t, text), 0)
+    numbers(check(&Worths::new(), text), 0)
 }
 
 pub fn esk_report_read(text: &[u8]) -> ReportAnswer
     ensures { result ≡ report_numbers (read_report text.now) }
 {
-    let t = worth_table();
-    match read(&t, text) {
+    match read(&Worths::new(), text) {
         Ok(report) => ReportAnswer {
             answer: accepted(0),
             report: host_report(report),
@@ -43,6 +41,5 @@ pub fn esk_report_write(report: HostReport, out: &mut [u8]) -> Answer
     ensures { (result ≡ write_numbers (host_seen report (length out.old)) 220)
         × (out.new ≡ left_by (host_seen report (length out.old)) (report_text (record_of report)) out.old) }
 {
-    let t = digit_table();
-    numbers(write_host(&t, report, out), 220)
+    numbers(write_host(&Digits::new(), report, out), 220)
 }

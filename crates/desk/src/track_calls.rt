@@ -6,7 +6,7 @@ ghost use Rattle.desk.specs.Tracks.{track_numbers};
 use crate::HostTrack;
 use crate::answers::{accepted, refused};
 use caller::figure::host_figure;
-use packed::table::worth_table;
+use packed::table::Worths;
 use track::HostPoint;
 use track::follow::follow;
 
@@ -25,8 +25,7 @@ fn no_point() -> HostPoint
 pub fn esk_report_track(text: &[u8]) -> HostTrack
     ensures { result ≡ track_numbers (followed text.now) }
 {
-    let t = worth_table();
-    match follow(&t, text) {
+    match follow(&Worths::new(), text) {
         Ok(track) => {
             let points = track.points;
             HostTrack {

@@ -16,7 +16,7 @@ use Rattle.field.specs.Decimal.{all_digits, value}
 use Rattle.field.specs.Fields.{room, check_digits, check_delimiter, check_airfield, repeat}
 use Rattle.text.specs.Checks.{after, refuse}
 use Rattle.field.specs.Boxes.{latitude, longitude, is_letter, below_zero, edge_at, check_edge, check_pair, check_box, north_first}
-use Rattle.std.specs.Prelude.{Result, Ok, Err}
+use Rattle.std.specs.Prelude.{Result, Ok, Err, IfOk}
 use Rattle.text.specs.declared.Refusal.{Refusal}
 use Rattle.text.specs.declared.Code.{Code}
 use Rattle.text.specs.declared.Code.TheVariants.{Disagree, NotAllowed, OtherSpelling, OutOfRange, WrongFixed}
@@ -103,6 +103,17 @@ module _ (s : List ℕ) where
       (λ west e k.
       after-within west (check_edge longitude s west) (check_edge longitude s) (edge-within longitude west k)
       (λ east f l. edge-within longitude east l))
+
+  -- where a check goes on is in the text
+  pub inside : (at : ℕ) (x : Result ℕ Refusal) → Within s at x → IfOk x (λ p. p ≤ length s)
+  inside at (Ok p) h = h.1
+  inside at (Err r) h = tt
+
+  pub airfield_inside : (at : ℕ) → at ≤ length s → IfOk (check_airfield s at) (λ p. p ≤ length s)
+  airfield_inside at h = inside at (check_airfield s at) (airfield-within at h)
+
+  pub box_inside : (at : ℕ) → at ≤ length s → IfOk (check_box s at) (λ p. p ≤ length s)
+  box_inside at h = inside at (check_box s at) (box-within at h)
 
   -- n fields of one kind, where each stays in the text
   pub repeat-within : (check : ℕ → Result ℕ Refusal) → ((p : ℕ) → p ≤ length s → Within s p (check p))

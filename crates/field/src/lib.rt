@@ -5,6 +5,7 @@ pub mod boxes;
 pub mod check;
 pub mod digits;
 mod fine;
+pub mod kind;
 pub mod read;
 pub mod record;
 pub mod write;

@@ -17,7 +17,8 @@ use Rattle.field.proofs.Number.{digits-fine}
 use Rattle.field.proofs.Local.{after-cases}
 use Rattle.lists.specs.Lists.{count_at, check_list}
 use Rattle.lists.proofs.Accepted.{counted}
-use Rattle.section.specs.Layout.{Item, Digits, AirfieldList, BoxList, several, check_item, check_items}
+use Rattle.section.specs.Layout.{Item, Digits, AirfieldList, BoxList, several, check_item, check_items, table_of, layout_of, digits_of, lists_and_digits}
+use Rattle.section.proofs.Come.{grouped, then_same}
 use Rattle.section.proofs.Local.{item_sized}
 use Rattle.finder.specs.Finding.{pass_list, pass_item, pass_items}
 use Rattle.std.specs.Prelude.{Result, Ok, Err}
@@ -94,10 +95,6 @@ items-accepted (i ∷ is) s start at p e =
 
 -- ---- Lists of one kind, one after the other
 
-grouped : (x : Result ℕ Refusal) (f g h : ℕ → Result ℕ Refusal) → ((p : ℕ) → f p ≡ after (g p) h) → after x f ≡ after (after x g) h
-grouped (Ok p) f g h e = e p
-grouped (Err r) f g h e = refl
-
 -- they are passed over first
 pub lists-first : (i : Item) (n : ℕ) (js : List Item) (s : List ℕ) (start at : ℕ)
     → pass_items (several i n js) s start at ≡ after (repeat (pass_item i s start) n at) (pass_items js s start)
@@ -107,25 +104,28 @@ lists-first i (suc n) js s start at =
     grouped (pass_item i s start at) (pass_items (several i n js) s start) (repeat (pass_item i s start) n) (pass_items js s start)
     (lists-first i n js s start)
 
-module _ (i : Item) (n : ℕ) (js : List Item) (s : List ℕ) (start at : ℕ) where
-  -- one of them refused
-  pub lists_stop : {r : Refusal} → repeat (pass_item i s start) n at ≡ Err r → Err r ≡ pass_items (several i n js) s start at
-  lists_stop e = sym (lists-first i n js s start at ∙ rw e)
+-- a section: its lists of boxes, its lists of airfields, its digits
+pub section_parts : (k : ℕ) (s : List ℕ) (start at : ℕ)
+    → pass_items (layout_of k) s start at
+    ≡ after (repeat (pass_list 16 14 s start) (table_of k).boxes at)
+    (λ p. after (repeat (pass_list 20 4 s start) (table_of k).airfields p) (pass_items (digits_of (table_of k)) s start))
+unfolding layout_of
+section_parts k s start at =
+    let x = table_of k in
+    lists-first BoxList x.boxes (lists_and_digits x) s start at
+    ∙ then_same (repeat (pass_list 16 14 s start) x.boxes at) (pass_items (lists_and_digits x) s start)
+    (λ p. after (repeat (pass_list 20 4 s start) x.airfields p) (pass_items (digits_of x) s start))
+    (lists-first AirfieldList x.airfields (digits_of x) s start)
 
-  -- all of them passed: the rest decides
-  pub lists-on : {p : ℕ} {r : Result ℕ Refusal} → repeat (pass_item i s start) n at ≡ Ok p → r ≡ pass_items js s start p
-      → r ≡ pass_items (several i n js) s start at
-  lists-on e d = d ∙ sym (lists-first i n js s start at ∙ rw e)
-
-module _ (most w : ℕ) (s : List ℕ) (start : ℕ) (few : most ≤ 20) (short : w ≤ 14) where
-  -- n lists come no further than one
-  pub lists-reach : (n at p : ℕ) → at ≤ length s + 280 → repeat (pass_list most w s start) n at ≡ Ok p → p ≤ length s + 280
-  unfolding repeat
-  lists-reach zero at p h e = rw (← next-same e) h
-  lists-reach (suc n) at p h e =
-      after-cases (pass_list most w s start at) (repeat (pass_list most w s start) n) p e
-      (λ q (c : pass_list most w s start at ≡ Ok q) (d : repeat (pass_list most w s start) n q ≡ Ok p).
-      lists-reach n q p (list_reaches most w s start at q few short c) d)
+-- n lists come no further than one
+pub lists_reach : (most w : ℕ) (s : List ℕ) (start n at p : ℕ) → repeat (pass_list most w s start) n at ≡ Ok p
+    → most ≤ 20 → w ≤ 14 → at ≤ length s + 280 → p ≤ length s + 280
+unfolding repeat
+lists_reach most w s start zero at p e few short h = rw (← next-same e) h
+lists_reach most w s start (suc n) at p e few short h =
+    after-cases (pass_list most w s start at) (repeat (pass_list most w s start) n) p e
+    (λ q (c : pass_list most w s start at ≡ Ok q) (d : repeat (pass_list most w s start) n q ≡ Ok p).
+    lists_reach most w s start n q p d few short (list_reaches most w s start at q few short c))
 
 -- ---- A section
 

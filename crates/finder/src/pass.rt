@@ -1,7 +1,7 @@
 // A section passed over by its counts alone: neither its entries nor its digits nor its delimiter are looked at.
 ghost use Rattle.std.specs.Prelude.{◌≡◌, ◌+◌, ◌≤◌, length};
 ghost use Rattle.field.specs.Fields.{repeat};
-ghost use Rattle.section.specs.Layout.{table_of, digits_of, lists_and_digits};
+ghost use Rattle.section.specs.Layout.{table_of, digits_of};
 ghost use Rattle.finder.specs.Finding.{pass_list, pass_items, pass_section};
 ghost use Rattle.finder.specs.Inner.{width_of};
 
@@ -25,6 +25,7 @@ fn list(s: &[u8], start: usize, at: usize, most: usize, w: usize) -> Result<usiz
 }
 
 // n lists of one kind.
+#[tactic(auto, using(field::proofs::Repeat::repeat_end, field::proofs::Repeat::repeat_turn, field::proofs::Repeat::repeat_stop))]
 fn several(
     s: &[u8],
     start: usize,
@@ -67,20 +68,14 @@ fn to_end(s: &[u8], start: usize, at: usize, k: usize) -> Result<usize, Refusal>
     Ok(end)
 }
 
-// Lists of airfields, and then digits.
-fn behind_boxes(s: &[u8], start: usize, at: usize, k: usize) -> Result<usize, Refusal>
-    requires { at ≤ length s.now + 280 }
-    ensures { result ≡ pass_items (lists_and_digits (table_of k)) s.now start at }
-{
-    let p = several(s, start, at, layout_of(k).airfields, MOST_AIRFIELDS, 4)?;
-    to_end(s, start, p, k)
-}
-
 // Where the text goes on behind section k, which starts at a place.
+#[tactic(auto, using(crate::proofs::Passing::section_parts, crate::proofs::Passing::lists_reach))]
 pub fn pass_section(s: &[u8], at: usize, k: usize) -> Result<usize, Refusal>
     requires { at ≤ length s.now }
     ensures { result ≡ pass_section k s.now at }
 {
-    let p = several(s, at, at, layout_of(k).boxes, MOST_BOXES, 14)?;
-    behind_boxes(s, at, p, k)
+    let l = layout_of(k);
+    let behind_boxes = several(s, at, at, l.boxes, MOST_BOXES, 14)?;
+    let behind_lists = several(s, at, behind_boxes, l.airfields, MOST_AIRFIELDS, 4)?;
+    to_end(s, at, behind_lists, k)
 }

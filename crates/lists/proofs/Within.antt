@@ -6,12 +6,12 @@ use native.Mathlib.Omega.{arith}
 use lib.ListN.{length}
 use Rattle.field.specs.Fields.{check_number, check_airfield, repeat}
 use Rattle.field.specs.Boxes.{check_box}
-use Rattle.field.proofs.Within.{Within, after-within, digits-within, airfield-within, box-within, repeat-within}
+use Rattle.field.proofs.Within.{Within, after-within, digits-within, inside, airfield-within, box-within, repeat-within}
 use Rattle.lists.specs.declared.Airfields.{Airfields}
 use Rattle.lists.specs.declared.Boxes.{Boxes}
 use Rattle.lists.specs.Lists.{count_at, check_list, check_airfields, check_boxes, airfields_text, boxes_text}
 use Rattle.lists.proofs.Spelling.{airfields-length, boxes-length}
-use Rattle.std.specs.Prelude.{Result}
+use Rattle.std.specs.Prelude.{Result, IfOk}
 use Rattle.text.specs.declared.Refusal.{Refusal}
 use Rattle.text.specs.declared.Code.TheVariants.{OutOfRange}
 
@@ -29,6 +29,13 @@ module _ (s : List ℕ) where
 
   pub boxes-within : (at : ℕ) → at ≤ length s → Within s at (check_boxes s at)
   boxes-within at h = list-within 16 check_box (box-within s) at h
+
+  -- a list that is accepted ends in the text
+  pub airfields_inside : (at : ℕ) → at ≤ length s → IfOk (check_airfields s at) (λ p. p ≤ length s)
+  airfields_inside at h = inside s at (check_airfields s at) (airfields-within at h)
+
+  pub boxes_inside : (at : ℕ) → at ≤ length s → IfOk (check_boxes s at) (λ p. p ≤ length s)
+  boxes_inside at h = inside s at (check_boxes s at) (boxes-within at h)
 
 -- 82 bytes at the most
 pub airfields-short : (l : Airfields) → length l.names ≡ 80 → l.count ≤ 20 → length (airfields_text l) ≤ 82

@@ -1,7 +1,6 @@
 // Whether an observation is accepted, and nothing else: its fields are decoded and their tests gathered without a branch.
 ghost use Rattle.std.specs.Prelude.{◌≡◌, ◌+◌, ◌≤◌, length};
 ghost use Rattle.text.specs.Parts.{part};
-ghost use Rattle.packed.specs.Packed.{worths};
 ghost use Rattle.packed.specs.Decoding.{decoded, figure_in};
 ghost use Rattle.observation.specs.Rows.{first_rows, later_rows};
 ghost use Rattle.observation.specs.Inner.{fits, held, height_held, wind_held, water_held, fields_held};
@@ -12,12 +11,12 @@ use crate::table::{
     ALTITUDE, CHANGE, DIRECTION, LATITUDE, LONGITUDE, SECONDS, SINCE, SPEED, TEMPERATURE, VAPOUR,
 };
 use packed::decode::decode;
+use packed::table::Worths;
 use packed::{Decoded, Figure};
 
 // The field that begins `from` bytes into the observation, decoded.
-pub fn decode_at(t: &[u8; 256], s: &[u8], from: usize, row: Row) -> Decoded
-    requires t_value { t.now ≡ worths }
-    requires s_len_bound { (length s.now ≤ 27) × (from + row.width ≤ length s.now) }
+pub fn decode_at(t: &Worths, s: &[u8], from: usize, row: Row) -> Decoded
+    requires { (length s.now ≤ 27) × (from + row.width ≤ length s.now) }
     ensures { result ≡ decoded (part from row.width s.now) }
 {
     let end = from + row.width;
@@ -42,18 +41,16 @@ fn is_fitting(row: Row, field: Decoded) -> bool
 }
 
 #[tactic(auto, unfolding(crate::specs::Inner::held))]
-fn is_held(t: &[u8; 256], s: &[u8], from: usize, row: Row) -> bool
-    requires t_value { t.now ≡ worths }
-    requires s_len_bound { (length s.now ≤ 27) × (from + row.width ≤ length s.now) }
+fn is_held(t: &Worths, s: &[u8], from: usize, row: Row) -> bool
+    requires { (length s.now ≤ 27) × (from + row.width ≤ length s.now) }
     ensures { result ≡ held row from s.now }
 {
     is_fitting(row, decode_at(t, s, from, row))
 }
 
 // Altitude and temperature.
-fn is_height_held(t: &[u8; 256], s: &[u8], from: usize) -> bool
-    requires t_value { t.now ≡ worths }
-    requires s_len_bound { (length s.now ≤ 27) × (from + 5 ≤ length s.now) }
+fn is_height_held(t: &Worths, s: &[u8], from: usize) -> bool
+    requires { (length s.now ≤ 27) × (from + 5 ≤ length s.now) }
     ensures { result ≡ height_held from s.now }
 {
     let second = from + 3;
@@ -62,9 +59,8 @@ fn is_height_held(t: &[u8; 256], s: &[u8], from: usize) -> bool
 
 // Wind direction and speed, both missing or both given.
 #[tactic(auto, unfolding(crate::specs::Inner::held, crate::specs::Inner::figure_at))]
-fn is_wind_held(t: &[u8; 256], s: &[u8], from: usize) -> bool
-    requires t_value { t.now ≡ worths }
-    requires s_len_bound { (length s.now ≤ 27) × (from + 4 ≤ length s.now) }
+fn is_wind_held(t: &Worths, s: &[u8], from: usize) -> bool
+    requires { (length s.now ≤ 27) × (from + 4 ≤ length s.now) }
     ensures { result ≡ wind_held from s.now }
 {
     let second = from + 2;
@@ -77,9 +73,8 @@ fn is_wind_held(t: &[u8; 256], s: &[u8], from: usize) -> bool
 
 // Gust, water vapour, quality.
 #[tactic(auto, using(crate::proofs::Held::water_gathered))]
-fn is_water_held(t: &[u8; 256], s: &[u8], from: usize) -> bool
-    requires t_value { t.now ≡ worths }
-    requires s_len_bound { (length s.now ≤ 27) × (from + 6 ≤ length s.now) }
+fn is_water_held(t: &Worths, s: &[u8], from: usize) -> bool
+    requires { (length s.now ≤ 27) × (from + 6 ≤ length s.now) }
     ensures { result ≡ water_held from s.now }
 {
     let second = from + 2;
@@ -89,9 +84,8 @@ fn is_water_held(t: &[u8; 256], s: &[u8], from: usize) -> bool
 
 // The fields behind P of a first observation.
 #[tactic(auto, using(crate::proofs::Held::first_gathered))]
-pub fn is_first_held(t: &[u8; 256], s: &[u8]) -> bool
-    requires t_value { t.now ≡ worths }
-    requires s_len { length s.now ≡ 27 }
+pub fn is_first_held(t: &Worths, s: &[u8]) -> bool
+    requires { length s.now ≡ 27 }
     ensures { result ≡ fields_held first_rows 11 s.now }
 {
     is_held(t, s, 1, LATITUDE)
@@ -104,9 +98,8 @@ pub fn is_first_held(t: &[u8; 256], s: &[u8]) -> bool
 
 // The fields behind P of a later one.
 #[tactic(auto, using(crate::proofs::Held::later_gathered))]
-pub fn is_later_held(t: &[u8; 256], s: &[u8]) -> bool
-    requires t_value { t.now ≡ worths }
-    requires s_len { length s.now ≡ 23 }
+pub fn is_later_held(t: &Worths, s: &[u8]) -> bool
+    requires { length s.now ≡ 23 }
     ensures { result ≡ fields_held later_rows 7 s.now }
 {
     is_held(t, s, 1, CHANGE)

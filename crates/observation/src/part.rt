@@ -1,7 +1,6 @@
 // The one way in for an observation's part of a report, the bytes s, which begin at the place `at`: whether it is accepted,
 // or its code and place. A good one is told by one test; any other is read field by field.
 ghost use Rattle.std.specs.Prelude.{◌≡◌, ◌≤◌, length};
-ghost use Rattle.packed.specs.Packed.{worths};
 ghost use Rattle.observation.specs.Observation.{read_first, read_later, first_seen, found};
 
 use crate::Presence;
@@ -9,13 +8,13 @@ use crate::byte::{all_solidi, is_kind};
 use crate::gather::{is_first_held, is_later_held};
 use crate::read::fields;
 use crate::table::{CHANGE, LATITUDE, LONGITUDE, SECONDS, SINCE};
+use packed::table::Worths;
 use text::{Code, Refusal};
 
 // The first observation, 27 bytes.
 #[tactic(auto, using(crate::proofs::Held::fields_held_lem), unfolding(crate::specs::Observation::read_first))]
-pub fn first_part(t: &[u8; 256], s: &[u8], at: usize) -> Result<(), Refusal>
-    requires t_value { t.now ≡ worths }
-    requires s_len { (length s.now ≡ 27) × (at ≤ 4096) }
+pub fn first_part(t: &Worths, s: &[u8], at: usize) -> Result<(), Refusal>
+    requires { (length s.now ≡ 27) × (at ≤ 4096) }
     ensures { result ≡ first_seen (read_first at s.now) }
 {
     if !is_kind(s[0]) {
@@ -29,9 +28,8 @@ pub fn first_part(t: &[u8; 256], s: &[u8], at: usize) -> Result<(), Refusal>
 
 // A later observation, 23 bytes; `ended` where an absent one came before, after which no present one follows.
 #[tactic(auto, using(crate::proofs::Held::fields_held_lem), unfolding(crate::specs::Observation::read_later))]
-pub fn later_part(t: &[u8; 256], s: &[u8], ended: bool, at: usize) -> Result<Presence, Refusal>
-    requires t_value { t.now ≡ worths }
-    requires s_len { (length s.now ≡ 23) × (at ≤ 4096) }
+pub fn later_part(t: &Worths, s: &[u8], ended: bool, at: usize) -> Result<Presence, Refusal>
+    requires { (length s.now ≡ 23) × (at ≤ 4096) }
     ensures { result ≡ found (read_later ended at s.now) }
 {
     let kind = s[0];

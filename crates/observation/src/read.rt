@@ -2,7 +2,6 @@
 // of a report.
 ghost use Rattle.std.specs.Prelude.{◌≡◌, [], ◌∷◌, ◌+◌, ◌≤◌, length, drop, Ok};
 ghost use Rattle.text.specs.Parts.{part};
-ghost use Rattle.packed.specs.Packed.{worths};
 ghost use Rattle.observation.specs.Figures.{read_figure};
 ghost use Rattle.observation.specs.Observation.{air_from, read_position, read_air, read_water, read_fields};
 
@@ -11,13 +10,13 @@ use crate::table::{ALTITUDE, DIRECTION, SPEED, TEMPERATURE, VAPOUR};
 use crate::{Air, Observation, Position, Row, Water};
 use packed::Figure;
 use packed::read::read;
+use packed::table::Worths;
 use text::{Code, Refusal};
 
 // One figure, s being its field: a packed field in its row's range.
 #[tactic(auto, using(packed::proofs::Refusal::refused_near), unfolding(crate::specs::Figures::read_figure))]
-fn figure(t: &[u8; 256], s: &[u8], row: Row, at: usize) -> Result<Figure, Refusal>
-    requires t_value { t.now ≡ worths }
-    requires at_bound { at ≤ 8192 }
+fn figure(t: &Worths, s: &[u8], row: Row, at: usize) -> Result<Figure, Refusal>
+    requires { at ≤ 8192 }
     ensures { result ≡ read_figure row at s.now }
 {
     match read(t, s) {
@@ -33,9 +32,8 @@ fn figure(t: &[u8; 256], s: &[u8], row: Row, at: usize) -> Result<Figure, Refusa
 }
 
 // The figure that begins `from` bytes into the observation.
-fn field(t: &[u8; 256], s: &[u8], at: usize, from: usize, row: Row) -> Result<Figure, Refusal>
-    requires t_value { t.now ≡ worths }
-    requires at_bound { (at ≤ 4096) × (length s.now ≤ 27) × (from + row.width ≤ length s.now) }
+fn field(t: &Worths, s: &[u8], at: usize, from: usize, row: Row) -> Result<Figure, Refusal>
+    requires { (at ≤ 4096) × (length s.now ≤ 27) × (from + row.width ≤ length s.now) }
     ensures { result ≡ read_figure row (at + from) (part from row.width s.now) }
 {
     let end = from + row.width;
@@ -43,9 +41,8 @@ fn field(t: &[u8; 256], s: &[u8], at: usize, from: usize, row: Row) -> Result<Fi
 }
 
 // The three figures behind P, by their rows.
-fn position(t: &[u8; 256], s: &[u8], at: usize, a: Row, b: Row, c: Row) -> Result<Position, Refusal>
-    requires t_value { t.now ≡ worths }
-    requires at_bound { (at ≤ 4096) × (length s.now ≤ 27) × (1 + a.width + b.width + c.width ≤ length s.now) }
+fn position(t: &Worths, s: &[u8], at: usize, a: Row, b: Row, c: Row) -> Result<Position, Refusal>
+    requires { (at ≤ 4096) × (length s.now ≤ 27) × (1 + a.width + b.width + c.width ≤ length s.now) }
     ensures { result ≡ read_position (a ∷ b ∷ c ∷ []) (at + 1) (drop 1 s.now) }
 {
     let second = 1 + a.width;
@@ -84,9 +81,8 @@ fn air_of(
 }
 
 // Altitude, temperature, wind direction, wind speed.
-fn air(t: &[u8; 256], s: &[u8], at: usize, from: usize) -> Result<Air, Refusal>
-    requires t_value { t.now ≡ worths }
-    requires at_bound { (at ≤ 4096) × (length s.now ≤ 27) × (from + 9 ≤ length s.now) }
+fn air(t: &Worths, s: &[u8], at: usize, from: usize) -> Result<Air, Refusal>
+    requires { (at ≤ 4096) × (length s.now ≤ 27) × (from + 9 ≤ length s.now) }
     ensures { result ≡ read_air (at + from) (drop from s.now) }
 {
     let second = from + 3;
@@ -100,9 +96,8 @@ fn air(t: &[u8; 256], s: &[u8], at: usize, from: usize) -> Result<Air, Refusal>
 }
 
 // Gust, water vapour, quality.
-fn water(t: &[u8; 256], s: &[u8], at: usize, from: usize) -> Result<Water, Refusal>
-    requires t_value { t.now ≡ worths }
-    requires at_bound { (at ≤ 4096) × (length s.now ≤ 27) × (from + 6 ≤ length s.now) }
+fn water(t: &Worths, s: &[u8], at: usize, from: usize) -> Result<Water, Refusal>
+    requires { (at ≤ 4096) × (length s.now ≤ 27) × (from + 6 ≤ length s.now) }
     ensures { result ≡ read_water (at + from) (drop from s.now) }
 {
     let gust = field(t, s, at, from, SPEED)?;
@@ -123,7 +118,7 @@ fn water(t: &[u8; 256], s: &[u8], at: usize, from: usize) -> Result<Water, Refus
 // The fields behind P of an observation whose position takes n bytes.
 #[tactic(auto, unfolding(crate::specs::Observation::read_fields))]
 pub fn fields(
-    t: &[u8; 256],
+    t: &Worths,
     s: &[u8],
     at: usize,
     n: usize,
@@ -131,8 +126,7 @@ pub fn fields(
     b: Row,
     c: Row,
 ) -> Result<Observation, Refusal>
-    requires t_value { t.now ≡ worths }
-    requires at_bound { (at ≤ 4096) × (n ≤ 11) × (length s.now ≡ 16 + n) × (1 + a.width + b.width + c.width ≤ length s.now) }
+    requires { (at ≤ 4096) × (n ≤ 11) × (length s.now ≡ 16 + n) × (1 + a.width + b.width + c.width ≤ length s.now) }
     ensures { result ≡ read_fields (a ∷ b ∷ c ∷ []) n at s.now }
 {
     let kind = s[0];

@@ -1,6 +1,5 @@
 // The record of an accepted part: each figure is taken from its bytes, and none of them is tested again.
 ghost use Rattle.std.specs.Prelude.{◌≡◌, ◌+◌, ◌≤◌, length};
-ghost use Rattle.packed.specs.Packed.{worths};
 ghost use Rattle.observation.specs.Rows.{first_rows, later_rows};
 ghost use Rattle.observation.specs.Inner.{position_at, air_at, water_at, observation_at, later_in};
 
@@ -9,12 +8,12 @@ use crate::table::{
     ALTITUDE, CHANGE, DIRECTION, LATITUDE, LONGITUDE, SECONDS, SINCE, SPEED, TEMPERATURE, VAPOUR,
 };
 use crate::{Air, Observation, Position, Water};
+use packed::table::Worths;
 
 // Latitude, longitude, seconds into the month.
 #[tactic(auto, unfolding(crate::specs::Inner::figure_at, crate::specs::Inner::figures_at, crate::specs::Inner::position_at))]
-pub fn take_position(t: &[u8; 256], s: &[u8]) -> Position
-    requires t_value { t.now ≡ worths }
-    requires s_len { length s.now ≡ 27 }
+pub fn take_position(t: &Worths, s: &[u8]) -> Position
+    requires { length s.now ≡ 27 }
     ensures { result ≡ position_at first_rows s.now }
 {
     Position {
@@ -26,9 +25,8 @@ pub fn take_position(t: &[u8; 256], s: &[u8]) -> Position
 
 // Changes of latitude and longitude, time since the previous.
 #[tactic(auto, unfolding(crate::specs::Inner::figure_at, crate::specs::Inner::figures_at, crate::specs::Inner::position_at))]
-pub fn take_changes(t: &[u8; 256], s: &[u8]) -> Position
-    requires t_value { t.now ≡ worths }
-    requires s_len { length s.now ≡ 23 }
+pub fn take_changes(t: &Worths, s: &[u8]) -> Position
+    requires { length s.now ≡ 23 }
     ensures { result ≡ position_at later_rows s.now }
 {
     Position {
@@ -39,9 +37,8 @@ pub fn take_changes(t: &[u8; 256], s: &[u8]) -> Position
 }
 
 #[tactic(auto, unfolding(crate::specs::Inner::figure_at, crate::specs::Inner::figures_at, crate::specs::Inner::air_at))]
-fn take_air(t: &[u8; 256], s: &[u8], from: usize) -> Air
-    requires t_value { t.now ≡ worths }
-    requires s_len_bound { (length s.now ≤ 27) × (from + 9 ≤ length s.now) }
+fn take_air(t: &Worths, s: &[u8], from: usize) -> Air
+    requires { (length s.now ≤ 27) × (from + 9 ≤ length s.now) }
     ensures { result ≡ air_at from s.now }
 {
     let second = from + 3;
@@ -56,9 +53,8 @@ fn take_air(t: &[u8; 256], s: &[u8], from: usize) -> Air
 }
 
 #[tactic(auto, unfolding(crate::specs::Inner::figure_at, crate::specs::Inner::figures_at, crate::specs::Inner::water_at))]
-fn take_water(t: &[u8; 256], s: &[u8], from: usize) -> Water
-    requires t_value { t.now ≡ worths }
-    requires s_len_bound { (length s.now ≤ 27) × (from + 6 ≤ length s.now) }
+fn take_water(t: &Worths, s: &[u8], from: usize) -> Water
+    requires { (length s.now ≤ 27) × (from + 6 ≤ length s.now) }
     ensures { result ≡ water_at from s.now }
 {
     Water {
@@ -70,9 +66,8 @@ fn take_water(t: &[u8; 256], s: &[u8], from: usize) -> Water
 
 // The first observation, 27 bytes.
 #[tactic(auto, unfolding(crate::specs::Inner::observation_at))]
-pub fn take_first(t: &[u8; 256], s: &[u8]) -> Observation
-    requires t_value { t.now ≡ worths }
-    requires s_len { length s.now ≡ 27 }
+pub fn take_first(t: &Worths, s: &[u8]) -> Observation
+    requires { length s.now ≡ 27 }
     ensures { result ≡ observation_at first_rows 11 s.now }
 {
     Observation {
@@ -85,9 +80,8 @@ pub fn take_first(t: &[u8; 256], s: &[u8]) -> Observation
 
 // A later observation, 23 bytes.
 #[tactic(auto, unfolding(crate::specs::Inner::observation_at, crate::specs::Inner::later_in))]
-pub fn take_later(t: &[u8; 256], s: &[u8]) -> Option<Observation>
-    requires t_value { t.now ≡ worths }
-    requires s_len { length s.now ≡ 23 }
+pub fn take_later(t: &Worths, s: &[u8]) -> Option<Observation>
+    requires { length s.now ≡ 23 }
     ensures { result ≡ later_in s.now }
 {
     let kind = s[0];

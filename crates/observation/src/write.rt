@@ -1,7 +1,7 @@
 // Writing an observation whose record was checked.
 ghost use Rattle.std.specs.Prelude.{◌≡◌, true, false, [], ◌∷◌, ◌++◌, ◌+◌, ◌≤◌, length, Ok};
 ghost use Rattle.text.specs.Over.{over};
-ghost use Rattle.packed.specs.Packed.{digits, field_of, fitting};
+ghost use Rattle.packed.specs.Packed.{field_of, fitting};
 ghost use Rattle.observation.specs.Figures.{figures_text};
 ghost use Rattle.observation.specs.Rows.{air_rows, water_rows};
 ghost use Rattle.observation.specs.Record.{position_figures, air_figures, water_figures, check_first, check_later, observation_text, first_text, later_text};
@@ -10,21 +10,20 @@ ghost use Rattle.observation.specs.Inner.{fitting_all, Fitting};
 use crate::table::{CHANGE, LATITUDE, LONGITUDE, SECONDS, SINCE};
 use crate::{Air, Observation, Position, Row, Water};
 use packed::Figure;
+use packed::table::Digits;
 use packed::write::put;
 use text::fill;
 
 // One figure, into the part that begins `from` bytes into the observation.
-fn put_field(t: &[u8; 40], figure: Figure, width: usize, from: usize, d: &mut [u8])
-    requires t_value { t.now ≡ digits }
-    requires width_in_bounds { (from + width ≤ length d.old) × (width ≤ 5) × (fitting width figure ≡ true) }
+fn put_field(t: &Digits, figure: Figure, width: usize, from: usize, d: &mut [u8])
+    requires { (from + width ≤ length d.old) × (width ≤ 5) × (fitting width figure ≡ true) }
     ensures { d.new ≡ over d.old from (field_of width figure) }
 {
     let end = from + width;
     put(t, figure, &mut d[from..end]);
 }
 
-fn put_position(t: &[u8; 40], p: Position, a: Row, b: Row, c: Row, d: &mut [u8])
-    requires t_value { t.now ≡ digits }
+fn put_position(t: &Digits, p: Position, a: Row, b: Row, c: Row, d: &mut [u8])
     requires width_bound { (a.width ≤ 5) × (b.width ≤ 5) × (c.width ≤ 5) × (1 + a.width + b.width + c.width ≤ length d.old) }
     requires p_value { fitting_all (a ∷ b ∷ c ∷ []) (position_figures p) ≡ true }
     ensures { d.new ≡ over d.old 1 (figures_text (a ∷ b ∷ c ∷ []) (position_figures p)) }
@@ -34,9 +33,8 @@ fn put_position(t: &[u8; 40], p: Position, a: Row, b: Row, c: Row, d: &mut [u8])
     put_field(t, p.time, c.width, 1 + a.width + b.width, d);
 }
 
-fn put_air(t: &[u8; 40], air: Air, from: usize, d: &mut [u8])
-    requires t_value { t.now ≡ digits }
-    requires from_in_bounds { (from + 9 ≤ length d.old) × (fitting_all air_rows (air_figures air) ≡ true) }
+fn put_air(t: &Digits, air: Air, from: usize, d: &mut [u8])
+    requires { (from + 9 ≤ length d.old) × (fitting_all air_rows (air_figures air) ≡ true) }
     ensures { d.new ≡ over d.old from (figures_text air_rows (air_figures air)) }
 {
     let second = from + 3;
@@ -48,9 +46,8 @@ fn put_air(t: &[u8; 40], air: Air, from: usize, d: &mut [u8])
     put_field(t, air.speed, 2, fourth, d);
 }
 
-fn put_water(t: &[u8; 40], water: Water, from: usize, d: &mut [u8])
-    requires t_value { t.now ≡ digits }
-    requires from_in_bounds { (from + 6 ≤ length d.old) × (fitting_all water_rows (water_figures water) ≡ true) }
+fn put_water(t: &Digits, water: Water, from: usize, d: &mut [u8])
+    requires { (from + 6 ≤ length d.old) × (fitting_all water_rows (water_figures water) ≡ true) }
     ensures { d.new ≡ over d.old from (figures_text water_rows (water_figures water) ++ water.quality ∷ []) }
 {
     let second = from + 2;
@@ -61,8 +58,7 @@ fn put_water(t: &[u8; 40], water: Water, from: usize, d: &mut [u8])
 }
 
 // An observation whose position takes n bytes, into all of d.
-fn put_observation(t: &[u8; 40], o: Observation, n: usize, a: Row, b: Row, c: Row, d: &mut [u8])
-    requires t_value { t.now ≡ digits }
+fn put_observation(t: &Digits, o: Observation, n: usize, a: Row, b: Row, c: Row, d: &mut [u8])
     requires n_bound { (n ≤ 11) × (length d.old ≡ 16 + n) × (a.width + b.width + c.width ≡ n) }
     requires width_bound { (a.width ≤ 5) × (b.width ≤ 5) × (c.width ≤ 5) × Fitting (a ∷ b ∷ c ∷ []) o }
     ensures { d.new ≡ observation_text (a ∷ b ∷ c ∷ []) o }
@@ -74,18 +70,16 @@ fn put_observation(t: &[u8; 40], o: Observation, n: usize, a: Row, b: Row, c: Ro
 }
 
 // The first observation, 27 bytes.
-pub fn write_first(t: &[u8; 40], o: Observation, d: &mut [u8])
-    requires t_value { t.now ≡ digits }
-    requires d_len { (length d.old ≡ 27) × (check_first 0 o ≡ Ok tt) }
+pub fn write_first(t: &Digits, o: Observation, d: &mut [u8])
+    requires { (length d.old ≡ 27) × (check_first 0 o ≡ Ok tt) }
     ensures { d.new ≡ first_text o }
 {
     put_observation(t, o, 11, LATITUDE, LONGITUDE, SECONDS, d);
 }
 
 // A later observation, 23 bytes.
-pub fn write_later(t: &[u8; 40], later: Option<Observation>, d: &mut [u8])
-    requires t_value { t.now ≡ digits }
-    requires d_len { (length d.old ≡ 23) × (check_later false 0 later ≡ Ok tt) }
+pub fn write_later(t: &Digits, later: Option<Observation>, d: &mut [u8])
+    requires { (length d.old ≡ 23) × (check_later false 0 later ≡ Ok tt) }
     ensures { d.new ≡ later_text later }
 {
     match later {

@@ -2,12 +2,12 @@
 // and a leading space is worth nothing. Which fields have spaces or are missing varies from report to report, and a branch that
 // is guessed wrong costs more than the few sums of a field.
 ghost use Rattle.std.specs.Prelude.{◌≡◌, cond, ◌≤◌};
-ghost use Rattle.packed.specs.Packed.{worths, half_of};
+ghost use Rattle.packed.specs.Packed.{half_of};
 ghost use Rattle.packed.specs.Decoding.{none_decoded, decoded};
 
 use crate::Decoded;
 use crate::sign::{less, size};
-use crate::table::worth;
+use crate::table::Worths;
 
 fn wide(b: u8) -> u32
     ensures { result ≡ b }
@@ -50,8 +50,7 @@ fn none() -> Decoded
 
 // A field of any width. What its bytes are so far is kept in variables of its own: where a caller knows the width, the loop is
 // then laid out as a few lines, and all of them stay in registers.
-pub fn decode(t: &[u8; 256], f: &[u8]) -> Decoded
-    requires { t.now ≡ worths }
+pub fn decode(t: &Worths, f: &[u8]) -> Decoded
     ensures { result ≡ decoded f.now }
 {
     let w = f.len();
@@ -69,7 +68,7 @@ pub fn decode(t: &[u8; 256], f: &[u8]) -> Decoded
     while i < last {
         let b = f[i];
         leading &= b == b' ';
-        let v = either(leading, 0, wide(worth(t, b)));
+        let v = either(leading, 0, wide(t.worth(b)));
         fine &= v < 40;
         solidi &= b == b'/';
         sum += v * unit;
@@ -78,7 +77,7 @@ pub fn decode(t: &[u8; 256], f: &[u8]) -> Decoded
         i += 1;
     }
     let b = f[last];
-    let d = worth(t, b);
+    let d = t.worth(b);
     let figure = less(sum + wide(d), 20 * first);
     Decoded {
         missing: solidi & (b == b'/'),

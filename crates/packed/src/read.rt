@@ -1,11 +1,11 @@
 // Reading a packed field.
 ghost use Rattle.std.specs.Prelude.{◌≡◌, ◌≤◌, ◌==◌, not, leb, length, drop, position};
-ghost use Rattle.packed.specs.Packed.{worths, worth_of, read_packed, trim, is_solidus, is_digit, ahead, fault_behind};
+ghost use Rattle.packed.specs.Packed.{worth_of, read_packed, trim, is_solidus, is_digit, ahead, fault_behind};
 ghost use Rattle.packed.specs.Inner.{refused_field};
 
 use crate::Figure;
 use crate::decode::decode;
-use crate::table::{worth, worth_table};
+use crate::table::Worths;
 use text::{Code, Refusal};
 
 // Where the first byte stands that is another one than b.
@@ -16,11 +16,10 @@ fn first_other(f: &[u8], b: u8) -> Option<usize>
 }
 
 // Where the first byte stands that is no digit.
-fn first_odd(t: &[u8; 256], f: &[u8]) -> Option<usize>
-    requires { t.now ≡ worths }
+fn first_odd(t: &Worths, f: &[u8]) -> Option<usize>
     ensures { result ≡ position (λ x. leb 40 (worth_of x)) f.now }
 {
-    f.iter().position(|x| 40 <= worth(t, *x))
+    f.iter().position(|x| 40 <= t.worth(*x))
 }
 
 // Where the field goes on behind its leading spaces.
@@ -38,8 +37,7 @@ fn solidi_ahead(f: &[u8]) -> usize
 }
 
 // How many digits it begins with.
-fn digits_ahead(t: &[u8; 256], f: &[u8]) -> usize
-    requires { t.now ≡ worths }
+fn digits_ahead(t: &Worths, f: &[u8]) -> usize
     ensures { result ≡ ahead is_digit f.now }
 {
     first_odd(t, f).unwrap_or(f.len())
@@ -47,9 +45,8 @@ fn digits_ahead(t: &[u8; 256], f: &[u8]) -> usize
 
 // Where a field that begins with no solidus goes wrong behind its spaces: at the last of them where there is nothing else, and
 // nowhere, which is its width, where all else are digits.
-fn fault_behind(t: &[u8; 256], f: &[u8]) -> usize
-    requires t_value { t.now ≡ worths }
-    requires in_bounds { (1 ≤ length f.now) × (length f.now ≤ 5) }
+fn fault_behind(t: &Worths, f: &[u8]) -> usize
+    requires { (1 ≤ length f.now) × (length f.now ≤ 5) }
     ensures { result ≡ fault_behind f.now }
 {
     let w = f.len();
@@ -63,9 +60,8 @@ fn fault_behind(t: &[u8; 256], f: &[u8]) -> usize
 
 // Why a field is refused that is neither missing nor a figure: only such a field is looked at again. Digits behind spaces that are
 // no figure are more than hold it.
-fn refused(t: &[u8; 256], f: &[u8]) -> Refusal
-    requires t_value { t.now ≡ worths }
-    requires in_bounds { (1 ≤ length f.now) × (length f.now ≤ 5) }
+fn refused(t: &Worths, f: &[u8]) -> Refusal
+    requires { (1 ≤ length f.now) × (length f.now ≤ 5) }
     ensures { result ≡ refused_field f.now }
 {
     let solidi = solidi_ahead(f);
@@ -80,8 +76,7 @@ fn refused(t: &[u8; 256], f: &[u8]) -> Refusal
     }
 }
 
-pub fn read(t: &[u8; 256], f: &[u8]) -> Result<Figure, Refusal>
-    requires { t.now ≡ worths }
+pub fn read(t: &Worths, f: &[u8]) -> Result<Figure, Refusal>
     ensures { result ≡ read_packed f.now }
 {
     let w = f.len();
@@ -102,6 +97,5 @@ pub fn read(t: &[u8; 256], f: &[u8]) -> Result<Figure, Refusal>
 pub fn read_lone(f: &[u8]) -> Result<Figure, Refusal>
     ensures { result ≡ read_packed f.now }
 {
-    let t = worth_table();
-    read(&t, f)
+    read(&Worths::new(), f)
 }

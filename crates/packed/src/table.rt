@@ -1,5 +1,5 @@
-// One table gives every byte its worth as a base-40 digit. A constant table is built anew wherever it is named, so it is
-// named once, in `worth_table`, and lent down from there.
+// One table gives every byte its worth as a base-40 digit, and one every digit its byte. A constant table is built anew wherever it
+// is named, so each is named once, in `new`, and lent down from there.
 ghost use Rattle.std.specs.Prelude.{◌≡◌, ◌<◌};
 ghost use Rattle.packed.specs.Packed.{worth_of, worths, digit_of, digits};
 
@@ -22,11 +22,25 @@ const DIGIT: [u8; 40] = [
     79, 80, 81, 82, 83, 84, 85, 86, 87, 88, 89, 90, 58, 44, 45, 46,
 ];
 
-#[tactic(auto, unfolding(crate::specs::Packed::worths, crate::specs::Packed::worth_of))]
-pub fn worth_table() -> [u8; 256]
-    ensures { result ≡ worths }
-{
-    WORTH
+// What every byte is worth.
+#[derive(Drop)]
+pub struct Worths {
+    table: [u8; 256],
+    ghost exact: { table ≡ worths },
+}
+
+impl Worths {
+    #[tactic(auto, unfolding(crate::specs::Packed::worths, crate::specs::Packed::worth_of))]
+    pub fn new() -> Worths {
+        Worths { table: WORTH }
+    }
+
+    // What a byte is worth as a digit: 0 to 39, or 40 where it is none.
+    pub fn worth(&self, b: u8) -> u8
+        ensures { result ≡ worth_of b }
+    {
+        self.table[index(b)]
+    }
 }
 
 fn index(b: u8) -> usize
@@ -35,26 +49,24 @@ fn index(b: u8) -> usize
     b as usize
 }
 
-// What a byte is worth as a digit: 0 to 39, or 40 where it is none.
-pub fn worth(t: &[u8; 256], b: u8) -> u8
-    requires { t.now ≡ worths }
-    ensures { result ≡ worth_of b }
-{
-    t[index(b)]
+// What every digit is written as.
+#[derive(Drop)]
+pub struct Digits {
+    table: [u8; 40],
+    ghost exact: { table ≡ digits },
 }
 
-#[tactic(auto, unfolding(crate::specs::Packed::digits, crate::specs::Packed::digit_of))]
-pub fn digit_table() -> [u8; 40]
-    ensures { result ≡ digits }
-{
-    DIGIT
-}
+impl Digits {
+    #[tactic(auto, unfolding(crate::specs::Packed::digits, crate::specs::Packed::digit_of))]
+    pub fn new() -> Digits {
+        Digits { table: DIGIT }
+    }
 
-// The byte that is worth n.
-pub fn digit(t: &[u8; 40], n: usize) -> u8
-    requires t_value { t.now ≡ digits }
-    requires n_bound { n < 40 }
-    ensures { result ≡ digit_of n }
-{
-    t[n]
+    // The byte that is worth n.
+    pub fn digit(&self, n: usize) -> u8
+        requires { n < 40 }
+        ensures { result ≡ digit_of n }
+    {
+        self.table[n]
+    }
 }

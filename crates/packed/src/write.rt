@@ -2,7 +2,6 @@
 ghost use Rattle.std.specs.Prelude.{◌≡◌, true, cond, [], ◌≤◌, ◌<◌, length};
 ghost use Rattle.std.specs.Int.Signed.{mag};
 ghost use Rattle.packed.specs.Packed.{
-  digits,
   fewest,
   spell,
   behind_spaces,
@@ -18,7 +17,7 @@ ghost use Rattle.packed.specs.Inner.{last_digit};
 use crate::Figure;
 use crate::decode::half;
 use crate::sign::{plus, size};
-use crate::table::{digit, digit_table};
+use crate::table::Digits;
 use text::{Code, fill};
 
 // The fewest digits, w at the most, that hold a figure of size m.
@@ -41,23 +40,21 @@ fn low(n: u32) -> usize
 }
 
 // The last digits of n, as many as there is room for, from the right.
-fn spell_into(t: &[u8; 40], out: &mut [u8], n: u32)
-    requires { t.now ≡ digits }
+fn spell_into(t: &Digits, out: &mut [u8], n: u32)
     ensures { out.new ≡ spell (length out.old) n [] }
 {
     let mut i = out.len();
     let mut v = n;
     while 0 < i {
         i -= 1;
-        out[i] = digit(t, low(v % 40));
+        out[i] = t.digit(low(v % 40));
         v /= 40;
     }
 }
 
 // k digits of n, behind as many spaces as are left.
-fn place(t: &[u8; 40], out: &mut [u8], k: usize, n: u32)
-    requires t_value { t.now ≡ digits }
-    requires k_in_bounds { k ≤ length out.old }
+fn place(t: &Digits, out: &mut [u8], k: usize, n: u32)
+    requires { k ≤ length out.old }
     ensures { out.new ≡ behind_spaces (length out.old) k n }
 {
     let gap = out.len() - k;
@@ -66,9 +63,8 @@ fn place(t: &[u8; 40], out: &mut [u8], k: usize, n: u32)
 }
 
 // A given figure, in its one spelling, in any width.
-fn put_any(t: &[u8; 40], x: i32, out: &mut [u8])
-    requires t_value { t.now ≡ digits }
-    requires out_len_bound { (length out.old ≤ 5) × (mag x < half_of (length out.old)) }
+fn put_any(t: &Digits, x: i32, out: &mut [u8])
+    requires { (length out.old ≤ 5) × (mag x < half_of (length out.old)) }
     ensures { out.new ≡ spelling (length out.old) (fewest (length out.old) (mag x)) x }
 {
     let k = fewest_of(out.len(), size(x));
@@ -91,38 +87,35 @@ fn shift(t: bool) -> u32
 
 // The last digit of n, which is counted from half a digit on where none stands before it.
 #[tactic(auto, unfolding(crate::specs::Inner::last_digit))]
-fn last_digit(t: &[u8; 40], n: u32, alone: bool) -> u8
-    requires t_value { t.now ≡ digits }
-    requires n_bound { n < 64000 }
+fn last_digit(t: &Digits, n: u32, alone: bool) -> u8
+    requires { n < 64000 }
     ensures { result ≡ last_digit n alone }
 {
-    digit(t, low((n + shift(alone)) % 40))
+    t.digit(low((n + shift(alone)) % 40))
 }
 
 // The two bytes and the three that most figures are written in: each by itself, with no loop.
-fn put_two(t: &[u8; 40], x: i32, out: &mut [u8])
-    requires t_value { t.now ≡ digits }
-    requires out_len { (length out.old ≡ 2) × (mag x < 800) }
+fn put_two(t: &Digits, x: i32, out: &mut [u8])
+    requires { (length out.old ≡ 2) × (mag x < 800) }
     ensures { out.new ≡ spelling 2 (fewest 2 (mag x)) x }
 {
     let n = plus(x, 800);
     let one = size(x) < 20;
-    let a = either(one, b' ', digit(t, low(n / 40)));
+    let a = either(one, b' ', t.digit(low(n / 40)));
     let b = last_digit(t, n, one);
     out[0] = a;
     out[1] = b;
 }
 
-fn put_three(t: &[u8; 40], x: i32, out: &mut [u8])
-    requires t_value { t.now ≡ digits }
-    requires out_len { (length out.old ≡ 3) × (mag x < 32000) }
+fn put_three(t: &Digits, x: i32, out: &mut [u8])
+    requires { (length out.old ≡ 3) × (mag x < 32000) }
     ensures { out.new ≡ spelling 3 (fewest 3 (mag x)) x }
 {
     let n = plus(x, 32000);
     let m = size(x);
     let one = m < 20;
     let two = m < 800;
-    let a = either(two, b' ', digit(t, low(n / 1600)));
+    let a = either(two, b' ', t.digit(low(n / 1600)));
     let b = either(one, b' ', last_digit(t, n / 40, two));
     let c = last_digit(t, n, one);
     out[0] = a;
@@ -132,9 +125,8 @@ fn put_three(t: &[u8; 40], x: i32, out: &mut [u8])
 
 // A given figure, in its one spelling, as wide as what is lent.
 #[tactic(auto, unfolding(crate::specs::Packed::half_of))]
-fn put_given(t: &[u8; 40], x: i32, out: &mut [u8])
-    requires t_value { t.now ≡ digits }
-    requires out_len_bound { (length out.old ≤ 5) × (mag x < half_of (length out.old)) }
+fn put_given(t: &Digits, x: i32, out: &mut [u8])
+    requires { (length out.old ≤ 5) × (mag x < half_of (length out.old)) }
     ensures { out.new ≡ spelling (length out.old) (fewest (length out.old) (mag x)) x }
 {
     let w = out.len();
@@ -149,9 +141,8 @@ fn put_given(t: &[u8; 40], x: i32, out: &mut [u8])
 
 // A figure, given or missing, as wide as what is lent.
 #[tactic(auto, unfolding(crate::specs::Packed::field_of))]
-pub fn put(t: &[u8; 40], figure: Figure, out: &mut [u8])
-    requires t_value { t.now ≡ digits }
-    requires out_len_bound { (length out.old ≤ 5) × (fitting (length out.old) figure ≡ true) }
+pub fn put(t: &Digits, figure: Figure, out: &mut [u8])
+    requires { (length out.old ≤ 5) × (fitting (length out.old) figure ≡ true) }
     ensures { out.new ≡ field_of (length out.old) figure }
 {
     match figure {
@@ -193,7 +184,6 @@ pub fn write_lone(figure: Figure, width: usize, out: &mut [u8]) -> Result<(), Co
     ensures { (result ≡ write_code figure width (length out.old)) × (out.new ≡ written figure width out.old) }
 {
     code_of(figure, width, out.len())?;
-    let t = digit_table();
-    put(&t, figure, &mut out[..width]);
+    put(&Digits::new(), figure, &mut out[..width]);
     Ok(())
 }

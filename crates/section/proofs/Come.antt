@@ -6,8 +6,8 @@ use lib.ListN.{length}
 use Rattle.field.specs.Fields.{repeat}
 use Rattle.text.specs.Checks.{after}
 use Rattle.field.proofs.Local.{ends-inside}
-use Rattle.field.proofs.Within.{Within, repeat-within}
-use Rattle.section.specs.Layout.{Item, several, check_item, check_items}
+use Rattle.lists.specs.Lists.{check_airfields, check_boxes}
+use Rattle.section.specs.Layout.{Item, AirfieldList, BoxList, several, check_item, check_items, table_of, layout_of, digits_of, lists_and_digits}
 use Rattle.section.proofs.Local.{item_local}
 use Rattle.std.specs.Prelude.{Result, Ok, Err}
 use Rattle.text.specs.declared.Refusal.{Refusal}
@@ -18,10 +18,6 @@ pub record Come (is : List Item) (s : List ℕ) (at : ℕ) (js : List Item) (p :
   pub inside : p ≤ length s
 
 module _ {is : List Item} {s : List ℕ} {at : ℕ} where
-  -- before the first
-  pub come_none : at ≤ length s → Come is s at is at
-  come_none h = record { same = refl; inside = h }
-
   -- one item more
   pub come_on : {i : Item} {js : List Item} {p q : ℕ} → Come is s at (i ∷ js) p → check_item i s p ≡ Ok q → Come is s at js q
   unfolding check_items
@@ -39,7 +35,8 @@ module _ {is : List Item} {s : List ℕ} {at : ℕ} where
 
 -- ---- Lists of one kind, one after the other
 
-grouped : (x : Result ℕ Refusal) (f g h : ℕ → Result ℕ Refusal) → ((p : ℕ) → f p ≡ after (g p) h) → after x f ≡ after (after x g) h
+-- one check and then others, which are two
+pub grouped : (x : Result ℕ Refusal) (f g h : ℕ → Result ℕ Refusal) → ((p : ℕ) → f p ≡ after (g p) h) → after x f ≡ after (after x g) h
 grouped (Ok p) f g h e = e p
 grouped (Err r) f g h e = refl
 
@@ -51,15 +48,19 @@ lists-first i zero js s at = refl
 lists-first i (suc n) js s at =
     grouped (check_item i s at) (check_items (several i n js) s) (repeat (check_item i s) n) (check_items js s) (lists-first i n js s)
 
-module _ (i : Item) (n : ℕ) (js : List Item) {is : List Item} {s : List ℕ} {at p : ℕ} (c : Come is s at (several i n js) p) where
-  -- all of them accepted
-  pub lists-on : {q : ℕ} → ((p : ℕ) → p ≤ length s → Within s p (check_item i s p)) → repeat (check_item i s) n p ≡ Ok q → Come is s at js q
-  lists-on within e =
-      record {
-        same = c.same ∙ lists-first i n js s p ∙ rw e;
-        inside = (rw e at (repeat-within s (check_item i s) within n p c.inside)).1;
-      }
+-- one check and then another, which is the same as a third
+pub then_same : (x : Result ℕ Refusal) (f g : ℕ → Result ℕ Refusal) → ((p : ℕ) → f p ≡ g p) → after x f ≡ after x g
+then_same (Ok p) f g e = e p
+then_same (Err r) f g e = refl
 
-  -- one of them refused
-  pub lists_stop : {r : Refusal} → repeat (check_item i s) n p ≡ Err r → Err r ≡ check_items is s at
-  lists_stop e = sym (c.same ∙ lists-first i n js s p ∙ rw e)
+-- a section: its lists of boxes, its lists of airfields, its digits
+pub section_parts : (k : ℕ) (s : List ℕ) (at : ℕ)
+    → check_items (layout_of k) s at
+    ≡ after (repeat (check_boxes s) (table_of k).boxes at)
+    (λ p. after (repeat (check_airfields s) (table_of k).airfields p) (check_items (digits_of (table_of k)) s))
+unfolding layout_of
+section_parts k s at =
+    let x = table_of k in
+    lists-first BoxList x.boxes (lists_and_digits x) s at
+    ∙ then_same (repeat (check_boxes s) x.boxes at) (check_items (lists_and_digits x) s)
+    (λ p. after (repeat (check_airfields s) x.airfields p) (check_items (digits_of x) s)) (lists-first AirfieldList x.airfields (digits_of x) s)

@@ -1,39 +1,12 @@
 // The sections of a command in a text, from a place on: each number's own length, limits and refusals.
 ghost use Rattle.std.specs.Prelude.{◌≡◌, ◌≤◌, length};
-ghost use Rattle.field.specs.Fields.{repeat};
-ghost use Rattle.lists.specs.Lists.{check_airfields, check_boxes};
 ghost use Rattle.section.specs.Layout.{table_of, check_items, check_section, digits_of};
 
 use crate::table::layout_of;
 use field::check::{delimiter, digits};
-use lists::check::{airfields, boxes};
+use field::kind::repeated;
+use lists::{Airfields, Boxes};
 use text::Refusal;
-
-// n lists of boxes.
-#[tactic(auto, using(field::proofs::Repeat::repeat_end, field::proofs::Repeat::repeat_turn, field::proofs::Repeat::repeat_stop))]
-fn box_lists(s: &[u8], at: usize, n: usize) -> Result<usize, Refusal>
-    requires { at ≤ length s.now }
-    ensures { result ≡ repeat (check_boxes s.now) n at }
-{
-    let mut p = at;
-    for _ in 0..n {
-        p = boxes(s, p)?;
-    }
-    Ok(p)
-}
-
-// n lists of airfields.
-#[tactic(auto, using(field::proofs::Repeat::repeat_end, field::proofs::Repeat::repeat_turn, field::proofs::Repeat::repeat_stop))]
-fn airfield_lists(s: &[u8], at: usize, n: usize) -> Result<usize, Refusal>
-    requires { at ≤ length s.now }
-    ensures { result ≡ repeat (check_airfields s.now) n at }
-{
-    let mut p = at;
-    for _ in 0..n {
-        p = airfields(s, p)?;
-    }
-    Ok(p)
-}
 
 // The digits of a section, row by row, and `/`.
 #[tactic(auto, using(crate::proofs::Come::come_rest, crate::proofs::Come::come_stop, crate::proofs::Rows::rows_end), unfolding(crate::specs::Layout::check_items))]
@@ -57,12 +30,13 @@ fn all_digits(s: &[u8], at: usize, k: usize) -> Result<usize, Refusal>
 }
 
 // A section as its layout says.
+#[tactic(auto, using(crate::proofs::Come::section_parts))]
 pub fn check_section(s: &[u8], at: usize, k: usize) -> Result<usize, Refusal>
     requires { at ≤ length s.now }
     ensures { result ≡ check_section k s.now at }
 {
     let l = layout_of(k);
-    let behind_boxes = box_lists(s, at, l.boxes)?;
-    let behind_lists = airfield_lists(s, behind_boxes, l.airfields)?;
+    let behind_boxes = repeated::<Boxes>(s, at, l.boxes)?;
+    let behind_lists = repeated::<Airfields>(s, behind_boxes, l.airfields)?;
     all_digits(s, behind_lists, k)
 }

@@ -19,11 +19,11 @@ wide : (c : Start)
     length (take (a.from + a.width - a.from) (drop a.from a.d.now)) ≡ a.width
 wide c =
     let a = c.args in
-    part_length a.d.now a.from (a.from + a.width) c.requires.width_in_bounds.0 ∙ omega arith
+    part_length a.d.now a.from (a.from + a.width) c.requires.0 ∙ omega arith
 
 pub put-requires : goal.put-requires
 put-requires c =
-    record { t_value = c.requires.t_value; out_len_bound = rw (wide (goal.at.put-requires c).Start) (c.requires.width_in_bounds.1, c.requires.width_in_bounds.2) }
+    rw (wide (goal.at.put-requires c).Start) (c.requires.1, c.requires.2)
 
 pub returns : goal.returns
 returns c =
@@ -35,4 +35,4 @@ returns c =
     let l = take (a.from + a.width - a.from) (drop a.from d) in
     let wrote : p.new.out ≡ over l 0 u =
     p.ensures ∙ ap (λ (k : ℕ). field_of k a.figure) (wide (goal.at.returns c).Start) ∙ sym (over-whole l u (n ∙ sym (wide (goal.at.returns c).Start))) in
-    then_part d d p.new.out [] u a.from a.from (a.from + a.width) (over_none d a.from) (sym (add-zero a.from)) (omega arith) c.requires.width_in_bounds.0 wrote
+    then_part d d p.new.out [] u a.from a.from (a.from + a.width) (over_none d a.from) (sym (add-zero a.from)) (omega arith) c.requires.0 wrote

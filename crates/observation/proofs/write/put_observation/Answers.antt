@@ -29,15 +29,15 @@ after-air c =
 pub put_position-requires : goal.put_position-requires
 put_position-requires c =
     let w = c.requires.width_bound in
-    record { t_value = c.requires.t_value; width_bound = (w.0, w.1, w.2, rw (length-set c.args.d.now 0 c.args.o.kind) (omega (arith, c.requires.n_bound))); p_value = w.3.position }
+    record { width_bound = (w.0, w.1, w.2, rw (length-set c.args.d.now 0 c.args.o.kind) (omega (arith, c.requires.n_bound))); p_value = w.3.position }
 
 pub put_air-requires : goal.put_air-requires
 put_air-requires c =
-    record { t_value = c.requires.t_value; from_in_bounds = (omega (arith, after-position (goal.at.put_air-requires c).After-put_position), c.requires.width_bound.3.air) }
+    (omega (arith, after-position (goal.at.put_air-requires c).After-put_position), c.requires.width_bound.3.air)
 
 pub put_water-requires : goal.put_water-requires
 put_water-requires c =
-    record { t_value = c.requires.t_value; from_in_bounds = (omega (arith, after-air (goal.at.put_water-requires c).After-put_air), c.requires.width_bound.3.water) }
+    (omega (arith, after-air (goal.at.put_water-requires c).After-put_air), c.requires.width_bound.3.water)
 
 pub returns : goal.returns
 unfolding observation_text total

@@ -11,17 +11,17 @@ use Rattle.observation.proofs.write.put_position.Goals as goal
 pub put_field-requires : goal.put_field-requires
 put_field-requires c =
     let a = c.args in
-    record { t_value = c.requires.t_value; width_in_bounds = (search rules, search rules, fits-at (a.a ∷ a.b ∷ a.c ∷ []) (position_figures a.p) c.requires.p_value 0 (lit< tt) (lit< tt)) }
+    (search rules, search rules, fits-at (a.a ∷ a.b ∷ a.c ∷ []) (position_figures a.p) c.requires.p_value 0 (lit< tt) (lit< tt))
 
 pub put_field-requires-2 : goal.put_field-requires-2
 put_field-requires-2 c =
     let a = c.args in
-    record { t_value = c.requires.t_value; width_in_bounds = (search rules, search rules, fits-at (a.a ∷ a.b ∷ a.c ∷ []) (position_figures a.p) c.requires.p_value 1 (lit< tt) (lit< tt)) }
+    (search rules, search rules, fits-at (a.a ∷ a.b ∷ a.c ∷ []) (position_figures a.p) c.requires.p_value 1 (lit< tt) (lit< tt))
 
 pub put_field-requires-3 : goal.put_field-requires-3
 put_field-requires-3 c =
     let a = c.args in
-    record { t_value = c.requires.t_value; width_in_bounds = (search rules, search rules, fits-at (a.a ∷ a.b ∷ a.c ∷ []) (position_figures a.p) c.requires.p_value 2 (lit< tt) (lit< tt)) }
+    (search rules, search rules, fits-at (a.a ∷ a.b ∷ a.c ∷ []) (position_figures a.p) c.requires.p_value 2 (lit< tt) (lit< tt))
 
 pub returns : goal.returns
 unfolding total

@@ -17,12 +17,12 @@ use Rattle.observation.proofs.write.put_water.Goals as goal
 pub put_field-requires : goal.put_field-requires
 put_field-requires c =
     let a = c.args in
-    record { t_value = c.requires.t_value; width_in_bounds = (search rules, search rules, fits-at water_rows (water_figures a.water) c.requires.from_in_bounds.1 0 (lit< tt) (lit< tt)) }
+    (search rules, search rules, fits-at water_rows (water_figures a.water) c.requires.1 0 (lit< tt) (lit< tt))
 
 pub put_field-requires-2 : goal.put_field-requires-2
 put_field-requires-2 c =
     let a = c.args in
-    record { t_value = c.requires.t_value; width_in_bounds = (search rules, search rules, fits-at water_rows (water_figures a.water) c.requires.from_in_bounds.1 1 (lit< tt) (lit< tt)) }
+    (search rules, search rules, fits-at water_rows (water_figures a.water) c.requires.1 1 (lit< tt) (lit< tt))
 
 pub returns : goal.returns
 unfolding total
@@ -31,5 +31,5 @@ returns c =
     rw (c.put_field-2.ensures, c.put_field.ensures)
     (let text = figures_text water_rows (water_figures a.water) in
     let n : length text ≡ 5 = figures-length water_rows (water_figures a.water) refl in
-    ap (λ (l : List ℕ). set l (a.from + 2 + 3) a.water.quality) (written-text water_rows (water_figures a.water) a.from a.d.now (omega (arith, c.requires.from_in_bounds.0)))
-    ∙ then_byte a.d.now text a.from (a.from + 2 + 3) a.water.quality (omega arith) (omega (arith, c.requires.from_in_bounds.0)))
+    ap (λ (l : List ℕ). set l (a.from + 2 + 3) a.water.quality) (written-text water_rows (water_figures a.water) a.from a.d.now (omega (arith, c.requires.0)))
+    ∙ then_byte a.d.now text a.from (a.from + 2 + 3) a.water.quality (omega arith) (omega (arith, c.requires.0)))

@@ -7,5 +7,5 @@ use Rattle.observation.proofs.write.write_first.Goals as goal
 
 pub put_observation-requires : goal.put_observation-requires
 put_observation-requires c =
-    let ok = first-allowed 0 c.args.o c.requires.d_len.1 in
-    record { t_value = c.requires.t_value; n_bound = search rules; width_bound = (search rules, search rules, search rules, allowed-fitting first_rows c.args.o first-sound ok) }
+    let ok = first-allowed 0 c.args.o c.requires.1 in
+    record { n_bound = search rules; width_bound = (search rules, search rules, search rules, allowed-fitting first_rows c.args.o first-sound ok) }

@@ -22,7 +22,7 @@ pub overflow_add-result : goal.overflow_add-result
 overflow_add-result c =
     let f = c.args.f.now in
     let d = drop c.behind_spaces-from.result f in
-    record { fits = omega (arith, seen (goal.at.overflow_add-result c).After-digits_ahead, c.requires.in_bounds, c.behind_spaces-from.ensures.0, ahead-le is_digit d, length-drop c.behind_spaces-from.result f) }
+    record { fits = omega (arith, seen (goal.at.overflow_add-result c).After-digits_ahead, c.requires, c.behind_spaces-from.ensures.0, ahead-le is_digit d, length-drop c.behind_spaces-from.result f) }
 
 pub returns-else-from-w : goal.returns-else-from-w
 returns-else-from-w c =

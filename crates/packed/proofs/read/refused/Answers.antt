@@ -20,4 +20,4 @@ pub returns-else-place-f : goal.returns-else-place-f
 returns-else-place-f c =
     let f = c.args.f.now in
     let p : c.fault_behind-place.result ≡ fault_behind f = c.fault_behind-place.ensures in
-    c.at-else-place-f.ensures ∙ refused-more f c.requires.in_bounds.0 (rw p at c.if-place-f.false)
+    c.at-else-place-f.ensures ∙ refused-more f c.requires.0 (rw p at c.if-place-f.false)

@@ -24,6 +24,6 @@ returns c =
     let p : front.new.out ≡ replicate g 32 =
     front.ensures ∙ ap (λ (n : ℕ). replicate n 32) (length-take-le g l h) in
     let e : length front.new.out ≡ g = ap length p ∙ length-replicate g 32 in
-    let k : length l - g ≡ a.k = omega (arith, c.requires.k_in_bounds) in
+    let k : length l - g ≡ a.k = omega (arith, c.requires) in
     let q : back.new.out ≡ spell a.k a.n [] = back.ensures ∙ rw (rest-length l front.new.out g h e ∙ k) in
     two-parts l front.new.out g h e back.new.out ∙ rw (p, q)

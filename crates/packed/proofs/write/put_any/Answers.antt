@@ -29,7 +29,7 @@ few c =
     let w = length c.args.out.now in
     let m = mag c.args.x in
     let e : c.fewest_of-k.result ≡ fewest w m = c.fewest_of-k.ensures ∙ ap (fewest w) (size_is) in
-    rw e (fewest-le w m, omega (arith, fewest-le w m, c.requires.out_len_bound.0), fewest-holds w m c.requires.out_len_bound.1)
+    rw e (fewest-le w m, omega (arith, fewest-le w m, c.requires.0), fewest-holds w m c.requires.1)
 
 pub half-requires : goal.half-requires
 half-requires c = (few (goal.at.half-requires c).After-fewest_of-k).1
@@ -40,7 +40,7 @@ plus-n-requires c =
     rw (own (goal.at.plus-n-requires c).Start, c.half.ensures) (record { x_bound = f.2; h_bound = half_small _ f.1 })
 
 pub place-requires : goal.place-requires
-place-requires c = record { t_value = c.requires.t_value; k_in_bounds = (few (goal.at.place-requires c).After-fewest_of-k).0 }
+place-requires c = (few (goal.at.place-requires c).After-fewest_of-k).0
 
 pub returns : goal.returns
 returns c =

@@ -23,20 +23,20 @@ sum c =
     c.plus-n.ensures ∙ ap (λ (x : ℤ). above x 32000) (own)
 
 span : (c : After-plus-n) → c.plus-n.result < 64000
-span c = omega (arith, sum c, above-lt c.args.x 32000 c.requires.out_len.1)
+span c = omega (arith, sum c, above-lt c.args.x 32000 c.requires.1)
 
 pub digit-requires : goal.digit-requires
-digit-requires c = record { t_value = c.requires.t_value; n_bound = omega (arith, c.low.ensures, span (goal.at.digit-requires c).After-plus-n) }
+digit-requires c = omega (arith, c.low.ensures, span (goal.at.digit-requires c).After-plus-n)
 
 pub last_digit-requires : goal.last_digit-requires
-last_digit-requires c = record { t_value = c.requires.t_value; n_bound = omega (arith, span (goal.at.last_digit-requires c).After-plus-n) }
+last_digit-requires c = omega (arith, span (goal.at.last_digit-requires c).After-plus-n)
 
 pub last_digit-c-requires : goal.last_digit-c-requires
-last_digit-c-requires c = record { t_value = c.requires.t_value; n_bound = omega (arith, span (goal.at.last_digit-c-requires c).After-plus-n) }
+last_digit-c-requires c = omega (arith, span (goal.at.last_digit-c-requires c).After-plus-n)
 
 pub returns : goal.returns
 returns c =
     let m : c.size-m.result ≡ mag c.args.x = c.size-m.ensures ∙ ap mag (own (goal.at.returns c).Start) in
-    set_three c.args.out.now c.either-a.result c.either-b.result c.last_digit-c.result c.requires.out_len.0
+    set_three c.args.out.now c.either-a.result c.either-b.result c.last_digit-c.result c.requires.0
     ∙ rw (c.last_digit-c.ensures, c.either-b.ensures, c.last_digit.ensures, c.either-a.ensures, c.digit.ensures, c.low.ensures, m, sum (goal.at.returns c).After-plus-n)
-    (three_spelt c.args.x c.requires.out_len.1)
+    (three_spelt c.args.x c.requires.1)

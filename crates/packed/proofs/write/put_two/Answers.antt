@@ -23,17 +23,17 @@ sum c =
     c.plus-n.ensures ∙ ap (λ (x : ℤ). above x 800) (own)
 
 span : (c : After-plus-n) → c.plus-n.result < 1600
-span c = omega (arith, sum c, above-lt c.args.x 800 c.requires.out_len.1)
+span c = omega (arith, sum c, above-lt c.args.x 800 c.requires.1)
 
 pub digit-requires : goal.digit-requires
-digit-requires c = record { t_value = c.requires.t_value; n_bound = omega (arith, c.low.ensures, span (goal.at.digit-requires c).After-plus-n) }
+digit-requires c = omega (arith, c.low.ensures, span (goal.at.digit-requires c).After-plus-n)
 
 pub last_digit-b-requires : goal.last_digit-b-requires
-last_digit-b-requires c = record { t_value = c.requires.t_value; n_bound = omega (arith, span (goal.at.last_digit-b-requires c).After-plus-n) }
+last_digit-b-requires c = omega (arith, span (goal.at.last_digit-b-requires c).After-plus-n)
 
 pub returns : goal.returns
 returns c =
     let m : c.size-one.result ≡ mag c.args.x = c.size-one.ensures ∙ ap mag (own (goal.at.returns c).Start) in
-    set-two c.args.out.now c.either-a.result c.last_digit-b.result c.requires.out_len.0
+    set-two c.args.out.now c.either-a.result c.last_digit-b.result c.requires.0
     ∙ rw (c.last_digit-b.ensures, c.either-a.ensures, c.digit.ensures, c.low.ensures, m, sum (goal.at.returns c).After-plus-n)
-    (two-spelt c.args.x c.requires.out_len.1)
+    (two-spelt c.args.x c.requires.1)

@@ -38,7 +38,7 @@ slice_bounds-put-end-2 c = sym (wide (goal.at.slice_bounds-put-end-2 c).In_ok-co
 pub put-requires : goal.put-requires
 put-requires c =
     let f = fine (goal.at.put-requires c).In_ok-code_of in
-    record { t_value = c.digit_table-t.ensures; out_len_bound = rw (wide (goal.at.put-requires c).In_ok-code_of) (f.few, f.held) }
+    rw (wide (goal.at.put-requires c).In_ok-code_of) (f.few, f.held)
 
 pub returns-in_err-code_of : goal.returns-in_err-code_of
 unfolding written

@@ -1,11 +1,11 @@
--- `lists::check::each_airfield` meets its contract: airfields whose bytes are all allowed are accepted.
+-- `lists::check::AirfieldEntry::each` meets its contract: airfields whose bytes are all allowed are accepted.
 use native.Mathlib.Omega.{arith}
 use Prim.Native.Nat.{ℕ, ◌+◌, ◌-◌, ◌*◌}
 use mathlib.Core.Path.{◌≡◌, sym, ap, ◌∙◌}
 use lib.ListN.{take, drop}
 use Rattle.text.specs.Names.{all_allowed}
 use Rattle.field.proofs.Repeat.{airfields-next}
-use Rattle.lists.proofs.check.each_airfield.Goals as goal
+use Rattle.lists.proofs.check.AirfieldEntry.each.Goals as goal
 
 pub returns-then-all_allowed : goal.returns-then-all_allowed
 returns-then-all_allowed c =

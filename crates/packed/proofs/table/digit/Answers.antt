@@ -1,7 +1,0 @@
-use Rattle.packed.specs.Packed.{digit_of, digits}
-use Rattle.text.proofs.Table.{at}
-use Rattle.packed.proofs.table.digit.Goals as goal
-
-pub returns : goal.returns
-unfolding digits
-returns c = rw c.requires.t_value (at digit_of 40 c.args.n c.requires.n_bound)
