@@ -23,16 +23,26 @@ const DIGIT: [u8; 40] = [
 ];
 
 // What every byte is worth.
-#[derive(Drop)]
+#[derive(Clone, Copy, Debug, PartialEq, Eq)]
 pub struct Worths {
-    table: [u8; 256],
-    ghost exact: { table ≡ worths },
+    pub table: [u8; 256],
+    pub ghost exact: { table ≡ worths },
 }
 
 impl Worths {
     #[tactic(auto, unfolding(crate::specs::Packed::worths, crate::specs::Packed::worth_of))]
-    pub fn new() -> Worths {
+    pub fn new() -> Worths
+        ensures { result.table ≡ worths }
+    {
         Worths { table: WORTH }
+    }
+
+    // An array of one's own that is the table.
+    pub fn of(table: [u8; 256]) -> Worths
+        requires { table ≡ worths }
+        ensures { result.table ≡ worths }
+    {
+        Worths { table }
     }
 
     // What a byte is worth as a digit: 0 to 39, or 40 where it is none.
@@ -50,16 +60,26 @@ fn index(b: u8) -> usize
 }
 
 // What every digit is written as.
-#[derive(Drop)]
+#[derive(Clone, Copy, Debug, PartialEq, Eq)]
 pub struct Digits {
-    table: [u8; 40],
-    ghost exact: { table ≡ digits },
+    pub table: [u8; 40],
+    pub ghost exact: { table ≡ digits },
 }
 
 impl Digits {
     #[tactic(auto, unfolding(crate::specs::Packed::digits, crate::specs::Packed::digit_of))]
-    pub fn new() -> Digits {
+    pub fn new() -> Digits
+        ensures { result.table ≡ digits }
+    {
         Digits { table: DIGIT }
+    }
+
+    // An array of one's own that is the table.
+    pub fn of(table: [u8; 40]) -> Digits
+        requires { table ≡ digits }
+        ensures { result.table ≡ digits }
+    {
+        Digits { table }
     }
 
     // The byte that is worth n.
