@@ -94,12 +94,15 @@ pub fn same_bytes(a: &[u8], b: &[u8]) -> bool
 }
 
 // Writes `s` over the start of `d`; where it has no room there, `d` stays as it is.
+// Byte by byte, from which `memcpy` is made: the library's copy would ask C for `memmove` as well.
 pub fn copy(d: &mut [u8], s: &[u8])
     ensures { d.new
         ≡ cond (leb (length s.now) (length d.old)) (over d.old 0 s.now) d.old }
 {
     if s.len() <= d.len() {
-        d[..s.len()].copy_from_slice(s);
+        for i in 0..s.len() {
+            d[i] = s[i];
+        }
     }
 }
 
