@@ -25,15 +25,13 @@ pub fn esk_report_check(text: &[u8]) -> Answer
 pub fn esk_report_read(text: &[u8]) -> ReportAnswer
     ensures { result ≡ report_numbers (read_report text.now) }
 {
-    match read(&Worths::new(), text) {
-        Ok(report) => ReportAnswer {
-            answer: accepted(0),
-            report: host_report(report),
-        },
-        Err(r) => ReportAnswer {
-            answer: refused(r),
-            report: host_report(no_report()),
-        },
+    let (answer, report) = match read(&Worths::new(), text) {
+        Ok(report) => (accepted(0), report),
+        Err(r) => (refused(r), no_report()),
+    };
+    ReportAnswer {
+        answer,
+        report: host_report(report),
     }
 }
 

@@ -1,11 +1,12 @@
 use mathlib.Core.Path.{sym, ◌∙◌}
 use Rattle.desk.specs.Reports.{report_numbers}
 use Rattle.desk.proofs.report_calls.esk_report_read.Goals as goal
+use Rattle.desk.proofs.report_calls.esk_report_read.Goals.{in-Ok, in-Err}
 
-pub returns-in-Ok : goal.returns-in-Ok
+pub returns : goal.returns
 unfolding report_numbers
-returns-in-Ok c = rw (sym c.read.ensures ∙ c.in-Ok.is, c.accepted.ensures, c.host_report.ensures)
-
-pub returns-in-Err : goal.returns-in-Err
-unfolding report_numbers
-returns-in-Err c = rw (sym c.read.ensures ∙ c.in-Err.is, c.refused.ensures, c.host_report-in-Err.ensures, c.no_report.ensures)
+returns c =
+    elim c.match-read.branch [
+      in-Ok w ↦ rw (sym c.read.ensures ∙ w.in-Ok.is, c.host_report.ensures, w.t-11-is, w.accepted.ensures)
+      | in-Err w ↦ rw (sym c.read.ensures ∙ w.in-Err.is, c.host_report.ensures, w.t-11-is, w.refused.ensures, w.no_report.ensures)
+    ]
