@@ -89,13 +89,13 @@ module _ (area d : List ℕ) (xs : List Slot) where
     bytes : length area ≡ longest * length xs
     bytes = holds.bytes
 
-    owns : Owns area d xs v 0 xs
+    owns : Owns area (Some d) xs v 0 xs
     unfolding start_of
-    owns = scan_own area d xs (start_of (length xs) (length area)) 0 xs (rw zero-add bytes) valid refl
+    owns = scan_own area (Some d) xs (start_of (length xs) (length area)) 0 xs (rw zero-add bytes) valid refl
 
     free-is : v.free ≡ first_from 0 is_free b
     unfolding start_of
-    free-is = scan_free area d xs (start_of (length xs) (length area)) 0 xs (rw zero-add bytes) valid refl
+    free-is = scan_free area (Some d) xs (start_of (length xs) (length area)) 0 xs (rw zero-add bytes) valid refl
 
     -- whether there is one
     first-some : (test : WaitingSlot → Bool) → is_some (first_from 0 test b) ≡ any test b

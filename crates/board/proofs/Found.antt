@@ -10,13 +10,13 @@ use lib.ListN.{length, get_or, take, drop, drop_of_length-le}
 use lib.Seq.{take_all, take-length, length-take-le, drop-cons, drop-length}
 use borrow.Author.Tests.{lt-leb, lt-ltb, le-ltb, not-false}
 use Rattle.std.proofs.lemmas.List.{get_or_default}
-use Rattle.std.specs.Prelude.{Option, is_some}
+use Rattle.std.specs.Prelude.{Option}
 use Rattle.text.specs.Equal.{same_bytes}
 use Rattle.text.proofs.Cases.{by_le, by_lt, by_test}
 use Rattle.text.proofs.Parts.{part_bytes}
 use Rattle.command.specs.Text.{longest}
 use Rattle.board.specs.Lent.{no_slot}
-use Rattle.board.specs.Inner.{Wanted, is_used, used_for, none_for, alone_in, is_looked_at, until_at, first_of, step_of, scan_from, scanned}
+use Rattle.board.specs.Inner.{Wanted, is_used, used_for, none_for, alone_in, is_before, is_looked_at, until_at, first_of, step_of, scan_from, scanned}
 use Rattle.board.proofs.Scanned.{step_bad, step-free}
 use Rattle.board.specs.declared.Slot.{Slot}
 use Rattle.board.specs.declared.Findings.{Findings}
@@ -99,7 +99,7 @@ neither_right true t e = let z : ◌≡◌ {A = ℕ} 0 1 = cc in absurd (omega a
 neither_right false t e = e
 
 -- a free slot behind a free one changes nothing
-tells_nothing : (area : List ℕ) (w : Wanted) (a : Findings) (x : Slot) (c : Bool) (i : ℕ) → is_used x ≡ false → is_some a.free ≡ true → step_of area w a x c i ≡ a
+tells_nothing : (area : List ℕ) (w : Wanted) (a : Findings) (x : Slot) (c : Bool) (i : ℕ) → is_used x ≡ false → is_before a.free i ≡ true → step_of area w a x c i ≡ a
 tells_nothing area w a x c i u l =
     by_test a.valid
     (λ (t : a.valid ≡ true).
@@ -120,7 +120,7 @@ module _ (area : List ℕ) (w : Wanted) (ys : List Slot) (i : ℕ) (a : Findings
   look-next r c l h e f = h ∙ rw (f, e, add-one, drop-cons ys i no_slot l)
 
   -- one that tells nothing
-  pub look-past : i < length ys → scanned area w ys ≡ scan_from area w ys a i (drop i ys) → is_looked_at a (get_or ys i no_slot) ≡ false
+  pub look-past : i < length ys → scanned area w ys ≡ scan_from area w ys a i (drop i ys) → is_looked_at a (get_or ys i no_slot) i ≡ false
       → scanned area w ys ≡ scan_from area w ys a (i + 1) (drop (i + 1) ys)
   unfolding scan_from
   look-past l h t =
@@ -128,7 +128,7 @@ module _ (area : List ℕ) (w : Wanted) (ys : List Slot) (i : ℕ) (a : Findings
       h
       ∙ rw (add-one, drop-cons ys i no_slot l)
       (ap (λ (z : Findings). scan_from area w ys z (suc i) (drop (suc i) ys))
-      (tells_nothing area w a x (alone_in a x (take i ys)) i (neither_left (is_used x) (not (is_some a.free)) t) (not-false (is_some a.free) (neither_right (is_used x) (not (is_some a.free)) t))))
+      (tells_nothing area w a x (alone_in a x (take i ys)) i (neither_left (is_used x) (not (is_before a.free i)) t) (not-false (is_before a.free i) (neither_right (is_used x) (not (is_before a.free i)) t))))
 
   -- and none left
   pub look_end : i ≡ length ys → scanned area w ys ≡ scan_from area w ys a i (drop i ys) → a ≡ scanned area w ys

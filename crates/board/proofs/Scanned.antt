@@ -7,8 +7,8 @@ use native.Mathlib.Omega.{arith}
 use lib.Dec.{leb, ltb, eqb}
 use lib.ListN.{length, get_or, take, drop, length-drop, drop_of_length-le}
 use lib.Seq.{take-take, take-suc, drop-cons, drop-drop, length-take-le}
-use borrow.Author.Tests.{ne_eqb, le-leb, lt-leb, lt-ltb, eqb-true, not-true, not-false}
-use Rattle.std.specs.Prelude.{Option, Some, None, is_some}
+use borrow.Author.Tests.{ne_eqb, le-leb, lt-leb, lt-ltb, ltb-true, eqb-true, not-true, not-false}
+use Rattle.std.specs.Prelude.{Option, Some, None}
 use Rattle.text.specs.Names.{is_designator}
 use Rattle.text.specs.Checks.{is_fine}
 use Rattle.text.specs.Parts.{part}
@@ -18,7 +18,7 @@ use Rattle.text.proofs.Cases.{by_test, by_lt, by_le}
 use Rattle.command.specs.Text.{longest, check_command}
 use Rattle.board.specs.Board.{WaitingSlot, is_none, is_free, is_for, any, lowest, is_sound, is_valid}
 use Rattle.board.specs.Lent.{board_of, lengths_fit, no_slot}
-use Rattle.board.specs.Inner.{Wanted, names, is_used, used_for, none_for, alone_in, sound_at, first_of, with_free, with_used, step_of, scan_from}
+use Rattle.board.specs.Inner.{Wanted, asked as designator_of, names, is_before, is_used, used_for, none_for, alone_in, sound_at, first_of, with_free, with_used, step_of, scan_from}
 use Rattle.board.specs.declared.Slot.{Slot}
 use Rattle.board.specs.declared.Findings.{Findings}
 use Rattle.board.proofs.WaitingSlots.{never, waiting-any}
@@ -87,9 +87,9 @@ none_any d area i (x ∷ xs) e =
 
 with_valid : (a : Findings) (x : Slot) (fine : Bool) (i : ℕ) (w : Wanted) → (with_used a x fine i w).valid ≡ fine
 with_valid a x fine i w =
-    by_test (not (is_some a.own) && names w x.designator)
-    (λ (t : (not (is_some a.own) && names w x.designator) ≡ true). rw t)
-    (λ (t : (not (is_some a.own) && names w x.designator) ≡ false). rw t)
+    by_test (not (is_before a.own i) && names w x.designator)
+    (λ (t : (not (is_before a.own i) && names w x.designator) ≡ true). rw t)
+    (λ (t : (not (is_before a.own i) && names w x.designator) ≡ false). rw t)
 
 and-false : (t : Bool) → (t && false) ≡ false
 and-false true = refl
@@ -337,15 +337,15 @@ as_other a fine = record { valid = fine; length = a.length; own = a.own; free = 
 
 module _ (a : Findings) (x : Slot) (fine : Bool) (i : ℕ) (w : Wanted) where
   abbrev mine : Bool
-  mine = not (is_some a.own) && names w x.designator
+  mine = not (is_before a.own i) && names w x.designator
 
-  used-found : is_some a.own ≡ true → with_used a x fine i w ≡ as_other a fine
+  used-found : is_before a.own i ≡ true → with_used a x fine i w ≡ as_other a fine
   used-found t = cond-false mine (as_mine a x fine i) (as_other a fine) (rw t)
 
   used-other : names w x.designator ≡ false → with_used a x fine i w ≡ as_other a fine
-  used-other s = cond-false mine (as_mine a x fine i) (as_other a fine) (rw s (and-false (not (is_some a.own))))
+  used-other s = cond-false mine (as_mine a x fine i) (as_other a fine) (rw s (and-false (not (is_before a.own i))))
 
-  used-mine : is_some a.own ≡ false → names w x.designator ≡ true → with_used a x fine i w ≡ as_mine a x fine i
+  used-mine : is_before a.own i ≡ false → names w x.designator ≡ true → with_used a x fine i w ≡ as_mine a x fine i
   used-mine t s = cond-true mine (as_mine a x fine i) (as_other a fine) (rw (t, s))
 
   -- whatever it leaves alike
@@ -355,13 +355,18 @@ module _ (a : Findings) (x : Slot) (fine : Bool) (i : ℕ) (w : Wanted) where
       (λ (t : mine ≡ true). ap f (cond-true mine (as_mine a x fine i) (as_other a fine) t) ∙ e)
       (λ (t : mine ≡ false). ap f (cond-false mine (as_mine a x fine i) (as_other a fine) t))
 
+-- a slot found before slot i lies before the next one too
+stays_before : (found : Option ℕ) (i : ℕ) → is_before found i ≡ true → is_before found (suc i) ≡ true
+stays_before (Some j) i h = let l : j < i = ltb-true j i h in lt-ltb j (suc i) (omega arith)
+stays_before None i h = never h refl
+
 -- from place i on, the first that passes a test, if one does
 abbrev pub first_from : ℕ → (WaitingSlot → Bool) → List WaitingSlot → Option ℕ
 first_from i test b = cond (any test b) (Some (i + lowest test b)) None
 
-module _ (area d : List ℕ) (ys : List Slot) where
-  abbrev w : Wanted
-  w = Some d
+module _ (area : List ℕ) (w : Wanted) (ys : List Slot) where
+  abbrev d : List ℕ
+  d = designator_of w
 
   -- one slot, in its three ways
   by_step {ℓ} : (a : Findings) (x : Slot) (c : Bool) (i : ℕ) (P : Findings → Type ℓ)
@@ -375,7 +380,7 @@ module _ (area d : List ℕ) (ys : List Slot) where
       (λ (t : a.valid ≡ false). subst P (sym (step_bad area w a x c i t)) bad)
 
   -- a slot found stays the one
-  own-found : (a : Findings) (i : ℕ) (xs : List Slot) → is_some a.own ≡ true
+  own-found : (a : Findings) (i : ℕ) (xs : List Slot) → is_before a.own i ≡ true
       → ((scan_from area w ys a i xs).own ≡ a.own) × ((scan_from area w ys a i xs).length ≡ a.length)
   unfolding scan_from
   own-found a i [] l = (refl, refl)
@@ -383,22 +388,23 @@ module _ (area d : List ℕ) (ys : List Slot) where
       let c = alone_in a x (take i ys) in
       let f = c && sound_at x area i in
       by_step a x c i (λ z. ((scan_from area w ys z (suc i) xs).own ≡ a.own) × ((scan_from area w ys z (suc i) xs).length ≡ a.length))
-      (own-found a (suc i) xs l)
-      (own-found (with_free a i) (suc i) xs l)
+      (own-found a (suc i) xs (stays_before a.own i l))
+      (own-found (with_free a i) (suc i) xs (stays_before a.own i l))
       (subst (λ z. ((scan_from area w ys z (suc i) xs).own ≡ a.own) × ((scan_from area w ys z (suc i) xs).length ≡ a.length))
-      (sym (used-found a x f i w l)) (own-found (as_other a f) (suc i) xs l))
+      (sym (used-found a x f i w l)) (own-found (as_other a f) (suc i) xs (stays_before a.own i l)))
 
-  free-found : (a : Findings) (i : ℕ) (xs : List Slot) → is_some a.free ≡ true → (scan_from area w ys a i xs).free ≡ a.free
+  free-found : (a : Findings) (i : ℕ) (xs : List Slot) → is_before a.free i ≡ true → (scan_from area w ys a i xs).free ≡ a.free
   unfolding scan_from
   free-found a i [] l = refl
   free-found a i (x ∷ xs) l =
       let c = alone_in a x (take i ys) in
       let f = c && sound_at x area i in
-      let z : first_of a.free i ≡ a.free = cond-true (is_some a.free) a.free (Some i) l in
+      let n = stays_before a.free i l in
+      let z : first_of a.free i ≡ a.free = cond-true (is_before a.free i) a.free (Some i) l in
       by_step a x c i (λ y. (scan_from area w ys y (suc i) xs).free ≡ a.free)
-      (free-found a (suc i) xs l)
-      (free-found (with_free a i) (suc i) xs (rw z l) ∙ z)
-      (free-found (with_used a x f i w) (suc i) xs (ap is_some (used_keeps a x f i w (λ y. y.free) refl) ∙ l)
+      (free-found a (suc i) xs n)
+      (free-found (with_free a i) (suc i) xs (rw z n) ∙ z)
+      (free-found (with_used a x f i w) (suc i) xs (ap (λ (k : Option ℕ). is_before k (suc i)) (used_keeps a x f i w (λ y. y.free) refl) ∙ n)
       ∙ used_keeps a x f i w (λ y. y.free) refl)
 
   -- what ends valid was so
@@ -504,14 +510,14 @@ module _ (area d : List ℕ) (ys : List Slot) where
       let f = c && sound_at x area i in
       let t = valid-back a i (x ∷ xs) v in
       let e' = next-bytes area i (length xs) e in
-      let past : is_some a.own ≡ false = ap is_some o in
+      let past : is_before a.own i ≡ false = ap (λ (k : Option ℕ). is_before k i) o in
       by_test (is_used x)
       (λ (u : is_used x ≡ true).
       let s₀ = step-used area w a x c i t u in
       by_test (same_bytes d x.designator)
       (λ (s : same_bytes d x.designator ≡ true).
       let z : step_of area w a x c i ≡ as_mine a x f i = s₀ ∙ used-mine a x f i w past s in
-      let k = own-found (as_mine a x f i) (suc i) xs refl in
+      let k = own-found (as_mine a x f i) (suc i) xs (lt-ltb i (suc i) (omega arith)) in
       subst (λ (y : Findings). Owns (scan_from area w ys y (suc i) xs) i (x ∷ xs)) (sym z)
       (own-here (scan_from area w ys (as_mine a x f i) (suc i) xs) i x xs e (mine_for i x xs e u s) k.0 k.1))
       (λ (s : same_bytes d x.designator ≡ false).
@@ -545,6 +551,6 @@ module _ (area d : List ℕ) (ys : List Slot) where
       ap (λ (q : Findings). (scan_from area w ys q (suc i) xs).free) z ∙ r ∙ sym (first-later i x xs e is_free (used-place i x xs e u)))
       (λ (u : is_used x ≡ false).
       let z : step_of area w a x c i ≡ with_free a i = step-free area w a x c i t u in
-      let k : first_of a.free i ≡ Some i = cond-false (is_some a.free) a.free (Some i) (ap is_some o) in
-      let r = free-found (with_free a i) (suc i) xs (ap is_some k) in
+      let k : first_of a.free i ≡ Some i = cond-false (is_before a.free i) a.free (Some i) (ap (λ (j : Option ℕ). is_before j i) o) in
+      let r = free-found (with_free a i) (suc i) xs (ap (λ (j : Option ℕ). is_before j (suc i)) k ∙ lt-ltb i (suc i) (omega arith)) in
       ap (λ (q : Findings). (scan_from area w ys q (suc i) xs).free) z ∙ r ∙ k ∙ sym (first-here i x xs e is_free (free-place i x xs e u)))

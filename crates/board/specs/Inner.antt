@@ -1,5 +1,5 @@
 -- What one look over the lent slots finds. No promise to a caller rests on these names.
-use Rattle.std.specs.Prelude.{Bool, true, false, cond, not, ◌&&◌, ◌||◌, List, [], ◌∷◌, ℕ, suc, ◌+◌, ◌*◌, leb, ltb, eqb, length, set, take, Option, Some, None, is_some, unwrap_or, Result, Ok, Err}
+use Rattle.std.specs.Prelude.{Bool, true, false, cond, not, ◌&&◌, ◌||◌, List, [], ◌∷◌, ℕ, suc, ◌+◌, ◌*◌, leb, ltb, eqb, length, set, take, replicate, Option, Some, None, is_some, unwrap_or, Result, Ok, Err}
 use Rattle.text.specs.Names.{is_designator}
 use Rattle.text.specs.Checks.{is_fine, refuse}
 use Rattle.text.specs.Parts.{part}
@@ -20,14 +20,13 @@ Wanted = Option (List ℕ)
 unfoldable pub wanted_by : List ℕ → Wanted
 wanted_by d = cond (is_designator d) (Some d) None
 
--- its designator; where there is none, no byte
+-- its designator; where there is none, six zero bytes
 abbrev pub asked : Wanted → List ℕ
-asked w = unwrap_or w []
+asked w = unwrap_or w (replicate 6 0)
 
 -- whether a slot's designator is that of the aircraft
 abbrev pub names : Wanted → List ℕ → Bool
-names (Some d) e = same_bytes d e
-names None e = false
+names w e = same_bytes (asked w) e
 
 abbrev pub is_used : Slot → Bool
 is_used x = not (eqb x.length 0)
@@ -45,9 +44,14 @@ none_for d (x ∷ xs) = not (used_for d x) && none_for d xs
 unfoldable pub alone_in : Findings → Slot → List Slot → Bool
 alone_in a x before = cond (a.valid && is_used x) (none_for x.designator before) true
 
+-- whether a slot was found before slot i
+abbrev pub is_before : Option ℕ → ℕ → Bool
+is_before (Some j) i = ltb j i
+is_before None i = false
+
 -- whether a slot has to be looked at: a free one behind a free one tells nothing new
-abbrev pub is_looked_at : Findings → Slot → Bool
-is_looked_at a x = is_used x || not (is_some a.free)
+abbrev pub is_looked_at : Findings → Slot → ℕ → Bool
+is_looked_at a x i = is_used x || not (is_before a.free i)
 
 -- before which slot that is looked at
 unfoldable pub until_at : Findings → Slot → ℕ → ℕ → ℕ
@@ -64,7 +68,7 @@ sound_at x area i =
 
 -- the lower of a slot found before and slot i
 abbrev pub first_of : Option ℕ → ℕ → Option ℕ
-first_of found i = cond (is_some found) found (Some i)
+first_of found i = cond (is_before found i) found (Some i)
 
 unfoldable pub start_of : ℕ → ℕ → Findings
 start_of n bytes =
@@ -76,7 +80,7 @@ with_free a i = record { valid = true; length = a.length; own = a.own; free = fi
 
 abbrev pub with_used : Findings → Slot → Bool → ℕ → Wanted → Findings
 with_used a x fine i w =
-    cond (not (is_some a.own) && names w x.designator)
+    cond (not (is_before a.own i) && names w x.designator)
     (record { valid = fine; length = x.length; own = Some i; free = a.free })
     (record { valid = fine; length = a.length; own = a.own; free = a.free })
 

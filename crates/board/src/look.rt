@@ -1,7 +1,7 @@
 // One slot more in a look over the slots.
 ghost use Rattle.std.specs.Prelude.{◌≡◌, not, ◌&&◌, None, length};
 ghost use Rattle.text.specs.Equal.{same_bytes};
-ghost use Rattle.board.specs.Inner.{wanted_by, names, used_for, sound_at, is_looked_at, until_at, start_of, with_used, step_of};
+ghost use Rattle.board.specs.Inner.{wanted_by, names, used_for, sound_at, is_before, is_looked_at, until_at, start_of, first_of, with_used, step_of};
 
 use crate::{Findings, MOST_SLOTS, Slot, Wanted};
 use command::LONGEST;
@@ -45,10 +45,7 @@ fn same_aircraft(a: [u8; 6], b: [u8; 6]) -> bool
 fn names(w: Wanted, designator: [u8; 6]) -> bool
     ensures { result ≡ names w designator }
 {
-    match w {
-        Some(asked) => same_aircraft(asked, designator),
-        None => false,
-    }
+    same_aircraft(w.unwrap_or([0; 6]), designator)
 }
 
 // Whether all are apart that were looked at, and one slot more.
@@ -60,11 +57,21 @@ pub fn apart(clear: bool, x: Slot, s: Slot) -> bool
     clear & !(used & same_aircraft(s.designator, x.designator))
 }
 
-// Whether a slot has to be looked at: a free one behind a free one tells nothing new.
-pub fn is_looked_at(a: Findings, s: Slot) -> bool
-    ensures { result ≡ is_looked_at a s }
+// Whether a slot was found before slot i.
+fn is_before(found: Option<usize>, i: usize) -> bool
+    ensures { result ≡ is_before found i }
 {
-    s.length != 0 || a.free.is_none()
+    match found {
+        Some(j) => j < i,
+        None => false,
+    }
+}
+
+// Whether a slot has to be looked at: a free one behind a free one tells nothing new.
+pub fn is_looked_at(a: Findings, s: Slot, i: usize) -> bool
+    ensures { result ≡ is_looked_at a s i }
+{
+    s.length != 0 || !is_before(a.free, i)
 }
 
 // Before which slot the others are looked at: before the first where there is nothing to find.
@@ -111,11 +118,18 @@ pub fn start(n: usize, area: &[u8]) -> Findings
     }
 }
 
+// The lower of a slot found before and slot i.
+fn first_of(found: Option<usize>, i: usize) -> Option<usize>
+    ensures { result ≡ first_of found i }
+{
+    if is_before(found, i) { found } else { Some(i) }
+}
+
 // A used slot: its own soundness, and whether it is the aircraft's.
 fn with_used(a: Findings, s: Slot, fine: bool, i: usize, w: Wanted) -> Findings
     ensures { result ≡ with_used a s fine i w }
 {
-    if a.own.is_none() && names(w, s.designator) {
+    if !is_before(a.own, i) && names(w, s.designator) {
         Findings {
             valid: fine,
             length: s.length,
@@ -137,7 +151,7 @@ pub fn step(a: Findings, s: Slot, clear: bool, area: &[u8], i: usize, w: Wanted)
     }
     if s.length == 0 {
         return Findings {
-            free: a.free.or(Some(i)),
+            free: first_of(a.free, i),
             ..a
         };
     }

@@ -24,7 +24,7 @@ pub fn look_over(slots: &[Slot], area: &[u8], w: Wanted) -> Findings
 {
     let mut a = start(slots.len(), area);
     for (i, &s) in slots.iter().enumerate() {
-        if is_looked_at(a, s) {
+        if is_looked_at(a, s, i) {
             let clear = alone(slots, a, s, i);
             a = step(a, s, clear, area, i, w);
         }
