@@ -7,6 +7,6 @@ pub returns : goal.returns
 unfolding report_numbers
 returns c =
     elim c.match-read.branch [
-      in-Ok w ↦ rw (sym c.read.ensures ∙ w.in-Ok.is, c.host_report.ensures, w.t-11-is, w.accepted.ensures)
+      | in-Ok w ↦ rw (sym c.read.ensures ∙ w.in-Ok.is, c.host_report.ensures, w.t-11-is, w.accepted.ensures)
       | in-Err w ↦ rw (sym c.read.ensures ∙ w.in-Err.is, c.host_report.ensures, w.t-11-is, w.refused.ensures, w.no_report.ensures)
     ]
